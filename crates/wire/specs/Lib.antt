@@ -1,0 +1,9 @@
+pub mod Numbers
+pub mod Steps
+pub mod Texts
+pub mod Utf8
+pub mod Abnf
+pub mod Mpint
+pub mod Read
+pub mod Write
+pub mod Promises

@@ -1,0 +1,18 @@
+// The wire: what the other crates read and write a message with.
+pub mod msg;
+pub mod read;
+pub mod utf8;
+pub mod write;
+
+// A lifetime, as the messages count it.
+pub struct Seconds {
+    pub count: u32,
+}
+
+// What a key may be added under.
+pub enum Constraint {
+    KeyLifetime {
+        seconds: Seconds,
+    },
+    Confirm,
+}

@@ -1,0 +1,48 @@
+// Writing into a lent buffer at a place; all other bytes stay. Each function answers the place behind what it wrote. None refuses, since
+// a refusal halfway would leave a frame half written: whoever writes a frame tests its room, once, before its first byte.
+ghost use mathlib.Core.Path.{_≡_};
+ghost use mathlib.Core.List.{[], _∷_};
+ghost use Prim.Native.Nat.{_+_, _≤_, _<_, _^_};
+ghost use lib.ListN.{length};
+ghost use Rattle.wire.specs.Numbers.{be32};
+ghost use Rattle.wire.specs.Write.{string, write};
+
+pub fn put_byte(out: &mut [u8], at: usize, b: u8) -> usize
+    requires { ⌜ at < length (now out) ⌝ }
+    ensures { λ r. ⌜ (r ≡ at + 1) × (now (out .exit) ≡ write (now (out .entry)) at (b ∷ [])) ⌝ }
+{
+    out[at] = b;
+    at + 1
+}
+
+pub fn put_number(out: &mut [u8], at: usize, n: u32) -> usize
+    requires { ⌜ at + 4 ≤ length (now out) ⌝ }
+    ensures { λ r. ⌜ (r ≡ at + 4) × (now (out .exit) ≡ write (now (out .entry)) at (be32 n)) ⌝ }
+{
+    out[at] = (n / 16777216 % 256) as u8;
+    out[at + 1] = (n / 65536 % 256) as u8;
+    out[at + 2] = (n / 256 % 256) as u8;
+    out[at + 3] = (n % 256) as u8;
+    at + 4
+}
+
+pub fn put_bytes(out: &mut [u8], at: usize, v: &[u8]) -> usize
+    requires { ⌜ at + length (now v) ≤ length (now out) ⌝ }
+    ensures { λ r. ⌜ (r ≡ at + length (now (v .entry))) × (now (out .exit) ≡ write (now (out .entry)) at (now (v .entry))) ⌝ }
+{
+    let mut i = 0;
+    while i < v.len() {
+        out[at + i] = v[i];
+        i += 1;
+    }
+    at + i
+}
+
+pub fn put_string(out: &mut [u8], at: usize, v: &[u8]) -> usize
+    requires { ⌜ (at + 4 + length (now v) ≤ length (now out)) × (length (now v) < 2 ^ 32) ⌝ }
+    ensures { λ r. ⌜ (r ≡ at + 4 + length (now (v .entry))) × (now (out .exit) ≡ write (now (out .entry)) at (string (now (v .entry)))) ⌝ }
+{
+    let n = v.len() as u32;
+    let from = put_number(out, at, n);
+    put_bytes(out, from, v)
+}
