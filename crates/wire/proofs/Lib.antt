@@ -1,0 +1,4 @@
+pub mod Reading
+pub mod Steps
+pub mod Format
+pub mod Writing
