@@ -1,4 +1,9 @@
 pub mod Reading
 pub mod Steps
 pub mod Format
+pub mod Bytewise
+pub mod Abnf
+pub mod Longest
+pub mod Mpint
 pub mod Writing
+pub mod Laws

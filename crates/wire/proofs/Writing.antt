@@ -1,12 +1,13 @@
 -- Laws of writing a range: byte by byte, one range behind another, and what stays.
-use Prim.Native.Nat.{ℕ, suc, _+_, _≤_, _<_}
+use Prim.Native.Nat.{ℕ, suc, _+_, _-_, _≤_, _<_}
 use mathlib.Core.Path.{_≡_, refl, sym, ap, _∙_}
+use mathlib.Core.Logic.{_⊎_, ⊎-elim}
 use mathlib.Core.List.{List, [], _∷_, _++_, append-assoc}
 use native.Mathlib.Nat.{add-zero, add-suc, suc-add}
 use native.Mathlib.Numerals.{add-one}
 use native.Mathlib.Omega.{arith}
-use lib.ListN.{length, getD, take, drop, set, length-append}
-use lib.Seq.{sets, sets-eq, length-sets, paste, paste-suc, paste-zero, take-length}
+use lib.ListN.{length, getD, take, drop, set, length-append, length-take, List·getD-append}
+use lib.Seq.{sets, sets-eq, length-sets, paste, paste-suc, paste-zero, take-length, getD-append-add, getD-take, getD-drop}
 use Rattle.wire.specs.Write.{write}
 
 module _ (l : List ℕ) (at : ℕ) (v : List ℕ) (h : at + length v ≤ length l) where
@@ -71,3 +72,31 @@ pub store-behind : (l : List ℕ) (at : ℕ) (v m : List ℕ) (n a : ℕ) → m 
 store-behind l at v m n a e q h =
     let k : length (write l at v) ≡ length l = length-write l at v (omega arith) in
     rw e (write-set (write l at v) n a (omega arith) ∙ write-write l at v n (a ∷ []) q (omega arith))
+
+-- each byte, inside the range and outside
+module _ (l : List ℕ) (at : ℕ) (v : List ℕ) (h : at + length v ≤ length l) where
+  front : length (take at l) ≡ at
+  front = simp length-take (omega arith)
+
+  pub write-in : (i : ℕ) → i < length v → getD (write l at v) (at + i) 0 ≡ getD v i 0
+  unfolding write
+  write-in i k =
+      let n : at + i < length (take at l ++ v) = simp length-append (omega (arith, front)) in
+      List·getD-append (take at l ++ v) (drop (at + length v) l) 0 (at + i) n
+      ∙ ap (λ (j : ℕ). getD (take at l ++ v) (j + i) 0) (sym front)
+      ∙ getD-append-add (take at l) v i 0
+
+  pub write-out : (i : ℕ) → (i < at) ⊎ (at + length v ≤ i) → getD (write l at v) i 0 ≡ getD l i 0
+  unfolding write
+  write-out i =
+      ⊎-elim
+      (λ (k : i < at).
+        let n : i < length (take at l ++ v) = simp length-append (omega (arith, front)) in
+        List·getD-append (take at l ++ v) (drop (at + length v) l) 0 i n ∙ List·getD-append (take at l) v 0 i (omega (arith, front)) ∙ getD-take at l i 0 k)
+      (λ (k : at + length v ≤ i).
+        let n : length (take at l ++ v) ≡ at + length v = simp length-append (omega (arith, front)) in
+        let e : length (take at l ++ v) + (i - (at + length v)) ≡ i = omega arith in
+        ap (λ (j : ℕ). getD (take at l ++ v ++ drop (at + length v) l) j 0) (sym e)
+        ∙ getD-append-add (take at l ++ v) (drop (at + length v) l) (i - (at + length v)) 0
+        ∙ getD-drop (at + length v) l (i - (at + length v)) 0
+        ∙ ap (λ (j : ℕ). getD l j 0) (sym (ap (λ (j : ℕ). j + (i - (at + length v))) n) ∙ e))

@@ -1,0 +1,6 @@
+pub mod Fields
+pub mod Kinds
+pub mod Constraints
+pub mod Additions
+pub mod Forms
+pub mod Promises

@@ -1,0 +1,68 @@
+// An add request behind its first byte: key fields, comment, and constraints where it has them.
+use crate::constraints::Lifetime;
+use crate::constraints::Walk;
+use crate::constraints::constraints;
+use crate::kinds::Key;
+use crate::kinds::Places;
+use crate::kinds::key;
+use wire::read::Cursor;
+use wire::read::Part;
+ghost use mathlib.Core.Path.{_≡_};
+ghost use Rattle.keys.specs.Additions.{limitsOf, commentedAt, additionAt};
+
+pub enum Addition {
+    Whole {
+        places: Places,
+        lifetime: Lifetime,
+        confirm: bool,
+    },
+    Fault(usize),
+}
+
+// What the constraints say, or their fault.
+fn limited(places: Places, walk: Walk) -> Addition
+    ensures { λ r. ⌜ r ≡ limitsOf places walk ⌝ }
+{
+    match walk {
+        Walk::Done { lifetime, confirm } => Addition::Whole {
+            places,
+            lifetime,
+            confirm,
+        },
+        Walk::Duplicate(place) => Addition::Fault(place),
+        Walk::Unknown(place) => Addition::Fault(place),
+        Walk::Cut(place) => Addition::Fault(place),
+    }
+}
+
+// Behind the key fields: the comment, which must be UTF-8, and the constraints.
+fn commented(s: &[u8], places: Places, constrained: bool) -> Addition
+    ensures { λ r. ⌜ r ≡ commentedAt (now (s .entry)) places constrained ⌝ }
+{
+    let comment = Cursor { at: places.end };
+    let text = comment.text(s);
+    match text {
+        Part::Whole { from: _, to: _, next } => {
+            if constrained {
+                limited(places, constraints(s, next.at))
+            } else {
+                Addition::Whole {
+                    places,
+                    lifetime: Lifetime::Forever,
+                    confirm: false,
+                }
+            }
+        }
+        Part::Fault(place) => Addition::Fault(place),
+    }
+}
+
+pub fn addition(s: &[u8], at: usize, constrained: bool) -> Addition
+    ensures { λ r. ⌜ r ≡ additionAt (now (s .entry)) at constrained ⌝ }
+{
+    let fields = key(s, at);
+    match fields {
+        Key::Whole(places) => commented(s, places, constrained),
+        Key::Fault(place) => Addition::Fault(place),
+    }
+}

@@ -1,0 +1,89 @@
+-- utf8End is the longest part from the start that is UTF-8, and the loop that keeps it goes on by one byte: both by the definition, byte by byte.
+use Prim.Native.Nat.{ℕ, zero, suc, _+_, _≤_, _<_}
+use mathlib.Core.Path.{_≡_, refl, _∙_}
+use mathlib.Core.List.{List, [], _∷_, _++_}
+use mathlib.Core.Bool.{Bool, true, false, cond}
+use mathlib.Core.Logic.{_↔_, ⊎-elim}
+use native.Mathlib.Nat.{eq-or-lt-of-le}
+use native.Mathlib.Numerals.{add-one}
+use native.Mathlib.Omega.{arith}
+use lib.ListN.{length, getD, take}
+use lib.Seq.{take-suc, take-length}
+use Rattle.wire.specs.declared.utf8.Utf.{Utf}
+use Rattle.wire.specs.Utf8.{stepOf, walkOf, ended, start, utf8, longest, utf8End}
+use Rattle.wire.specs.Promises.{Utf8End}
+use Rattle.wire.proofs.Abnf.{utf8-rule}
+
+walk-snoc : (u : Utf) (s : List ℕ) (b : ℕ) → walkOf u (s ++ (b ∷ [])) ≡ stepOf (walkOf u s) b
+unfolding walkOf
+walk-snoc u [] b = refl
+walk-snoc u (a ∷ s) b = walk-snoc (stepOf u a) s b
+
+-- the state and the end after i bytes
+pub record Passed (s : List ℕ) (u : Utf) (end i : ℕ) : Type 0 where
+  pub within : i ≤ length s
+  pub state : u ≡ walkOf start (take i s)
+  pub found : end ≡ longest i s
+
+pub passed-none : (s : List ℕ) (u : Utf) → u ≡ start → Passed s u 0 0
+unfolding walkOf longest
+passed-none s u e = record { within = omega arith; state = e; found = refl }
+
+pub passed-one :
+    (s : List ℕ) (u : Utf) (end i : ℕ) (v : Utf) (r : ℕ) → Passed s u end i → i < length s
+    → v ≡ stepOf u (getD s i 0) → r ≡ cond (ended v) (i + 1) end → Passed s v r (i + 1)
+unfolding longest utf8
+passed-one s u end i v r p h e f =
+    let w : v ≡ walkOf start (take (suc i) s) = e ∙ rw (take-suc s i 0, walk-snoc, p .state) in
+    let z : r ≡ longest (suc i) s = f ∙ rw (w, p .found, add-one) in
+    record { within = omega arith; state = rw add-one w; found = rw add-one z }
+
+pub passed-all : (s : List ℕ) (u : Utf) (end i : ℕ) → Passed s u end i → length s ≤ i → end ≡ utf8End s
+unfolding utf8End
+passed-all s u end i p h =
+    let e : i ≡ length s = omega arith in
+    rw (← e) (p .found)
+
+-- r is the greatest number up to n of bytes from the start that are UTF-8
+record Greatest (s : List ℕ) (n r : ℕ) : Type 0 where
+  pub within : r ≤ n
+  pub valid : utf8 (take r s) ≡ true
+  pub most : (m : ℕ) → m ≤ n → utf8 (take m s) ≡ true → m ≤ r
+
+longest-greatest : (n : ℕ) (s : List ℕ) → Greatest s n (longest n s)
+unfolding longest utf8 walkOf ended
+longest-greatest zero s = record { within = omega arith; valid = refl; most = λ m h e. h }
+longest-greatest (suc n) s = go (utf8 (take (suc n) s)) refl (longest-greatest n s)
+  where
+    go : (q : Bool) → utf8 (take (suc n) s) ≡ q → Greatest s n (longest n s) → Greatest s (suc n) (cond q (suc n) (longest n s))
+    go true e g = record { within = omega arith; valid = e; most = λ m h f. h }
+    go false e g = record {
+      within = omega arith;
+      valid = g .valid;
+      most = λ m h f.
+          ⊎-elim
+          (λ d. let z : _≡_ {A = ℕ} 0 1 = cc in absurd (omega arith))
+          (λ l. g .most m (omega arith) f)
+          (eq-or-lt-of-le h);
+    }
+
+module _ (s : List ℕ) where
+  end-greatest : Greatest s (length s) (utf8End s)
+  unfolding utf8End
+  end-greatest = longest-greatest (length s) s
+
+  pub utf8-end-le : utf8End s ≤ length s
+  utf8-end-le = end-greatest .within
+
+  pub utf8-end-whole : (utf8End s ≡ length s) ↔ (utf8 s ≡ true)
+  utf8-end-whole = (
+    (λ e. rw (e, take-length) at (end-greatest .valid)),
+    (λ e. let m = end-greatest .most (length s) (omega arith) (rw take-length e) in let l = utf8-end-le in omega arith),
+  )
+
+pub utf8-end : Utf8End
+utf8-end s = record {
+  within = utf8-end-le s;
+  derived = utf8-rule (take (utf8End s) s) .0 (end-greatest s .valid);
+  no-longer = λ m h l o. let k = end-greatest s .most m l (utf8-rule (take m s) .1 o) in omega arith;
+}
