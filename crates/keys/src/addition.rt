@@ -42,7 +42,11 @@ fn commented(s: &[u8], places: Places, constrained: bool) -> Addition
     let comment = Cursor { at: places.end };
     let text = comment.text(s);
     match text {
-        Part::Whole { from: _, to: _, next } => {
+        Part::Whole {
+            from: _,
+            to: _,
+            next,
+        } => {
             if constrained {
                 limited(places, constraints(s, next.at))
             } else {

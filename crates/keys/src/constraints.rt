@@ -14,10 +14,7 @@ pub enum Lifetime {
 
 // What the walk yields; a fault has its place.
 pub enum Walk {
-    Done {
-        lifetime: Lifetime,
-        confirm: bool,
-    },
+    Done { lifetime: Lifetime, confirm: bool },
     Duplicate(usize),
     Unknown(usize),
     Cut(usize),

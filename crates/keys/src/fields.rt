@@ -60,11 +60,7 @@ pub fn is_scalar(v: &[u8], n: usize) -> bool
         if v.len() <= n {
             return true;
         }
-        if v.len() - 1 <= n {
-            v[0] == 0
-        } else {
-            false
-        }
+        if v.len() - 1 <= n { v[0] == 0 } else { false }
     } else {
         false
     }

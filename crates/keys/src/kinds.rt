@@ -60,10 +60,20 @@ fn ed25519(c: Cursor, s: &[u8]) -> Key
     ensures { λ r. ⌜ r ≡ ed25519At (now (s .entry)) (c .at) ⌝ }
 {
     let first = c.at;
-    let Part::Whole { from: af, to: at, next: a } = sized(c, s, 32) else {
+    let Part::Whole {
+        from: af,
+        to: at,
+        next: a,
+    } = sized(c, s, 32)
+    else {
         return Key::Fault(first);
     };
-    let Part::Whole { from: pf, to: pt, next: _ } = sized(a, s, 64) else {
+    let Part::Whole {
+        from: pf,
+        to: pt,
+        next: _,
+    } = sized(a, s, 64)
+    else {
         return Key::Fault(at);
     };
     if is_same(cut(s, pf + 32, pt), cut(s, af, at)) {
@@ -82,13 +92,28 @@ fn ecdsa(c: Cursor, s: &[u8], curve: &[u8], q: usize, d: usize) -> Key
     ensures { λ r. ⌜ r ≡ ecdsaAt (now (s .entry)) (c .at) (now (curve .entry)) q d ⌝ }
 {
     let first = c.at;
-    let Part::Whole { from: _, to: ct, next: a } = named(c, s, curve) else {
+    let Part::Whole {
+        from: _,
+        to: ct,
+        next: a,
+    } = named(c, s, curve)
+    else {
         return Key::Fault(first);
     };
-    let Part::Whole { from: _, to: qt, next: b } = point(a, s, q) else {
+    let Part::Whole {
+        from: _,
+        to: qt,
+        next: b,
+    } = point(a, s, q)
+    else {
         return Key::Fault(ct);
     };
-    let Part::Whole { from: _, to: dt, next: _ } = scalar_at(b, s, d) else {
+    let Part::Whole {
+        from: _,
+        to: dt,
+        next: _,
+    } = scalar_at(b, s, d)
+    else {
         return Key::Fault(qt);
     };
     Key::Whole(Places {
@@ -104,15 +129,30 @@ fn rsa_secrets(c: Cursor, s: &[u8]) -> Part
     ensures { λ r. ⌜ r ≡ rsaSecretsAt (now (s .entry)) (c .at) ⌝ }
 {
     let d = c.mpint(s);
-    let Part::Whole { from: _, to: _, next: a } = d else {
+    let Part::Whole {
+        from: _,
+        to: _,
+        next: a,
+    } = d
+    else {
         return d;
     };
     let iqmp = a.mpint(s);
-    let Part::Whole { from: _, to: _, next: b } = iqmp else {
+    let Part::Whole {
+        from: _,
+        to: _,
+        next: b,
+    } = iqmp
+    else {
         return iqmp;
     };
     let p = b.mpint(s);
-    let Part::Whole { from: _, to: _, next: q } = p else {
+    let Part::Whole {
+        from: _,
+        to: _,
+        next: q,
+    } = p
+    else {
         return p;
     };
     q.mpint(s)
@@ -123,15 +163,29 @@ fn rsa(c: Cursor, s: &[u8]) -> Key
     ensures { λ r. ⌜ r ≡ rsaAt (now (s .entry)) (c .at) ⌝ }
 {
     let front = c.at;
-    let Part::Whole { from: _, to: swap, next: a } = c.mpint(s) else {
+    let Part::Whole {
+        from: _,
+        to: swap,
+        next: a,
+    } = c.mpint(s)
+    else {
         return Key::Fault(front);
     };
-    let Part::Whole { from: _, to: back, next: b } = a.mpint(s) else {
+    let Part::Whole {
+        from: _,
+        to: back,
+        next: b,
+    } = a.mpint(s)
+    else {
         return Key::Fault(swap);
     };
     let rest = rsa_secrets(b, s);
     match rest {
-        Part::Whole { from: _, to: end, next: _ } => Key::Whole(Places {
+        Part::Whole {
+            from: _,
+            to: end,
+            next: _,
+        } => Key::Whole(Places {
             front,
             swap,
             back,

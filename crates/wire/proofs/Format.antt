@@ -72,27 +72,25 @@ module _ (s : List ℕ) (at : ℕ) where
   be-within n rest e = omega (arith, simp (length-drop, length-append) at (ap length e))
 
 pub number-rule : NumberRule
-number-rule s at n rest bytes h =
-    (
-      (λ e.
-        let n′ = be-written s at n rest h e in
-        let w = be-within s at n rest e in
-        (rw (← n′) (sym (number-there s at (omega arith))), be-behind s at n rest e)),
-      (λ r.
-        let found = number-read s at _ _ (r .0) in
-        be-shape s at bytes (found .within) ∙ ap₂ (λ (m : ℕ) (l : List ℕ). be32 m ++ l) (sym (found .number)) (r .1)),
-    )
+number-rule s at n rest bytes h = (
+  (λ e.
+      let n′ = be-written s at n rest h e in
+      let w = be-within s at n rest e in
+      (rw (← n′) (sym (number-there s at (omega arith))), be-behind s at n rest e)),
+  (λ r.
+      let found = number-read s at _ _ (r .0) in
+      be-shape s at bytes (found .within) ∙ ap₂ (λ (m : ℕ) (l : List ℕ). be32 m ++ l) (sym (found .number)) (r .1)),
+)
 
 pub number-cut-rule : NumberCut
-number-cut-rule s at bytes =
-    (
-      (λ e n rest h w. let f = number-fault s at at e in let b = be-within s at n rest w in omega arith),
-      (λ none.
-        ⊎-elim
-        (λ h. absurd (none (beAt s at) (drop (at + 4) s) (be-small s at bytes) (be-shape s at bytes h)))
-        (λ h. sym (number-cut s at h))
-        (le-or-lt (at + 4) (length s))),
-    )
+number-cut-rule s at bytes = (
+  (λ e n rest h w. let f = number-fault s at at e in let b = be-within s at n rest w in omega arith),
+  (λ none.
+      ⊎-elim
+      (λ h. absurd (none (beAt s at) (drop (at + 4) s) (be-small s at bytes) (be-shape s at bytes h)))
+      (λ h. sym (number-cut s at h))
+      (le-or-lt (at + 4) (length s))),
+)
 
 -- a part of given length behind a place
 part-behind : (s : List ℕ) (f : ℕ) (v rest : List ℕ) → drop f s ≡ v ++ rest → f + length v ≤ length s → cutOf s f (f + length v) ≡ v
@@ -118,27 +116,25 @@ string-shape s at f t k bytes e =
     be-shape s at bytes (omega arith) ∙ ap₂ (λ (m : ℕ) (l : List ℕ). be32 m ++ l) n b
 
 pub string-rule : StringRule
-string-rule s at v rest bytes h =
-    (
-      (λ e.
-        let n = be-written s at (length v) (v ++ rest) h e in
-        let b = be-behind s at (length v) (v ++ rest) e in
-        let l = simp length-append at (be-within s at (length v) (v ++ rest) e) in
-        let w : at + 4 + beAt s at ≤ length s = omega arith in
-        (rw (← n) (sym (string-there s at w)), part-behind s (at + 4) v rest b (omega arith), sym (drop-drop (length v) (at + 4) s) ∙ rw b (drop-at v rest (length v) refl))),
-      (λ r. string-shape s at _ _ _ bytes (r .0) ∙ ap₂ (λ (x y : List ℕ). string x ++ y) (r .1) (r .2)),
-    )
+string-rule s at v rest bytes h = (
+  (λ e.
+      let n = be-written s at (length v) (v ++ rest) h e in
+      let b = be-behind s at (length v) (v ++ rest) e in
+      let l = simp length-append at (be-within s at (length v) (v ++ rest) e) in
+      let w : at + 4 + beAt s at ≤ length s = omega arith in
+      (rw (← n) (sym (string-there s at w)), part-behind s (at + 4) v rest b (omega arith), sym (drop-drop (length v) (at + 4) s) ∙ rw b (drop-at v rest (length v) refl))),
+  (λ r. string-shape s at _ _ _ bytes (r .0) ∙ ap₂ (λ (x y : List ℕ). string x ++ y) (r .1) (r .2)),
+)
 
 pub string-cut-rule : StringCut
-string-cut-rule s at bytes =
-    (
-      (λ e v rest h w. let z : _≡_ {A = ℕ} 0 1 = (let r = string-rule s at v rest bytes h .0 w .0 in cc) in omega arith),
-      (λ none.
-        ⊎-elim
-        (λ h.
-          let e = sym (string-there s at h) in
-          let l = part-length s (at + 4) (at + 4 + beAt s at) (omega arith) h in
-          absurd (none (cutOf s (at + 4) (at + 4 + beAt s at)) (drop (at + 4 + beAt s at) s) (omega (arith, be-small s at bytes)) (string-shape s at (at + 4) (at + 4 + beAt s at) (record { at = at + 4 + beAt s at }) bytes e)))
-        (λ h. sym (string-cut s at h))
-        (le-or-lt (at + 4 + beAt s at) (length s))),
-    )
+string-cut-rule s at bytes = (
+  (λ e v rest h w. let z : _≡_ {A = ℕ} 0 1 = (let r = string-rule s at v rest bytes h .0 w .0 in cc) in omega arith),
+  (λ none.
+      ⊎-elim
+      (λ h.
+      let e = sym (string-there s at h) in
+      let l = part-length s (at + 4) (at + 4 + beAt s at) (omega arith) h in
+      absurd (none (cutOf s (at + 4) (at + 4 + beAt s at)) (drop (at + 4 + beAt s at) s) (omega (arith, be-small s at bytes)) (string-shape s at (at + 4) (at + 4 + beAt s at) (record { at = at + 4 + beAt s at }) bytes e)))
+      (λ h. sym (string-cut s at h))
+      (le-or-lt (at + 4 + beAt s at) (length s))),
+)

@@ -47,17 +47,16 @@ mpint-at-rule s at f t k = tested (stringAt s at) (λ f t. mpint (cutOf s f t)) 
 pub text-rule : TextRule
 unfolding textAt
 text-rule s at f t k =
-    let r = tested (stringAt s at) (λ f t. eqb (utf8End (cutOf s f t)) (t - f)) (λ f t. f + utf8End (cutOf s f t)) f t k in
-    (
+    let r = tested (stringAt s at) (λ f t. eqb (utf8End (cutOf s f t)) (t - f)) (λ f t. f + utf8End (cutOf s f t)) f t k in (
       (λ e.
-        let p = r .0 e in
-        let w = string-read s at f t k (p .0) in
-        let l = part-length s f t (omega arith) (w .within) in
-        (p .0, utf8-rule (cutOf s f t) .0 (utf8-end-whole (cutOf s f t) .0 (eqb-true _ _ (p .1) ∙ sym l)))),
+          let p = r .0 e in
+          let w = string-read s at f t k (p .0) in
+          let l = part-length s f t (omega arith) (w .within) in
+          (p .0, utf8-rule (cutOf s f t) .0 (utf8-end-whole (cutOf s f t) .0 (eqb-true _ _ (p .1) ∙ sym l)))),
       (λ p.
-        let w = string-read s at f t k (p .0) in
-        let l = part-length s f t (omega arith) (w .within) in
-        r .1 (p .0, eq-eqb _ _ (utf8-end-whole (cutOf s f t) .1 (utf8-rule (cutOf s f t) .1 (p .1)) ∙ l))),
+          let w = string-read s at f t k (p .0) in
+          let l = part-length s f t (omega arith) (w .within) in
+          r .1 (p .0, eq-eqb _ _ (utf8-end-whole (cutOf s f t) .1 (utf8-rule (cutOf s f t) .1 (p .1)) ∙ l))),
     )
 
 pub text-fault : TextFault

@@ -1,6 +1,6 @@
 -- utf8End is the longest part from the start that is UTF-8, and the loop that keeps it goes on by one byte: both by the definition, byte by byte.
 use Prim.Native.Nat.{ℕ, zero, suc, _+_, _≤_, _<_}
-use mathlib.Core.Path.{_≡_, refl, _∙_}
+use mathlib.Core.Path.{_≡_, refl, ap, _∙_}
 use mathlib.Core.List.{List, [], _∷_, _++_}
 use mathlib.Core.Bool.{Bool, true, false, cond}
 use mathlib.Core.Logic.{_↔_, ⊎-elim}
@@ -9,9 +9,14 @@ use native.Mathlib.Numerals.{add-one}
 use native.Mathlib.Omega.{arith}
 use lib.ListN.{length, getD, take}
 use lib.Seq.{take-suc, take-length}
+use Rattle.wire.specs.declared.read.Cursor.{Cursor}
+use Rattle.wire.specs.declared.read.Part.the-variants.{Whole}
 use Rattle.wire.specs.declared.utf8.Utf.{Utf}
 use Rattle.wire.specs.Utf8.{stepOf, walkOf, ended, start, utf8, longest, utf8End}
+use Rattle.wire.specs.Read.{cutOf, stringAt}
 use Rattle.wire.specs.Promises.{Utf8End}
+use Rattle.wire.proofs.Reading.{string-read}
+use Rattle.wire.proofs.Format.{part-length}
 use Rattle.wire.proofs.Abnf.{utf8-rule}
 
 walk-snoc : (u : Utf) (s : List ℕ) (b : ℕ) → walkOf u (s ++ (b ∷ [])) ≡ stepOf (walkOf u s) b
@@ -87,3 +92,12 @@ utf8-end s = record {
   derived = utf8-rule (take (utf8End s) s) .0 (end-greatest s .valid);
   no-longer = λ m h l o. let k = end-greatest s .most m l (utf8-rule (take m s) .1 o) in omega arith;
 }
+
+-- the end of a string's UTF-8 is a place in the slice
+pub text-room : (s : List ℕ) (at f t : ℕ) (k : Cursor) (v : List ℕ) (n : ℕ) → stringAt s at ≡ Whole f t k → v ≡ cutOf s f t → n ≡ utf8End v → f + n ≤ length s
+text-room s at f t k v n e p q =
+    let w = string-read s at f t k e in
+    let l = part-length s f t (omega arith) (w .within) in
+    let u = utf8-end-le (cutOf s f t) in
+    let m : n ≡ utf8End (cutOf s f t) = q ∙ ap utf8End p in
+    omega arith

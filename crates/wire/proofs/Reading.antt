@@ -98,10 +98,10 @@ pub string-read : (s : List ℕ) (at f t : ℕ) (k : Cursor) → stringAt s at �
 string-read s at f t k e =
     ⊎-elim
     (λ h.
-      let w = string-there s at h in
-      let p : k ≡ record { at = at + 4 + beAt s at } = cc in
-      let q : t ≡ at + 4 + beAt s at = cc in
-      record { start = cc; end = q; place = ap (λ (c : Cursor). c .at) p ∙ sym q; within = omega arith })
+    let w = string-there s at h in
+    let p : k ≡ record { at = at + 4 + beAt s at } = cc in
+    let q : t ≡ at + 4 + beAt s at = cc in
+    record { start = cc; end = q; place = ap (λ (c : Cursor). c .at) p ∙ sym q; within = omega arith })
     (λ h. let w = string-cut s at h in let z : _≡_ {A = ℕ} 0 1 = cc in absurd (omega arith))
     (le-or-lt (at + 4 + beAt s at) (length s))
 

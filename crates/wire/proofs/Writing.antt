@@ -91,12 +91,12 @@ module _ (l : List ℕ) (at : ℕ) (v : List ℕ) (h : at + length v ≤ length 
   write-out i =
       ⊎-elim
       (λ (k : i < at).
-        let n : i < length (take at l ++ v) = simp length-append (omega (arith, front)) in
-        List·getD-append (take at l ++ v) (drop (at + length v) l) 0 i n ∙ List·getD-append (take at l) v 0 i (omega (arith, front)) ∙ getD-take at l i 0 k)
+      let n : i < length (take at l ++ v) = simp length-append (omega (arith, front)) in
+      List·getD-append (take at l ++ v) (drop (at + length v) l) 0 i n ∙ List·getD-append (take at l) v 0 i (omega (arith, front)) ∙ getD-take at l i 0 k)
       (λ (k : at + length v ≤ i).
-        let n : length (take at l ++ v) ≡ at + length v = simp length-append (omega (arith, front)) in
-        let e : length (take at l ++ v) + (i - (at + length v)) ≡ i = omega arith in
-        ap (λ (j : ℕ). getD (take at l ++ v ++ drop (at + length v) l) j 0) (sym e)
-        ∙ getD-append-add (take at l ++ v) (drop (at + length v) l) (i - (at + length v)) 0
-        ∙ getD-drop (at + length v) l (i - (at + length v)) 0
-        ∙ ap (λ (j : ℕ). getD l j 0) (sym (ap (λ (j : ℕ). j + (i - (at + length v))) n) ∙ e))
+      let n : length (take at l ++ v) ≡ at + length v = simp length-append (omega (arith, front)) in
+      let e : length (take at l ++ v) + (i - (at + length v)) ≡ i = omega arith in
+      ap (λ (j : ℕ). getD (take at l ++ v ++ drop (at + length v) l) j 0) (sym e)
+      ∙ getD-append-add (take at l ++ v) (drop (at + length v) l) (i - (at + length v)) 0
+      ∙ getD-drop (at + length v) l (i - (at + length v)) 0
+      ∙ ap (λ (j : ℕ). getD l j 0) (sym (ap (λ (j : ℕ). j + (i - (at + length v))) n) ∙ e))

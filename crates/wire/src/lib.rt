@@ -11,8 +11,6 @@ pub struct Seconds {
 
 // What a key may be added under.
 pub enum Constraint {
-    KeyLifetime {
-        seconds: Seconds,
-    },
+    KeyLifetime { seconds: Seconds },
     Confirm,
 }

@@ -41,11 +41,7 @@ pub fn cut(s: &[u8], from: usize, to: usize) -> &[u8]
     ensures { λ r. ⌜ now r ≡ cutOf (now (s .entry)) from to ⌝ }
 {
     if from <= to {
-        if to <= s.len() {
-            &s[from..to]
-        } else {
-            &s[..0]
-        }
+        if to <= s.len() { &s[from..to] } else { &s[..0] }
     } else {
         &s[..0]
     }

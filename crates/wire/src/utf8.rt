@@ -5,11 +5,7 @@ ghost use Rattle.wire.specs.Utf8.{leadOf, stepOf, ended, utf8End};
 
 // How many bytes must follow, and what the next one may be.
 pub enum Utf {
-    Tails {
-        left: u8,
-        low: u8,
-        high: u8,
-    },
+    Tails { left: u8, low: u8, high: u8 },
     Bad,
 }
 
@@ -58,7 +54,12 @@ fn step(u: Utf, b: u8) -> Utf
 fn end_at(u: Utf, here: usize, before: usize) -> usize
     ensures { λ r. ⌜ r ≡ cond (ended u) here before ⌝ }
 {
-    let Utf::Tails { left, low: _, high: _ } = u else {
+    let Utf::Tails {
+        left,
+        low: _,
+        high: _,
+    } = u
+    else {
         return before;
     };
     if left == 0 {
