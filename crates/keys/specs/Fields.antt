@@ -1,6 +1,6 @@
 -- Single fields of a key: a string that passes a test; one that does not is a fault at its length.
-use Prim.Native.Nat.{ℕ, _+_, _-_}
-use mathlib.Core.List.{List, [], _∷_}
+use Prim.Native.Nat.{ℕ, _-_}
+use mathlib.Core.List.{List}
 use mathlib.Core.Bool.{Bool, _&&_, _||_}
 use lib.ListN.{length, getD}
 use lib.Dec.{leb, eqb}
@@ -21,10 +21,13 @@ namedAt s at name =
     so (Part.Fault at) (same (cutOf s f t) name) (Whole f t k)
 
 -- "string Q of 65, 97 or 133 bytes starting 04"
+unfoldable pub uncompressed : List ℕ → ℕ → Bool
+uncompressed v n = eqb (length v) n && eqb (getD v 0 0) 4
+
 unfoldable pub pointAt : List ℕ → ℕ → ℕ → Part
 pointAt s at n =
-    part Part.Fault (sizedAt s at n) λ f t k.
-    so (Part.Fault at) (same (cutOf s f (f + 1)) (4 ∷ [])) (Whole f t k)
+    part Part.Fault (stringAt s at) λ f t k.
+    so (Part.Fault at) (uncompressed (cutOf s f t) n) (Whole f t k)
 
 -- "mpint d of at most 32, 48 or 66 bytes without sign byte"
 unfoldable pub scalar : List ℕ → ℕ → Bool

@@ -4,7 +4,7 @@ use crate::constraints::Walk;
 use crate::constraints::constraints;
 use crate::kinds::Key;
 use crate::kinds::Places;
-use crate::kinds::key;
+use crate::kinds::key_at;
 use wire::read::Cursor;
 use wire::read::Part;
 ghost use mathlib.Core.Path.{_≡_};
@@ -61,10 +61,10 @@ fn commented(s: &[u8], places: Places, constrained: bool) -> Addition
     }
 }
 
-pub fn addition(s: &[u8], at: usize, constrained: bool) -> Addition
+pub fn addition_at(s: &[u8], at: usize, constrained: bool) -> Addition
     ensures { λ r. ⌜ r ≡ additionAt (now (s .entry)) at constrained ⌝ }
 {
-    let fields = key(s, at);
+    let fields = key_at(s, at);
     match fields {
         Key::Whole(places) => commented(s, places, constrained),
         Key::Fault(place) => Addition::Fault(place),

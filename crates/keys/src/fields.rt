@@ -5,7 +5,7 @@ use wire::read::cut;
 use wire::read::is_mpint;
 use wire::read::is_same;
 ghost use mathlib.Core.Path.{_≡_};
-ghost use Rattle.keys.specs.Fields.{sizedAt, namedAt, pointAt, scalar, scalarAt};
+ghost use Rattle.keys.specs.Fields.{sizedAt, namedAt, uncompressed, pointAt, scalar, scalarAt};
 
 // A string of n bytes.
 pub fn sized(c: Cursor, s: &[u8], n: usize) -> Part
@@ -37,16 +37,28 @@ pub fn named(c: Cursor, s: &[u8], name: &[u8]) -> Part
     Part::Fault(at)
 }
 
-// A string of n bytes that starts with 04: a point that is not compressed.
-pub fn point(c: Cursor, s: &[u8], n: usize) -> Part
+// A point of n bytes that is not compressed: it starts with 04.
+pub fn is_uncompressed(v: &[u8], n: usize) -> bool
+    ensures { λ r. ⌜ r ≡ uncompressed (now (v .entry)) n ⌝ }
+{
+    if v.len() != n {
+        return false;
+    }
+    if v.len() == 0 {
+        return false;
+    }
+    v[0] == 4
+}
+
+pub fn point_at(c: Cursor, s: &[u8], n: usize) -> Part
     ensures { λ r. ⌜ r ≡ pointAt (now (s .entry)) (c .at) n ⌝ }
 {
     let at = c.at;
-    let p = sized(c, s, n);
+    let p = c.string(s);
     let Part::Whole { from, to, next } = p else {
         return p;
     };
-    if is_same(cut(s, from, from + 1), b"\x04") {
+    if is_uncompressed(cut(s, from, to), n) {
         return Part::Whole { from, to, next };
     }
     Part::Fault(at)

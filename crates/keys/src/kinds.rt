@@ -1,6 +1,6 @@
 // The key fields of each kind, from the type string on, and the public blob that they determine.
 use crate::fields::named;
-use crate::fields::point;
+use crate::fields::point_at;
 use crate::fields::scalar_at;
 use crate::fields::sized;
 use wire::read::Cursor;
@@ -104,7 +104,7 @@ fn ecdsa(c: Cursor, s: &[u8], curve: &[u8], q: usize, d: usize) -> Key
         from: _,
         to: qt,
         next: b,
-    } = point(a, s, q)
+    } = point_at(a, s, q)
     else {
         return Key::Fault(ct);
     };
@@ -196,7 +196,7 @@ fn rsa(c: Cursor, s: &[u8]) -> Key
 }
 
 // The key fields at a place; a type that is none of the five is a fault at its length.
-pub fn key(s: &[u8], at: usize) -> Key
+pub fn key_at(s: &[u8], at: usize) -> Key
     ensures { λ r. ⌜ r ≡ keyAt (now (s .entry)) at ⌝ }
 {
     let start = Cursor { at };

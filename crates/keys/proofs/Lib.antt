@@ -1,0 +1,3 @@
+pub mod FieldSteps
+pub mod BlobLaws
+pub mod WalkLaws

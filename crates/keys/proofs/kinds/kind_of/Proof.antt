@@ -1,0 +1,33 @@
+-- The definition goes by the same comparisons. Assumes nothing.
+use borrow.Author.Needs.{needs}
+use Rattle.wire.specs.Steps.{so}
+use Rattle.keys.specs.Kinds.{kindOf}
+use Rattle.keys.proofs.kinds.kind_of.Statement.{statement}
+use Rattle.keys.proofs.kinds.kind_of.Tie as tie
+
+returns : tie.Need-returns
+unfolding kindOf so
+returns c = rw (← c .before .is-same .ensures, c .if1 .taken)
+
+returns-2 : tie.Need-returns-2
+unfolding kindOf so
+returns-2 c = rw (← c .before .before .before .before .is-same .ensures, c .before .before .before .if1 .left, ← c .before .is-same2 .ensures, c .if2 .taken)
+
+returns-3 : tie.Need-returns-3
+unfolding kindOf so
+returns-3 c = rw (← c .before .before .before .before .before .before .before .is-same .ensures, c .before .before .before .before .before .before .if1 .left, ← c .before .before .before .before .is-same2 .ensures, c .before .before .before .if2 .left, ← c .before .is-same3 .ensures, c .if3 .taken)
+
+returns-4 : tie.Need-returns-4
+unfolding kindOf so
+returns-4 c = rw (← c .before .before .before .before .before .before .before .before .before .before .is-same .ensures, c .before .before .before .before .before .before .before .before .before .if1 .left, ← c .before .before .before .before .before .before .before .is-same2 .ensures, c .before .before .before .before .before .before .if2 .left, ← c .before .before .before .before .is-same3 .ensures, c .before .before .before .if3 .left, ← c .before .is-same4 .ensures, c .if4 .taken)
+
+returns-5 : tie.Need-returns-5
+unfolding kindOf so
+returns-5 c = rw (← c .before .before .before .before .before .before .before .before .before .before .before .before .before .is-same .ensures, c .before .before .before .before .before .before .before .before .before .before .before .before .if1 .left, ← c .before .before .before .before .before .before .before .before .before .before .is-same2 .ensures, c .before .before .before .before .before .before .before .before .before .if2 .left, ← c .before .before .before .before .before .before .before .is-same3 .ensures, c .before .before .before .before .before .before .if3 .left, ← c .before .before .before .before .is-same4 .ensures, c .before .before .before .if4 .left, ← c .before .is-same5 .ensures, c .if5 .taken)
+
+returns-6 : tie.Need-returns-6
+unfolding kindOf so
+returns-6 c = rw (← c .before .before .before .before .before .before .before .before .before .before .before .before .before .is-same .ensures, c .before .before .before .before .before .before .before .before .before .before .before .before .if1 .left, ← c .before .before .before .before .before .before .before .before .before .before .is-same2 .ensures, c .before .before .before .before .before .before .before .before .before .if2 .left, ← c .before .before .before .before .before .before .before .is-same3 .ensures, c .before .before .before .before .before .before .if3 .left, ← c .before .before .before .before .is-same4 .ensures, c .before .before .before .if4 .left, ← c .before .is-same5 .ensures, c .if5 .left)
+
+pub kind-of-spec : {M : Type 1} → statement M
+kind-of-spec = tie.close (tie.spec (λ c. search needs) (λ c κs. search needs) returns (λ c. search needs) (λ c κs. search needs) returns-2 (λ c. search needs) (λ c κs. search needs) returns-3 (λ c. search needs) (λ c κs. search needs) returns-4 (λ c. search needs) (λ c κs. search needs) returns-5 returns-6)

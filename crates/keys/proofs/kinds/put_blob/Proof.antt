@@ -1,0 +1,42 @@
+-- The room is tested part by part, and the parts are written one behind the other. Assumes nothing.
+use native.Mathlib.Omega.{arith}
+use borrow.Author.Needs.{needs}
+use Rattle.keys.proofs.BlobLaws.{blob-long, blob-fits}
+use Rattle.keys.proofs.kinds.put_blob.Statement.{statement}
+use Rattle.keys.proofs.kinds.put_blob.Tie as tie
+
+returns : tie.Need-returns
+returns c = blob-long _ _ _ _ _ _ _ (c .before .before .before .cut .ensures) (c .before .before .cut2 .ensures) (c .before .cut3 .ensures) (omega arith)
+
+returns-2 : tie.Need-returns-2
+returns-2 c = blob-long _ _ _ _ _ _ _ (c .before .before .before .before .cut .ensures) (c .before .before .before .cut2 .ensures) (c .before .before .cut3 .ensures) (omega arith)
+
+returns-3 : tie.Need-returns-3
+returns-3 c = blob-long _ _ _ _ _ _ _ (c .before .before .before .before .before .cut .ensures) (c .before .before .before .before .cut2 .ensures) (c .before .before .before .cut3 .ensures) (omega arith)
+
+returns-4 : tie.Need-returns-4
+returns-4 c =
+    blob-fits _ _ _ _ _ _ _ (c .before .before .before .before .before .before .before .before .before .before .before .before .before .before .before .before .before .cut .ensures) (c .before .before .before .before .before .before .before .before .before .before .before .before .before .before .before .before .cut2 .ensures) (c .before .before .before .before .before .before .before .before .before .before .before .before .before .before .before .cut3 .ensures) _ _ _ _ _ _
+    (c .before .before .before .before .before .before .before .before .before .before .put-bytes .ensures .1) (c .before .before .before .before .before .before .before .before .before .before .put-bytes .ensures .0)
+    (c .before .before .before .before .before .before .put-bytes2 .ensures .1) (c .before .before .before .before .before .before .put-bytes2 .ensures .0)
+    (c .before .before .put-bytes3 .ensures .1) (c .before .before .put-bytes3 .ensures .0)
+    (omega (arith, c .before .before .before .before .before .before .before .before .before .before .before .before .if3 .left, c .before .before .before .before .before .before .before .before .before .before .before .before .before .if2 .left, c .before .before .before .before .before .before .before .before .before .before .before .before .before .before .if1 .left))
+
+pub put-blob-spec : {M : Type 1} → statement M
+put-blob-spec =
+    tie.close
+    (tie.spec
+    (λ c κs. search needs)
+    (λ c κs. search needs)
+    (λ c κs. search needs)
+    returns
+    (λ c. search needs)
+    returns-2
+    (λ c. search needs)
+    (λ c. search needs)
+    returns-3
+    (λ c κs. search needs)
+    (λ c κs. search needs)
+    (λ c κs. search needs)
+    (λ c. search needs)
+    returns-4)
