@@ -15,7 +15,6 @@ use Rattle.wire.specs.declared.read.Part.the-variants.{Whole}
 use Rattle.wire.specs.Numbers.{be, be32, beAt, Bytes}
 use Rattle.wire.specs.Read.{cutOf, numberAt, stringAt}
 use Rattle.wire.specs.Write.{string}
-use Rattle.wire.specs.Promises.{NumberRule, NumberCut, StringRule, StringCut}
 use Rattle.wire.proofs.Reading.{le-or-lt, cut-there, number-there, number-cut, number-read, number-fault, string-there, string-cut, string-read, string-fault}
 
 nested : (n : ℕ) → n < 2 ^ 32 → be (n / 256 / 256 / 256) (n / 256 / 256 % 256) (n / 256 % 256) (n % 256) ≡ n
@@ -71,8 +70,9 @@ module _ (s : List ℕ) (at : ℕ) where
   be-within : (n : ℕ) (rest : List ℕ) → drop at s ≡ be32 n ++ rest → at + 4 + length rest ≤ length s
   be-within n rest e = omega (arith, simp (length-drop, length-append) at (ap length e))
 
-pub number-rule : NumberRule
-number-rule s at n rest bytes h = (
+pub number-form : (s : List ℕ) (at n : ℕ) (rest : List ℕ) → Bytes s → n < 2 ^ 32
+    → (drop at s ≡ be32 n ++ rest) ↔ ((numberAt s at ≡ Number.Value n (record { at = at + 4 })) × (drop (at + 4) s ≡ rest))
+number-form s at n rest bytes h = (
   (λ e.
       let n′ = be-written s at n rest h e in
       let w = be-within s at n rest e in
@@ -82,8 +82,9 @@ number-rule s at n rest bytes h = (
       be-shape s at bytes (found .within) ∙ ap₂ (λ (m : ℕ) (l : List ℕ). be32 m ++ l) (sym (found .number)) (r .1)),
 )
 
-pub number-cut-rule : NumberCut
-number-cut-rule s at bytes = (
+pub number-none : (s : List ℕ) (at : ℕ) → Bytes s
+    → (numberAt s at ≡ Number.Fault at) ↔ ((n : ℕ) (rest : List ℕ) → n < 2 ^ 32 → drop at s ≡ be32 n ++ rest → ⊥)
+number-none s at bytes = (
   (λ e n rest h w. let f = number-fault s at at e in let b = be-within s at n rest w in omega arith),
   (λ none.
       ⊎-elim
@@ -115,8 +116,12 @@ string-shape s at f t k bytes e =
     let b : drop (at + 4) s ≡ cutOf s f t ++ drop t s = rw (← w .start) (part-shape s f t (omega arith) (w .within)) in
     be-shape s at bytes (omega arith) ∙ ap₂ (λ (m : ℕ) (l : List ℕ). be32 m ++ l) n b
 
-pub string-rule : StringRule
-string-rule s at v rest bytes h = (
+pub string-form : (s : List ℕ) (at : ℕ) (v rest : List ℕ) → Bytes s → length v < 2 ^ 32
+    → (drop at s ≡ string v ++ rest)
+    ↔ ((stringAt s at ≡ Whole (at + 4) (at + 4 + length v) (record { at = at + 4 + length v }))
+    × (cutOf s (at + 4) (at + 4 + length v) ≡ v)
+    × (drop (at + 4 + length v) s ≡ rest))
+string-form s at v rest bytes h = (
   (λ e.
       let n = be-written s at (length v) (v ++ rest) h e in
       let b = be-behind s at (length v) (v ++ rest) e in
@@ -126,9 +131,10 @@ string-rule s at v rest bytes h = (
   (λ r. string-shape s at _ _ _ bytes (r .0) ∙ ap₂ (λ (x y : List ℕ). string x ++ y) (r .1) (r .2)),
 )
 
-pub string-cut-rule : StringCut
-string-cut-rule s at bytes = (
-  (λ e v rest h w. let z : _≡_ {A = ℕ} 0 1 = (let r = string-rule s at v rest bytes h .0 w .0 in cc) in omega arith),
+pub string-none : (s : List ℕ) (at : ℕ) → Bytes s
+    → (stringAt s at ≡ Part.Fault at) ↔ ((v rest : List ℕ) → length v < 2 ^ 32 → drop at s ≡ string v ++ rest → ⊥)
+string-none s at bytes = (
+  (λ e v rest h w. let z : _≡_ {A = ℕ} 0 1 = (let r = string-form s at v rest bytes h .0 w .0 in cc) in omega arith),
   (λ none.
       ⊎-elim
       (λ h.

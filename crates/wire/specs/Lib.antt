@@ -5,5 +5,6 @@ pub mod Utf8
 pub mod Abnf
 pub mod Mpint
 pub mod Read
+pub mod Values
 pub mod Write
 pub mod Promises

@@ -1,15 +1,14 @@
 -- What the wire promises, as statements; the proofs are in proofs/.
 use Prim.Native.Nat.{ℕ, _+_, _-_, _^_, _≤_, _<_}
 use mathlib.Core.Path.{_≡_}
-use mathlib.Core.List.{List, _++_}
+use mathlib.Core.List.{List, [], _∷_, _++_}
 use mathlib.Core.Bool.{true}
 use mathlib.Core.Logic.{_↔_, _⊎_}
 use lib.ListN.{length, getD, take, drop}
-use Rattle.wire.specs.declared.read.Cursor.{Cursor}
 use Rattle.wire.specs.declared.read.Octet.{Octet}
 use Rattle.wire.specs.declared.read.Number.{Number}
 use Rattle.wire.specs.declared.read.Part.{Part}
-use Rattle.wire.specs.declared.read.Part.the-variants.{Whole}
+use Rattle.wire.specs.Values.{Reading, read, fault, Span, octetReads, numberReads, partReads}
 use Rattle.wire.specs.Numbers.{Bytes, be32}
 use Rattle.wire.specs.Utf8.{utf8, utf8End}
 use Rattle.wire.specs.Abnf.{Octets}
@@ -23,26 +22,45 @@ use Rattle.wire.specs.Write.{string, write}
 abbrev pub OneAnswer : Type 1
 OneAnswer = (A : Type 0) (given answer other : A) → answer ≡ given → other ≡ given → answer ≡ other
 
--- ## Numbers and strings: what is accepted is exactly what the format writes
+-- an answer's values tell it from every other answer
+abbrev pub OneToOne : (A B : Type 0) → (A → B) → Type 0
+OneToOne A B values = (a b : A) → values a ≡ values b → a ≡ b
+
+pub record AnswersApart : Type 0 where
+  pub octets : OneToOne Octet (Reading ℕ) octetReads
+  pub numbers : OneToOne Number (Reading ℕ) numberReads
+  pub parts : OneToOne Part (Reading Span) partReads
+
+-- ## Bytes, numbers and strings: what is accepted is exactly what the format writes
+
+-- b and then rest stand at `at` exactly where the reader finds b there and rest behind it
+abbrev pub ByteRule : Type 0
+ByteRule =
+    (s : List ℕ) (at b : ℕ) (rest : List ℕ)
+    → (drop at s ≡ b ∷ rest) ↔ ((octetReads (byteAt s at) ≡ read b (at + 1)) × (drop (at + 1) s ≡ rest))
+
+-- where no byte stands, the fault is there
+abbrev pub ByteCut : Type 0
+ByteCut = (s : List ℕ) (at : ℕ) → (octetReads (byteAt s at) ≡ fault at) ↔ (drop at s ≡ [])
 
 -- n and then rest stand at `at` exactly where the reader finds n there and rest behind it
 abbrev pub NumberRule : Type 0
 NumberRule =
     (s : List ℕ) (at n : ℕ) (rest : List ℕ) → Bytes s → n < 2 ^ 32
-    → (drop at s ≡ be32 n ++ rest) ↔ ((numberAt s at ≡ Number.Value n (record { at = at + 4 })) × (drop (at + 4) s ≡ rest))
+    → (drop at s ≡ be32 n ++ rest) ↔ ((numberReads (numberAt s at) ≡ read n (at + 4)) × (drop (at + 4) s ≡ rest))
 
 -- where no number stands, the fault is at its start
 abbrev pub NumberCut : Type 0
 NumberCut =
     (s : List ℕ) (at : ℕ) → Bytes s
-    → (numberAt s at ≡ Number.Fault at) ↔ ((n : ℕ) (rest : List ℕ) → n < 2 ^ 32 → drop at s ≡ be32 n ++ rest → ⊥)
+    → (numberReads (numberAt s at) ≡ fault at) ↔ ((n : ℕ) (rest : List ℕ) → n < 2 ^ 32 → drop at s ≡ be32 n ++ rest → ⊥)
 
 -- v and then rest stand at `at` exactly where the reader finds v there and rest behind it; for every length
 abbrev pub StringRule : Type 0
 StringRule =
     (s : List ℕ) (at : ℕ) (v rest : List ℕ) → Bytes s → length v < 2 ^ 32
     → (drop at s ≡ string v ++ rest)
-    ↔ ((stringAt s at ≡ Whole (at + 4) (at + 4 + length v) (record { at = at + 4 + length v }))
+    ↔ ((partReads (stringAt s at) ≡ read (record { from = at + 4; to = at + 4 + length v }) (at + 4 + length v))
     × (cutOf s (at + 4) (at + 4 + length v) ≡ v)
     × (drop (at + 4 + length v) s ≡ rest))
 
@@ -50,7 +68,7 @@ StringRule =
 abbrev pub StringCut : Type 0
 StringCut =
     (s : List ℕ) (at : ℕ) → Bytes s
-    → (stringAt s at ≡ Part.Fault at) ↔ ((v rest : List ℕ) → length v < 2 ^ 32 → drop at s ≡ string v ++ rest → ⊥)
+    → (partReads (stringAt s at) ≡ fault at) ↔ ((v rest : List ℕ) → length v < 2 ^ 32 → drop at s ≡ string v ++ rest → ⊥)
 
 -- ## Texts
 
@@ -68,14 +86,17 @@ Utf8End = (s : List ℕ) → Longest s (utf8End s)
 
 abbrev pub TextRule : Type 0
 TextRule =
-    (s : List ℕ) (at f t : ℕ) (k : Cursor)
-    → (textAt s at ≡ Whole f t k) ↔ ((stringAt s at ≡ Whole f t k) × Octets (cutOf s f t))
+    (s : List ℕ) (at : ℕ) (v : Span) (next : ℕ)
+    → (partReads (textAt s at) ≡ read v next) ↔ ((partReads (stringAt s at) ≡ read v next) × Octets (cutOf s (v .from) (v .to)))
 
--- a string that is there and is no text is a fault where its longest part of UTF-8 ends
+-- no string is a fault at the start of its length; a string that is no text is one where its longest part of UTF-8 ends
+pub record TextFaults (s : List ℕ) (at : ℕ) : Type 0 where
+  pub cut : partReads (stringAt s at) ≡ fault at → partReads (textAt s at) ≡ fault at
+  pub other : (v : Span) (next : ℕ) → partReads (stringAt s at) ≡ read v next → (Octets (cutOf s (v .from) (v .to)) → ⊥)
+      → (n : ℕ) × Longest (cutOf s (v .from) (v .to)) n × (partReads (textAt s at) ≡ fault (v .from + n))
+
 abbrev pub TextFault : Type 0
-TextFault =
-    (s : List ℕ) (at f t : ℕ) (k : Cursor) (place : ℕ) → stringAt s at ≡ Whole f t k → textAt s at ≡ Part.Fault place
-    → (n : ℕ) × (place ≡ f + n) × Longest (cutOf s f t) n
+TextFault = (s : List ℕ) (at : ℕ) → TextFaults s at
 
 -- ## Mpints
 
@@ -89,8 +110,12 @@ MpintOne = (v w : List ℕ) (n : ℕ) → Shortest v n → Shortest w n → v �
 
 abbrev pub MpintAtRule : Type 0
 MpintAtRule =
-    (s : List ℕ) (at f t : ℕ) (k : Cursor)
-    → (mpintAt s at ≡ Whole f t k) ↔ ((stringAt s at ≡ Whole f t k) × (mpint (cutOf s f t) ≡ true))
+    (s : List ℕ) (at : ℕ) (v : Span) (next : ℕ)
+    → (partReads (mpintAt s at) ≡ read v next) ↔ ((partReads (stringAt s at) ≡ read v next) × (mpint (cutOf s (v .from) (v .to)) ≡ true))
+
+-- no string, and a string that is no such mpint, is a fault at the start of its length
+abbrev pub MpintFault : Type 0
+MpintFault = (s : List ℕ) (at place : ℕ) → partReads (mpintAt s at) ≡ fault place → place ≡ at
 
 -- ## Comparison and writing
 
