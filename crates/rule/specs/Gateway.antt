@@ -1,0 +1,112 @@
+-- The gateway in 01's words ("Table, store and clock"), with no bytes: layout is the table's.
+use Prim.Native.Nat.{ℕ, suc, _+_, _-_, _*_, max}
+use mathlib.Core.Bool.{Bool, true, false, not}
+use mathlib.Core.Option.{Option, none, some}
+use mathlib.Core.List.{List, [], _∷_, map}
+use lib.ListN.{length, replicate, set}
+use lib.Dec.{leb, ltb}
+use Rattle.wire.specs.declared.Seconds.{Seconds}
+use Rattle.wire.specs.Read.{same}
+use Rattle.wire.specs.Steps.{so}
+use Rattle.keys.specs.declared.constraints.Lifetime.{Lifetime}
+use Rattle.keys.specs.declared.constraints.Lifetime.the-variants.{Forever, For}
+use Rattle.rule.specs.declared.Found.{Found}
+use Rattle.rule.specs.declared.Found.the-variants.{At, Nothing}
+
+-- "An entry has an insertion number, the reading at insertion, perhaps a lifetime, and Confirm or not", and the key's two byte strings
+pub record Entry : Type 0 where
+  pub number : ℕ
+  pub reading : ℕ
+  pub lifetime : Lifetime
+  pub confirm : Bool
+  pub blob : List ℕ
+  pub fields : List ℕ
+
+-- a place is free or holds an entry
+abbrev pub Place : Type 0
+Place = Option Entry
+
+pub record Gateway : Type 0 where
+  pub places : List Place
+  pub lock : List ℕ  -- the passphrase, empty while open
+  pub clock : ℕ  -- the kept clock, in milliseconds
+  pub next : ℕ  -- the next insertion number
+
+-- "Fresh: all zero, next insertion number 1."
+abbrev pub fresh : Gateway
+fresh = record { places = replicate 8 none; lock = []; clock = 0; next = 1 }
+
+-- "Locked means length above 0."
+abbrev pub locked : Gateway → Bool
+locked g = ltb 0 (length (g .lock))
+
+abbrev pub opened : Gateway → Bool
+opened g = not (locked g)
+
+-- ## Clock and expiry
+
+-- "Lifetimes count seconds and the clock counts milliseconds."
+abbrev pub millisOf : Seconds → ℕ
+millisOf seconds = seconds .count * 1000
+
+-- "an entry with lifetime L is removed .. if clock minus insertion reading is at least 1,000 L"
+unfoldable pub dueAt : ℕ → ℕ → Lifetime → Bool
+dueAt clock reading Forever = false
+dueAt clock reading (For seconds) = leb (millisOf seconds) (clock - reading)
+
+unfoldable pub lasting : ℕ → Place → Place
+lasting clock none = none
+lasting clock (some e) = so (some e) (dueAt clock (e .reading) (e .lifetime)) none
+
+unfoldable pub atClock : ℕ → Gateway → Gateway
+atClock clock g = record { places = map (lasting clock) (g .places); lock = g .lock; clock = clock; next = g .next }
+
+-- "An accepted call first raises the kept clock to its reading; a lower reading counts as the kept one. Then each entry .. is removed"
+unfoldable pub advance : ℕ → Gateway → Gateway
+advance reading g = atClock (max (g .clock) reading) g
+
+-- ## Places
+
+-- the first place, from number i on, that passes a test
+abbrev pub seek : (Place → Bool) → ℕ → List Place → Found
+seek test i [] = Nothing
+seek test i (p ∷ ps) = so (seek test (suc i) ps) (test p) (At i)
+
+abbrev pub holds : List ℕ → Place → Bool
+holds blob none = false
+holds blob (some e) = same (e .blob) blob
+
+abbrev pub isFree : Place → Bool
+isFree none = true
+isFree (some e) = false
+
+-- going on by where a search ended
+unfoldable pub found : {A : Type 0} → A → Found → (ℕ → A) → A
+found z (At i) next = next i
+found z Nothing next = z
+
+-- "A held blob is replaced in its place ..; a new one takes the lowest free place."
+unfoldable pub placeFor : List ℕ → List Place → Found
+placeFor blob ps = found (seek isFree 0 ps) (seek (holds blob) 0 ps) At
+
+-- ## New states
+
+abbrev pub withPlaces : List Place → Gateway → Gateway
+withPlaces ps g = record { places = ps; lock = g .lock; clock = g .clock; next = g .next }
+
+abbrev pub withLock : List ℕ → Gateway → Gateway
+withLock passphrase g = record { places = g .places; lock = passphrase; clock = g .clock; next = g .next }
+
+-- "removed", of one place and of all
+abbrev pub without : ℕ → Gateway → Gateway
+without i g = withPlaces (set (g .places) i none) g
+
+abbrev pub vacate : Place → Place
+vacate p = none
+
+abbrev pub withoutAll : Gateway → Gateway
+withoutAll g = withPlaces (map vacate (g .places)) g
+
+-- "stored, next number taken"
+abbrev pub withEntry : ℕ → Entry → Gateway → Gateway
+withEntry i e g = record { places = set (g .places) i (some e); lock = g .lock; clock = g .clock; next = g .next + 1 }

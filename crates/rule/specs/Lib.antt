@@ -1,0 +1,5 @@
+pub mod Gateway
+pub mod Soundness
+pub mod Rule
+pub mod Calls
+pub mod Runs

@@ -1,0 +1,77 @@
+-- 01's soundness, as far as it is not byte layout: as facts, and as the test that refusal 3 makes.
+use Prim.Native.Nat.{ℕ, _≤_, _<_, _^_}
+use mathlib.Core.Path.{_≡_}
+use mathlib.Core.Logic.{_≢_}
+use mathlib.Core.Bool.{Bool, true, false, _&&_, not}
+use mathlib.Core.Option.{Option, none, some}
+use mathlib.Core.List.{List, [], _∷_}
+use lib.ListN.{length}
+use lib.Dec.{leb, ltb, eqb}
+use Rattle.wire.specs.Read.{same}
+use Rattle.rule.specs.Gateway.{Entry, Place, Gateway}
+
+-- the greatest insertion number there is, of 64 bits
+abbrev pub lastNumber : ℕ
+lastNumber = 0xFFFF_FFFF_FFFF_FFFF
+
+-- ## The facts
+
+abbrev pub EveryEntry : (Entry → Type 0) → List Place → Type 0
+EveryEntry P [] = Unit {0}
+EveryEntry P (none ∷ ps) = EveryEntry P ps
+EveryEntry P (some e ∷ ps) = P e × EveryEntry P ps
+
+-- "blobs distinct, insertion numbers distinct"
+pub record Apart (e x : Entry) : Type 0 where
+  pub blobs : e .blob ≢ x .blob
+  pub numbers : e .number ≢ x .number
+
+abbrev pub Distinct : List Place → Type 0
+Distinct [] = Unit {0}
+Distinct (none ∷ ps) = Distinct ps
+Distinct (some e ∷ ps) = EveryEntry (Apart e) ps × Distinct ps
+
+pub record SoundEntry (clock next : ℕ) (e : Entry) : Type 0 where
+  pub blob-some : 1 ≤ length (e .blob)
+  pub blob-fits : length (e .blob) ≤ 1024
+  pub fields-some : 1 ≤ length (e .fields)
+  pub fields-fit : length (e .fields) ≤ 3072
+  pub number-first : 1 ≤ e .number
+  pub number-taken : e .number < next
+  pub reading-past : e .reading ≤ clock
+
+pub record Sound (g : Gateway) : Type 0 where
+  pub eight-places : length (g .places) ≡ 8
+  pub entries : EveryEntry (SoundEntry (g .clock) (g .next)) (g .places)
+  pub distinct : Distinct (g .places)
+  pub lock-fits : length (g .lock) ≤ 1024
+  pub next-first : 1 ≤ g .next
+  pub next-last : g .next ≤ lastNumber
+
+-- ## The test
+
+abbrev pub within : ℕ → ℕ → ℕ → Bool
+within low high n = leb low n && leb n high
+
+unfoldable pub everyEntry : (Entry → Bool) → List Place → Bool
+everyEntry test [] = true
+everyEntry test (none ∷ ps) = everyEntry test ps
+everyEntry test (some e ∷ ps) = test e && everyEntry test ps
+
+abbrev pub apart : Entry → Entry → Bool
+apart e x = not (same (e .blob) (x .blob)) && not (eqb (e .number) (x .number))
+
+unfoldable pub distinct : List Place → Bool
+distinct [] = true
+distinct (none ∷ ps) = distinct ps
+distinct (some e ∷ ps) = everyEntry (apart e) ps && distinct ps
+
+abbrev pub soundEntry : ℕ → ℕ → Entry → Bool
+soundEntry clock next e =
+    (within 1 1024 (length (e .blob)) && within 1 3072 (length (e .fields)))
+    && ((leb 1 (e .number) && ltb (e .number) next) && leb (e .reading) clock)
+
+unfoldable pub sound : Gateway → Bool
+sound g =
+    (eqb (length (g .places)) 8 && everyEntry (soundEntry (g .clock) (g .next)) (g .places))
+    && (distinct (g .places) && (leb (length (g .lock)) 1024 && within 1 lastNumber (g .next)))
