@@ -3,3 +3,5 @@ pub mod Soundness
 pub mod Rule
 pub mod Calls
 pub mod Runs
+pub mod Order
+pub mod Content

@@ -33,7 +33,7 @@ module _ (base : ℕ) where
 tail-bytes : (a : ℕ) (v : List ℕ) → Bytes (a ∷ v) → Bytes v
 tail-bytes a v h i = h (suc i)
 
-value-below : (v : List ℕ) → Bytes v → value v < 256 ^ length v
+pub value-below : (v : List ℕ) → Bytes v → value v < 256 ^ length v
 unfolding value
 value-below [] h = omega arith
 value-below (a ∷ v) h = rw pow-succ' (digit-below (256 ^ length v) a 256 (value v) (h 0) (value-below v (tail-bytes a v h)))
@@ -57,7 +57,7 @@ value-one (a ∷ v) (b ∷ w) hv hw l e =
 abbrev Needed : ℕ → ℕ → Type 0
 Needed a b = a ≡ 0 → 128 ≤ b
 
-needed-above : (v : List ℕ) → Needed (getD v 0 0) (getD v 1 0) → 256 ^ length v ≤ 512 * value v
+pub needed-above : (v : List ℕ) → Needed (getD v 0 0) (getD v 1 0) → 256 ^ length v ≤ 512 * value v
 unfolding value
 needed-above [] h = omega (arith, h refl)
 needed-above (zero ∷ []) h = omega (arith, h refl)
@@ -69,7 +69,7 @@ unfolding value
 clear-below [] h k = omega arith
 clear-below (a ∷ v) h k = rw pow-succ' (omega (arith, digit-below (256 ^ length v) a 128 (value v) k (value-below v (tail-bytes a v h))))
 
-no-shorter : (k l n : ℕ) → 256 ^ k ≤ 512 * n → 2 * n < 256 ^ l → k ≤ l
+pub no-shorter : (k l n : ℕ) → 256 ^ k ≤ 512 * n → 2 * n < 256 ^ l → k ≤ l
 no-shorter k l n low high = by-contra k l (λ h. omega (arith, pow-le-pow-right {n = 256} (zero-lt-suc 255) h))
 
 -- ## The test
@@ -102,7 +102,7 @@ accepted v h k m = (
   },
 )
 
-needed : (v : List ℕ) (n : ℕ) → 0 < n → Shortest v n → Needed (getD v 0 0) (getD v 1 0)
+pub needed : (v : List ℕ) (n : ℕ) → 0 < n → Shortest v n → Needed (getD v 0 0) (getD v 1 0)
 unfolding value
 needed [] n h s e = omega arith
 needed (suc a ∷ v) n h s e = omega arith

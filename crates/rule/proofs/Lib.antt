@@ -1,0 +1,4 @@
+pub mod Cases
+pub mod Clock
+pub mod Plans
+pub mod Effects

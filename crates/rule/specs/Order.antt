@@ -1,0 +1,219 @@
+-- The promises of order, as statements: demand 3, the time between a lock and an unlock, what each outcome leaves, questions, soundness.
+use Prim.Native.Nat.{ℕ, suc, max, _≤_, _<_}
+use mathlib.Core.Path.{_≡_}
+use mathlib.Core.Logic.{_↔_, _⊎_, _≢_}
+use mathlib.Core.Bool.{Bool, true, false}
+use mathlib.Core.Option.{Option, none, some}
+use mathlib.Core.List.{List, [], _∷_}
+use lib.ListN.{length, getD}
+use Rattle.wire.specs.declared.read.Cursor.{Cursor}
+use Rattle.wire.specs.declared.read.Part.the-variants.{Whole}
+use Rattle.wire.specs.Read.{cutOf, stringAt}
+use Rattle.rule.specs.Gateway.{Gateway, fresh, locked, advance}
+use Rattle.rule.specs.Soundness.{Sound, sound}
+use Rattle.rule.specs.Rule.{Question, gate, check, confirmation, signature, Answer, Landing, reply, FAILURE, SUCCESS, Plan, land, ask, rule}
+use Rattle.rule.specs.Calls.{given, lent, Frame, Call, refusal, Outcome, refused, asks, lands, call}
+use Rattle.rule.specs.Runs.{heard, greatest, Turn, turns, endOf, landings, Oracle, oneAtATime, oneAtATimeEnd}
+
+-- ## Demand 3
+
+-- of every accepted call of a run; refused calls drop out
+abbrev pub EveryAccepted : (Call → Type 0) → Gateway → List Call → Type 0
+EveryAccepted P g [] = Unit {0}
+EveryAccepted P g (c ∷ cs) = (refusal g c ≡ none → P c) × EveryAccepted P (call g c .gateway) cs
+
+abbrev pub EveryTurn : (Turn → Type 0) → List Turn → Type 0
+EveryTurn P [] = Unit {0}
+EveryTurn P (t ∷ ts) = P t × EveryTurn P ts
+
+-- each answer that is lent is the oracle's
+abbrev pub Agrees : ((q : Question) → Option (Answer q)) → Oracle → Type 0
+Agrees lent oracle = (q : Question) (a : Answer q) → lent q ≡ some a → oracle q ≡ a
+
+-- have accepted calls only asked since the last landing?
+unfoldable pub asked : Bool → Outcome → Bool
+asked before (refused n) = before
+asked before (asks q) = true
+asked before (lands l) = false
+
+unfoldable pub askedIn : Bool → Gateway → List Call → Bool
+askedIn before g [] = before
+askedIn before g (c ∷ cs) = askedIn (asked before (call g c .outcome)) (call g c .gateway) cs
+
+unfoldable pub settled : Bool → ℕ → Gateway → Gateway
+settled false reading g = g
+settled true reading g = advance reading g
+
+module _ (frameOf : Call → Frame) (oracleOf : Call → Oracle) where
+  -- the call brings its request's frame, and the answers lent to it are those that its request's questions get
+  pub record Keeps (c : Call) : Type 0 where
+    pub frame : c .frame ≡ frameOf c
+    pub one-answer : Agrees (lent (c .answers)) (oracleOf c)
+
+  -- The run's landings are those of the one-at-a-time rule run in landing order, each landing at the greatest reading accepted so far (the
+  -- turn's reading). The end states are the same once the greatest reading accepted in the run is applied to both; exactly: the run's is
+  -- the other, advanced if accepted calls have only asked since the last landing.
+  pub record AsOneAtATime (g : Gateway) (cs : List Call) : Type 0 where
+    pub replies : landings (turns g cs) ≡ oneAtATime frameOf oracleOf g (turns g cs)
+    pub end-states : advance (greatest g cs) (endOf g cs) ≡ advance (greatest g cs) (oneAtATimeEnd frameOf oracleOf g (turns g cs))
+    pub exactly : endOf g cs ≡ settled (askedIn false g cs) (greatest g cs) (oneAtATimeEnd frameOf oracleOf g (turns g cs))
+
+-- the oracle that gives what a call is lent, and else says no and gives nothing
+unfoldable pub refusing : Oracle
+refusing (gate class) = false
+refusing (check from to) = false
+refusing (confirmation n) = false
+refusing (signature n from to hash) = none
+
+unfoldable pub lentOr : ((q : Question) → Option (Answer q)) → Oracle → Oracle
+lentOr lent other q = given (lent q) (other q) λ a. a
+
+abbrev pub ownFrame : Call → Frame
+ownFrame c = c .frame
+
+abbrev pub ownAnswers : Call → Oracle
+ownAnswers c = lentOr (lent (c .answers)) refusing
+
+-- "the one-at-a-time run gets the answers lent at the landing": of any run, with no hypothesis
+abbrev pub AsLent : Type 0
+AsLent = (g : Gateway) (cs : List Call) → AsOneAtATime ownFrame ownAnswers g cs
+
+-- "each request keeps its frame, and a question asked twice within it gets one answer": frame and oracle go by the request
+abbrev pub Demand3 : Type 0
+Demand3 =
+    (frames : ℕ → Frame) (oracles : ℕ → Oracle) (g : Gateway) (cs : List Call) → Sound g
+    → EveryAccepted (Keeps (λ c. frames (c .request)) (λ c. oracles (c .request))) g cs
+    → AsOneAtATime (λ c. frames (c .request)) (λ c. oracles (c .request)) g cs
+
+-- the run without its refused calls
+unfoldable pub acceptedOf : Gateway → List Call → List Call
+acceptedOf g [] = []
+acceptedOf g (c ∷ cs) = given (refusal g c) (c ∷ acceptedOf (call g c .gateway) cs) λ n. acceptedOf (call g c .gateway) cs
+
+pub record DropsOut (g : Gateway) (cs : List Call) : Type 0 where
+  pub landings-stay : turns g (acceptedOf g cs) ≡ turns g cs
+  pub end-stays : endOf g (acceptedOf g cs) ≡ endOf g cs
+  pub greatest-stays : greatest g (acceptedOf g cs) ≡ greatest g cs
+
+abbrev pub RefusedDropOut : Type 0
+RefusedDropOut = (g : Gateway) (cs : List Call) → DropsOut g cs
+
+-- where readings never fall, each landing is at its own call's reading
+unfoldable pub NeverFall : ℕ → Gateway → List Call → Type 0
+NeverFall m g [] = Unit {0}
+NeverFall m g (c ∷ cs) = (refusal g c ≡ none → m ≤ c .reading) × NeverFall (heard m g c) (call g c .gateway) cs
+
+abbrev pub OwnReadings : Type 0
+OwnReadings = (g : Gateway) (cs : List Call) → NeverFall 0 g cs → EveryTurn (λ t. t .reading ≡ t .by .reading) (turns g cs)
+
+-- ## Between a non-empty lock's success and the next unlock's success
+
+-- the first byte of a payload that has one
+pub record Begins (byte : ℕ) (payload : List ℕ) : Type 0 where
+  pub some-byte : 0 < length payload
+  pub first : getD payload 0 0 ≡ byte
+
+-- the string behind the first byte is v
+pub record Carries (v payload : List ℕ) : Type 0 where
+  pub from : ℕ
+  pub to : ℕ
+  pub next : Cursor
+  pub read : stringAt payload 1 ≡ Whole from to next
+  pub is : cutOf payload from to ≡ v
+
+-- no landing is an unlock's success
+abbrev pub NoUnlocking : List Turn → Type 0
+NoUnlocking ts = EveryTurn (λ t. ¬ (Begins 23 (t .by .frame .payload) × (t .landing ≡ SUCCESS))) ts
+
+-- every question of a run
+abbrev pub EveryQuestion : (Call → Question → Type 0) → Gateway → List Call → Type 0
+EveryQuestion P g [] = Unit {0}
+EveryQuestion P g (c ∷ cs) = ((q : Question) → call g c .outcome ≡ asks q → P c q) × EveryQuestion P (call g c .gateway) cs
+
+-- has a call been accepted?
+unfoldable pub someAccepted : Bool → Gateway → List Call → Bool
+someAccepted before g [] = before
+someAccepted before g (c ∷ cs) = someAccepted (given (refusal g c) true λ n. before) (call g c .gateway) cs
+
+-- every landing is FAILURE; no key arrives, keys leave only by expiry, nothing else changes; nothing is asked but the gate for an unlock
+pub record OnlyExpiry (before : Gateway) (cs : List Call) : Type 0 where
+  pub all-fail : EveryTurn (λ t. t .landing ≡ FAILURE) (turns before cs)
+  pub only-expiry : advance (greatest before cs) (endOf before cs) ≡ advance (greatest before cs) before
+  pub exactly : endOf before cs ≡ settled (someAccepted false before cs) (greatest before cs) before
+  pub only-gate-7 : EveryQuestion (λ c q. (q ≡ gate 7) × Begins 23 (c .frame .payload)) before cs
+
+abbrev pub WhileLocked : Type 0
+WhileLocked = (g : Gateway) (cs : List Call) → locked g ≡ true → NoUnlocking (turns g cs) → OnlyExpiry g cs
+
+-- a LOCK's success stores its passphrase, whole
+abbrev pub LockStores : Type 0
+LockStores =
+    (g : Gateway) (c : Call) (passphrase : List ℕ) → Begins 22 (c .frame .payload) → Carries passphrase (c .frame .payload)
+    → call g c .outcome ≡ lands SUCCESS → call g c .gateway .lock ≡ passphrase
+
+abbrev pub BetweenLockAndUnlock : Type 0
+BetweenLockAndUnlock =
+    (g : Gateway) (c : Call) (passphrase : List ℕ) → Begins 22 (c .frame .payload) → Carries passphrase (c .frame .payload) → 0 < length passphrase
+    → call g c .outcome ≡ lands SUCCESS
+    → (cs : List Call) → NoUnlocking (turns (call g c .gateway) cs) → OnlyExpiry (call g c .gateway) cs
+
+-- ## What each outcome leaves
+
+-- "Questions and closing alter nothing but clock and expiry, nor does FAILURE", nor any landing but SUCCESS
+abbrev pub QuestionLeaves : Type 0
+QuestionLeaves = (g : Gateway) (c : Call) (q : Question) → call g c .outcome ≡ asks q → call g c .gateway ≡ advance (c .reading) g
+
+abbrev pub LandingLeaves : Type 0
+LandingLeaves = (g : Gateway) (c : Call) (l : Landing) → l ≢ SUCCESS → call g c .outcome ≡ lands l → call g c .gateway ≡ advance (c .reading) g
+
+-- "state, clock and all buffers unchanged"
+abbrev pub RefusalLeaves : Type 0
+RefusalLeaves = (g : Gateway) (c : Call) (n : ℕ) → refusal g c ≡ some n → call g c ≡ record { outcome = refused n; gateway = g }
+
+-- ## Questions
+
+-- with these answers the rule comes to this question
+pub data Needs (lent : (q : Question) → Option (Answer q)) : Plan → Question → Type 0 where
+  here : (q : Question) (onwards : Answer q → Plan) → Needs lent (ask q onwards) q
+  behind : (p : Question) (onwards : Answer p → Plan) (a : Answer p) (q : Question) → lent p ≡ some a → Needs lent (onwards a) q → Needs lent (ask p onwards) q
+
+-- "A question is asked exactly when the rule needs it and its answer is not lent."
+abbrev pub QuestionRule : Type 0
+QuestionRule =
+    (g : Gateway) (c : Call) (q : Question)
+    → (call g c .outcome ≡ asks q)
+    ↔ ((refusal g c ≡ none) × Needs (lent (c .answers)) (rule (advance (c .reading) g) (c .frame .payload)) q × (lent (c .answers) q ≡ none))
+
+-- how many questions the one-at-a-time rule asks
+unfoldable pub questions : Oracle → Plan → ℕ
+questions oracle (land l after) = 0
+questions oracle (ask q onwards) = suc (questions oracle (onwards (oracle q)))
+
+abbrev pub AtMostThree : Type 0
+AtMostThree = (oracle : Oracle) (g : Gateway) (payload : List ℕ) → questions oracle (rule g payload) ≤ 3
+
+-- ## Soundness, numbers, replies
+
+abbrev pub SoundRule : Type 0
+SoundRule = (g : Gateway) → (sound g ≡ true) ↔ Sound g
+
+abbrev pub FreshSound : Type 0
+FreshSound = Sound fresh
+
+abbrev pub CallsKeepSound : Type 0
+CallsKeepSound = (g : Gateway) (c : Call) → Sound g → Sound (call g c .gateway)
+
+-- from a sound gateway refusal 3 never occurs
+abbrev pub EveryOutcome : (Outcome → Type 0) → Gateway → List Call → Type 0
+EveryOutcome P g [] = Unit {0}
+EveryOutcome P g (c ∷ cs) = P (call g c .outcome) × EveryOutcome P (call g c .gateway) cs
+
+abbrev pub NeverRefused3 : Type 0
+NeverRefused3 = (g : Gateway) (cs : List Call) → Sound g → EveryOutcome (λ o. o ≢ refused 3) g cs × Sound (endOf g cs)
+
+abbrev pub NumbersOnlyRise : Type 0
+NumbersOnlyRise = (g : Gateway) (c : Call) → g .next ≤ call g c .gateway .next
+
+-- every reply fits the buffer that refusal 1 asks for
+abbrev pub RepliesFit : Type 0
+RepliesFit = (g : Gateway) (c : Call) (bytes : List ℕ) → Sound g → call g c .outcome ≡ lands (reply bytes) → length bytes ≤ 8265
