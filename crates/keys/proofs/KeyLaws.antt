@@ -1,11 +1,12 @@
 -- Key fields: what is read has the form of a kind and what has the form is read, by the laws of the single fields one after another; the blob is cut out of them.
 use Prim.Native.Nat.{ℕ, _+_, _^_, _<_}
-use mathlib.Core.Path.{_≡_, refl, sym, ap, _∙_}
+use mathlib.Core.Path.{_≡_, refl, sym, ap, subst, _∙_}
 use mathlib.Core.List.{List, [], _∷_, _++_, append-nil, append-assoc}
 use mathlib.Core.Bool.{Bool, true, false}
-use mathlib.Core.Logic.{_↔_}
+use mathlib.Core.Logic.{_↔_, _≢_}
+use mathlib.Core.Option.{Option, none, some}
 use native.Mathlib.Omega.{arith}
-use lib.ListN.{length, take, drop, length-append, length-take, take-append-drop}
+use lib.ListN.{length, take, drop, length-append, length-take, length-drop, take-append-drop}
 use Rattle.wire.specs.declared.read.Cursor.{Cursor}
 use Rattle.wire.specs.declared.read.Part.{Part}
 use Rattle.wire.specs.declared.read.Part.the-variants.{Whole}
@@ -20,7 +21,9 @@ use Rattle.keys.specs.declared.kinds.Places.{Places}
 use Rattle.keys.specs.declared.kinds.Key.{Key}
 use Rattle.keys.specs.Kinds.{kindOf, ed25519At, ecdsaAt, rsaSecretsAt, rsaAt, behindType, keyAt, blobOf}
 use Rattle.keys.specs.Forms.{Ed25519, ed25519-key, Curve, nistp256, nistp384, nistp521, ecdsaType, Ecdsa, ecdsa-key, Rsa, rsa-key, KeyFields, as-ed25519, as-nistp256, as-nistp384, as-nistp521, as-rsa}
-use Rattle.keys.specs.Promises.{Found, OnlyKeys, EveryKey, OneBlob}
+use Rattle.wire.specs.Values.{read}
+use Rattle.keys.specs.Values.{typeOf, keyReads}
+use Rattle.keys.specs.Promises.{KindRule, KeyRule, OneBlob}
 use Rattle.keys.proofs.FieldLaws.{Lies, lies-none, lies-join, lies-split, lies-cut, behind, At, Reads, string-stands, string-reads, inside, sized-reads, named-reads, mpint-reads, scalar-reads, point-reads}
 
 -- ## Steps
@@ -52,6 +55,12 @@ part-part (Part.Fault at) F G = refl
 
 -- ## What a key comes to
 
+-- the reader found these fields, where they end, and their blob
+pub record Found (s : List ℕ) (at : ℕ) (fields blob : List ℕ) (p : Places) : Type 0 where
+  pub read-so : keyAt s at ≡ Key.Whole p
+  pub end : p .end ≡ at + length fields
+  pub public : blobOf s at p ≡ blob
+
 -- key fields and their blob lie in s as p says
 record Laid (s : List ℕ) (at : ℕ) (fields blob : List ℕ) (p : Places) : Type 0 where
   lies : Lies s at fields (p .end)
@@ -78,7 +87,7 @@ key-typed a = rw (a .read, lies-cut (inside a))
 
 key-found : {s : List ℕ} {at : ℕ} {v fields blob : List ℕ} {p : Places} → At s at v → Laid s at fields blob p → behindType (kindOf v) s at (behind at v) ≡ Key.Whole p
     → (p : Places) × Found s at fields blob p
-key-found {p = p} a l e = (p, record { read = key-typed a ∙ e; end = l .lies .end; public = l .public })
+key-found {p = p} a l e = (p, record { read-so = key-typed a ∙ e; end = l .lies .end; public = l .public })
 
 -- ## Strings one after another
 
@@ -250,12 +259,13 @@ behind-in {p = p} v Kind.Nistp521 bytes-of a n e = any-kind (ecdsa-in bytes-of n
 behind-in {p = p} v Kind.Rsa bytes-of a n e = any-kind (rsa-in bytes-of p (rw n at a) (rw n at e)) (λ f b. as-rsa)
 behind-in v Kind.Other bytes-of a n e = let z : _≡_ {A = ℕ} 0 1 = cc in absurd (omega arith)
 
-pub only-keys : OnlyKeys
+pub only-keys : (s : List ℕ) (at : ℕ) (p : Places) → Bytes s → keyAt s at ≡ Key.Whole p
+    → (fields : List ℕ) × (blob : List ℕ) × KeyFields fields blob × (drop at s ≡ fields ++ drop (p .end) s) × Found s at fields blob p
 unfolding keyAt
 only-keys s at p bytes-of e =
     took (string-reads bytes-of) _ _ p e λ v a passed went.
     let (fields, blob, form, laid) = behind-in v (kindOf v) bytes-of a (named v) (sym (key-typed a) ∙ e) in
-    (fields, blob, form, laid .lies .shape, record { read = e; end = laid .lies .end; public = laid .public })
+    (fields, blob, form, laid .lies .shape, record { read-so = e; end = laid .lies .end; public = laid .public })
 
 every-form : {s : List ℕ} {at : ℕ} {fields blob rest : List ℕ} → Bytes s → KeyFields fields blob → Stand s at fields rest → (p : Places) × Found s at fields blob p
 unfolding kindOf same so
@@ -265,11 +275,52 @@ every-form bytes-of (as-nistp384 k) = ecdsa-out bytes-of nistp384 (λ next. refl
 every-form bytes-of (as-nistp521 k) = ecdsa-out bytes-of nistp521 (λ next. refl) k
 every-form bytes-of (as-rsa k) = rsa-out bytes-of k
 
-pub every-key : EveryKey
+pub every-key : (s : List ℕ) (at : ℕ) (fields blob rest : List ℕ) → Bytes s → KeyFields fields blob → length fields < 2 ^ 32
+    → drop at s ≡ fields ++ rest → (p : Places) × Found s at fields blob p
 every-key s at fields blob rest bytes-of k h e = every-form bytes-of k (record { shape = e; small = h })
 
 pub one-blob : OneBlob
 one-blob fields blob other bytes-of h k k′ =
     let (p, found) = every-key fields 0 fields blob [] bytes-of k h (sym (append-nil fields)) in
     let (p′, found′) = every-key fields 0 fields other [] bytes-of k′ h (sym (append-nil fields)) in
-    sym (found .public) ∙ ap (blobOf fields 0) (same-places (sym (found .read) ∙ found′ .read)) ∙ found′ .public
+    sym (found .public) ∙ ap (blobOf fields 0) (same-places (sym (found .read-so) ∙ found′ .read-so)) ∙ found′ .public
+
+-- an answer that reads so is this one
+read-whole : (s : List ℕ) (at : ℕ) (k : Key) (blob : List ℕ) (end : ℕ) → keyReads s at k ≡ read blob end → (p : Places) × (k ≡ Key.Whole p) × (blobOf s at p ≡ blob) × (p .end ≡ end)
+read-whole s at (Key.Whole p) blob end e = (p, refl, (cc), (cc))
+read-whole s at (Key.Fault place) blob end e = let z : _≡_ {A = ℕ} 0 1 = cc in absurd (omega arith)
+
+pub key-rule : KeyRule
+key-rule s at blob end bytes-of small = (
+  (λ e.
+      let (p, k, b, w) = read-whole s at (keyAt s at) blob end e in
+      let (fields, other, form, shape, found) = only-keys s at p bytes-of k in
+      let same-blob : other ≡ blob = sym (found .public) ∙ b in
+      (fields, subst (KeyFields fields) same-blob form, shape ∙ ap (λ (i : ℕ). fields ++ drop i s) w, sym w ∙ found .end)),
+  (λ r.
+      let (fields, form, shape, w) = r in
+      let l = simp (length-drop, length-append) at (ap length shape) in
+      let (p, found) = every-key s at fields blob (drop end s) bytes-of form (omega arith) shape in
+      rw (found .read-so, found .public, found .end, w)),
+)
+
+-- the kind that a type names
+kind-in : (k : Kind) (v : List ℕ) → k ≢ Kind.Other → Named k v → typeOf k ≡ some v
+kind-in Kind.Ed25519 v n e = ap some (sym e)
+kind-in Kind.Nistp256 v n e = ap some (sym e)
+kind-in Kind.Nistp384 v n e = ap some (sym e)
+kind-in Kind.Nistp521 v n e = ap some (sym e)
+kind-in Kind.Rsa v n e = ap some (sym e)
+kind-in Kind.Other v n e = absurd (n refl)
+
+kind-out : (k : Kind) (v : List ℕ) → typeOf k ≡ some v → kindOf v ≡ k
+unfolding kindOf same so
+kind-out Kind.Ed25519 v e = let h : v ≡ bytes "ssh-ed25519" = cc in rw h
+kind-out Kind.Nistp256 v e = let h : v ≡ bytes "ecdsa-sha2-nistp256" = cc in rw h
+kind-out Kind.Nistp384 v e = let h : v ≡ bytes "ecdsa-sha2-nistp384" = cc in rw h
+kind-out Kind.Nistp521 v e = let h : v ≡ bytes "ecdsa-sha2-nistp521" = cc in rw h
+kind-out Kind.Rsa v e = let h : v ≡ bytes "ssh-rsa" = cc in rw h
+kind-out Kind.Other v e = let z : _≡_ {A = ℕ} 0 1 = cc in absurd (omega arith)
+
+pub kind-rule : KindRule
+kind-rule v k n = ((λ e. kind-in k v n (rw e at (named v))), kind-out k v)

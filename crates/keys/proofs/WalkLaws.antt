@@ -3,6 +3,8 @@ use Prim.Native.Nat.{ℕ, suc, _+_, _-_, _<_, _≤_, _^_}
 use mathlib.Core.Path.{_≡_, refl, sym, ap, _∙_}
 use mathlib.Core.List.{List, [], _∷_, _++_}
 use mathlib.Core.Bool.{Bool, true, false, cond}
+use mathlib.Core.Logic.{_↔_}
+use mathlib.Core.Option.{some}
 use native.Mathlib.Omega.{arith}
 use native.Mathlib.Numerals.{add-one}
 use borrow.Author.Needs.{needs}
@@ -25,6 +27,7 @@ use Rattle.keys.specs.declared.constraints.Walk.{Walk}
 use Rattle.keys.specs.declared.constraints.Walk.the-variants.{Done, Duplicate, Unknown, Cut}
 use Rattle.keys.specs.Constraints.{once, walkOf, secondsOf}
 use Rattle.keys.specs.Forms.{constraintForms, Adds, none, lifetime, confirm}
+use Rattle.keys.specs.Values.{secondsIn, Limits, walkSays}
 use Rattle.keys.specs.Promises.{ConstraintRule}
 
 -- ## Steps of the walk
@@ -154,8 +157,31 @@ mutual
   seconds-forms at (w ∷ x ∷ y ∷ z ∷ s) c₀ l c bytes e =
       seconds-limit w x y z s c₀ bytes (walk-forms (at + 4) s (For (record { count = be w x y z })) c₀ l c (λ i. bytes (suc (suc (suc (suc i))))) e)
 
-pub constraint-rule : ConstraintRule
-constraint-rule at s l c bytes = (
+walk-rule : (at : ℕ) (s : List ℕ) (l : Lifetime) (c : Bool) → Bytes s
+    → (walkOf at s Forever false ≡ Done l c) ↔ ((cs : List Constraint) × (s ≡ constraintForms cs) × Adds Forever false cs l c)
+walk-rule at s l c bytes = (
   (λ e. let r = walk-forms at s Forever false l c bytes e in (r .cs, r .form, r .adds)),
   (λ r. rw (r .1) (forms-walk at (r .2))),
 )
+
+same-seconds : (l m : Lifetime) → secondsIn l ≡ secondsIn m → l ≡ m
+same-seconds Forever Forever e = refl
+same-seconds Forever (For n) e = let z : _≡_ {A = ℕ} 0 1 = cc in absurd (omega arith)
+same-seconds (For n) Forever e = let z : _≡_ {A = ℕ} 0 1 = cc in absurd (omega arith)
+same-seconds (For n) (For m) e = let h : n .count ≡ m .count = cc in ap {B = Lifetime} (λ (i : ℕ). For (record { count = i })) h
+
+-- a walk that says so ended so
+says-done : (w : Walk) (l : Lifetime) (c : Bool) → walkSays w ≡ some (record { seconds = secondsIn l; confirm = c }) → w ≡ Done l c
+says-done (Done m d) l c e =
+    let h : _≡_ {A = Limits} (record { seconds = secondsIn m; confirm = d }) (record { seconds = secondsIn l; confirm = c }) = cc in
+    let x : m ≡ l = same-seconds m l (ap (λ (r : Limits). r .seconds) h) in
+    let y : d ≡ c = ap (λ (r : Limits). r .confirm) h in
+    cc
+says-done (Duplicate at) l c e = let z : _≡_ {A = ℕ} 0 1 = cc in absurd (omega arith)
+says-done (Unknown at) l c e = let z : _≡_ {A = ℕ} 0 1 = cc in absurd (omega arith)
+says-done (Cut at) l c e = let z : _≡_ {A = ℕ} 0 1 = cc in absurd (omega arith)
+
+pub constraint-rule : ConstraintRule
+constraint-rule at s l c bytes =
+    let r = walk-rule at s l c bytes in
+    ((λ e. r .0 (says-done (walkOf at s Forever false) l c e)), (λ x. ap walkSays (r .1 x)))
