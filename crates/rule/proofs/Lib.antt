@@ -2,3 +2,12 @@ pub mod Cases
 pub mod Clock
 pub mod Plans
 pub mod Effects
+pub mod PlaceLaws
+pub mod RefusalLaws
+pub mod Crossing
+pub mod Leavings
+pub mod Demands
+pub mod LockedRuns
+pub mod SoundLaws
+pub mod ReplyLaws
+pub mod QuestionLaws

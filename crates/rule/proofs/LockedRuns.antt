@@ -1,0 +1,206 @@
+-- Between a lock and an unlock: what the rule does while locked, a run of it, and the lock's success.
+use Prim.Native.Nat.{ℕ, _-_, max, zero-le}
+use mathlib.Core.Path.{_≡_, refl}
+use mathlib.Core.Bool.{Bool, true, false}
+use mathlib.Core.Option.{Option, none}
+use mathlib.Core.List.{List, [], _∷_, _++_}
+use borrow.Author.Tests.{ltb-true, lt-ltb, eqb-true}
+use lib.ListN.{length}
+use lib.Dec.{leb, ltb, eqb}
+use Rattle.wire.specs.Steps.{so}
+use Rattle.wire.specs.Read.{cutOf, same, stringAt}
+use Rattle.rule.specs.Gateway.{Gateway, locked, opened, advance}
+use Rattle.rule.specs.Rule.{Question, gate, Answer, Landing, FAILURE, SUCCESS, Plan, land, ask, fails, locking, unlocking, gated, row, table, rule}
+use Rattle.rule.specs.Calls.{given, Call, asks, Result, call}
+use Rattle.rule.specs.Runs.{heard, heardIn, greatest, Turn, turn, turnsFrom, endOf, Landed, alone}
+use Rattle.rule.specs.Order.{EveryTurn, settled, ownAnswers, Begins, Carries, NoUnlocking, EveryQuestion, someAccepted, WhileLocked, LockStores, BetweenLockAndUnlock, Needs, here, behind}
+use Rattle.rule.proofs.Cases.{so-cases, part-cases}
+use Rattle.rule.proofs.Clock.{advance-lock}
+use Rattle.rule.proofs.Plans.{EveryLanding, alone-has, call-has, refused-not-asks}
+use Rattle.rule.proofs.Effects.{success-not-failure}
+use Rattle.rule.proofs.Crossing.{landingResult, heardBy, planOf, own-cases, Together, together, together-asked, advance-settled}
+use Rattle.rule.proofs.Leavings.{lands-not-asks}
+
+-- every question of a plan
+abbrev pub EveryAsk : (Question → Type 0) → Plan → Type 0
+EveryAsk A (land l after) = Unit {0}
+EveryAsk A (ask q onwards) = A q × ((a : Answer q) → EveryAsk A (onwards a))
+
+pub needs-has : (A : Question → Type 0) {answer : (q : Question) → Option (Answer q)} {plan : Plan} {q : Question} → Needs answer plan q → EveryAsk A plan → A q
+needs-has A (here q onwards) h = h .0
+needs-has A (behind p onwards a q e n) h = needs-has A n (h .1 a)
+
+-- ## The rule while locked
+
+data LockedLanding (g : Gateway) (payload : List ℕ) (l : Landing) (after : Gateway) : Type 0 where
+  stays : l ≡ FAILURE → after ≡ g → LockedLanding g payload l after
+  unlocks : Begins 23 payload → l ≡ SUCCESS → LockedLanding g payload l after
+
+abbrev Gate7 : List ℕ → Question → Type 0
+Gate7 payload q = (q ≡ gate 7) × Begins 23 payload
+
+module _ (g : Gateway) (h : locked g ≡ true) where
+  module _ (P : Plan → Type 0) where
+    shut-row : (first byte class : ℕ) (body below : Plan) → P (fails g) → P below → P (row g first byte (opened g) class body below)
+    unfolding row gated so
+    shut-row first byte class body below f b = so-cases P (eqb first byte) (λ _. rw h f) (λ _. b)
+
+    open-row : (first byte class : ℕ) (body : Plan) → P (fails g) → (first ≡ byte → P (ask (gate class) λ granted. so (fails g) granted body))
+        → P (row g first byte (locked g) class body (fails g))
+    unfolding row gated so
+    open-row first byte class body f b = so-cases P (eqb first byte) (λ e. rw h (b (eqb-true _ _ e))) (λ _. f)
+
+    -- the rule fails, or is at an unlock's gate
+    pub locked-cases : (payload : List ℕ) → P (fails g) → (Begins 23 payload → P (ask (gate 7) λ granted. so (fails g) granted (unlocking g payload))) → P (rule g payload)
+    unfolding rule table
+    locked-cases payload f unlock =
+        so-cases P (ltb 0 (length payload))
+        (λ some-byte.
+        shut-row _ 11 1 _ _ f
+        (shut-row _ 17 2 _ _ f
+        (shut-row _ 25 2 _ _ f
+        (shut-row _ 18 3 _ _ f
+        (shut-row _ 19 4 _ _ f
+        (shut-row _ 13 5 _ _ f
+        (shut-row _ 22 6 _ _ f
+        (open-row _ 23 7 _ f λ first. unlock (record { some-byte = ltb-true _ _ some-byte; first = first })))))))))
+        (λ _. f)
+
+  module _ (payload : List ℕ) where
+    abbrev Lands : Plan → Type 0
+    Lands = EveryLanding (LockedLanding g payload)
+
+    locked-lands : Lands (rule g payload)
+    unfolding unlocking
+    locked-lands =
+        locked-cases Lands payload (stays refl refl) λ begins granted.
+        so-cases Lands granted
+        (λ _.
+        part-cases Lands (stringAt payload 1) (λ _. stays refl refl) λ f t k _.
+        so-cases Lands (same (g .lock) (cutOf payload f t)) (λ _. unlocks begins refl) (λ _. stays refl refl))
+        (λ _. stays refl refl)
+
+    abbrev Asks : Plan → Type 0
+    Asks = EveryAsk (Gate7 payload)
+
+    locked-asks : Asks (rule g payload)
+    unfolding unlocking
+    locked-asks =
+        locked-cases Asks payload tt λ begins. (
+          (refl, begins),
+          λ granted.
+              so-cases Asks granted
+              (λ _. part-cases Asks (stringAt payload 1) (λ _. tt) λ f t k _. so-cases Asks (same (g .lock) (cutOf payload f t)) (λ _. tt) (λ _. tt))
+              (λ _. tt),
+        )
+
+-- ## A run while locked
+
+locked-advance : (r : ℕ) (g : Gateway) → locked g ≡ true → locked (advance r g) ≡ true
+locked-advance r g h = rw (advance-lock r g) h
+
+record Shut (before : Gateway) (ts : List Turn) (b : Bool) (reading : ℕ) (end : Gateway) (questions : Type 0) : Type 0 where
+  all-fail : EveryTurn (λ t. t .landing ≡ FAILURE) ts
+  exactly : end ≡ settled b reading before
+  only-gate-7 : questions
+
+abbrev Questions : Gateway → List Call → Type 0
+Questions = EveryQuestion (λ c. Gate7 (c .frame .payload))
+
+-- the run from a call on, by what the call gives
+From : List Call → Bool → ℕ → Gateway → Call → Option ℕ → Result → Type 0
+From cs b m before c o r =
+    NoUnlocking (turn (heardBy m c o) c (r .outcome) ++ turnsFrom (heardBy m c o) (r .gateway) cs)
+    → Shut before (turn (heardBy m c o) c (r .outcome) ++ turnsFrom (heardBy m c o) (r .gateway) cs)
+    (someAccepted (given o true λ n. b) (r .gateway) cs) (heardIn (heardBy m c o) (r .gateway) cs) (endOf (r .gateway) cs)
+    (((q : Question) → r .outcome ≡ asks q → Gate7 (c .frame .payload) q) × Questions (r .gateway) cs)
+
+abbrev Run : List Call → Bool → ℕ → Gateway → Gateway → Type 0
+Run cs b m g before =
+    NoUnlocking (turnsFrom m g cs) → Shut before (turnsFrom m g cs) (someAccepted b g cs) (heardIn m g cs) (endOf g cs) (Questions g cs)
+
+asked-while-locked : (cs : List Call) (b : Bool) (m : ℕ) (g before : Gateway) (c : Call) (q : Question) → Gate7 (c .frame .payload) q
+    → Run cs true (max m (c .reading)) g before
+    → From cs b m before c none (record { outcome = asks q; gateway = g })
+unfolding From turn
+asked-while-locked cs b m g before c q gated run no-unlocking =
+    let after = run no-unlocking in
+    record { all-fail = after .all-fail; exactly = after .exactly; only-gate-7 = (λ p e. let same : q ≡ p = cc in rw same at gated, after .only-gate-7) }
+
+landed-while-locked : (cs : List Call) (b : Bool) (m : ℕ) (g before : Gateway) (c : Call) (x : Landed) → LockedLanding g (c .frame .payload) (x .landing) (x .gateway)
+    → Run cs true (max m (c .reading)) g before
+    → From cs b m before c none (landingResult x)
+unfolding From turn
+landed-while-locked cs b m g before c x (unlocks begins s) run no-unlocking = absurd (no-unlocking .0 (begins, s))
+landed-while-locked cs b m g before c x (stays f e) run no-unlocking =
+    rw e
+    (let after = run (rw e at (no-unlocking .1)) in
+    record { all-fail = (f, after .all-fail); exactly = after .exactly; only-gate-7 = (λ q never. absurd (lands-not-asks _ q never), after .only-gate-7) })
+
+stays-locked : (cs : List Call) (b : Bool) (m : ℕ) (g before : Gateway) → Together b m g before → locked g ≡ true → Run cs b m g before
+unfolding turnsFrom heardIn endOf someAccepted heard turn From
+stays-locked [] b m g before t h = λ _. record { all-fail = tt; exactly = t .same; only-gate-7 = tt }
+stays-locked (c ∷ cs) b m g before t h =
+    let now = advance (c .reading) g in
+    let l = locked-advance (c .reading) g h in
+    let run = stays-locked cs true (max m (c .reading)) now before (together-asked b m (c .reading) g before t) l in
+    own-cases g c (From cs b m before c)
+    (λ n no-unlocking.
+    let after = stays-locked cs b m g before t h no-unlocking in
+    record { all-fail = after .all-fail; exactly = after .exactly; only-gate-7 = (λ q never. absurd (refused-not-asks n q never), after .only-gate-7) })
+    (λ q needs. asked-while-locked cs b m now before c q (needs-has (Gate7 (c .frame .payload)) needs (locked-asks now l (c .frame .payload))) run)
+    (landed-while-locked cs b m now before c (alone (ownAnswers c) (planOf g c))
+    (alone-has (LockedLanding now (c .frame .payload)) (ownAnswers c) (planOf g c) (locked-lands now l (c .frame .payload))) run)
+
+pub while-locked : WhileLocked
+while-locked g cs h no-unlocking =
+    let run = stays-locked cs false 0 g g (together 0 g zero-le) h no-unlocking in
+    record {
+      all-fail = run .all-fail;
+      only-expiry = rw (run .exactly) (advance-settled (someAccepted false g cs) (greatest g cs) g);
+      exactly = run .exactly;
+      only-gate-7 = run .only-gate-7;
+    }
+
+-- ## The lock's success
+
+lock-row : (g : Gateway) (payload : List ℕ) → Begins 22 payload → rule g payload ≡ gated g (opened g) 6 (locking g payload)
+unfolding rule table row so
+lock-row g payload begins = rw (lt-ltb _ _ (begins .some-byte), begins .first)
+
+abbrev Stored : List ℕ → Landing → Gateway → Type 0
+Stored passphrase l after = l ≡ SUCCESS → after .lock ≡ passphrase
+
+module _ (g : Gateway) (payload passphrase : List ℕ) (carries : Carries passphrase payload) where
+  abbrev Stores : Plan → Type 0
+  Stores = EveryLanding (Stored passphrase)
+
+  failure-stores : Stores (fails g)
+  failure-stores e = absurd (success-not-failure e refl)
+
+  locking-stores : Stores (locking g payload)
+  unfolding locking
+  locking-stores =
+      part-cases Stores (stringAt payload 1) (λ _. failure-stores) λ f t k e.
+      so-cases Stores (leb (t - f) 1024)
+      (λ _ _. let from : f ≡ carries .from = cc in let to : t ≡ carries .to = cc in rw (from, to) (carries .is))
+      (λ _. failure-stores)
+
+  lock-row-stores : Begins 22 payload → Stores (rule g payload)
+  unfolding gated
+  lock-row-stores begins =
+      rw (lock-row g payload begins)
+      (so-cases Stores (opened g)
+      (λ _ granted. so-cases Stores granted (λ _. locking-stores) (λ _. failure-stores))
+      (λ _. failure-stores))
+
+pub lock-stores : LockStores
+lock-stores g c passphrase begins carries e =
+    call-has (Stored passphrase) g c SUCCESS
+    (lock-row-stores (advance (c .reading) g) (c .frame .payload) passphrase carries begins)
+    e refl
+
+pub between-lock-and-unlock : BetweenLockAndUnlock
+between-lock-and-unlock g c passphrase begins carries some-byte e cs =
+    let stored = lock-stores g c passphrase begins carries e in
+    while-locked (call g c .gateway) cs (rw stored (lt-ltb _ _ some-byte))
