@@ -11,3 +11,4 @@ pub mod LockedRuns
 pub mod SoundLaws
 pub mod ReplyLaws
 pub mod QuestionLaws
+pub mod Starred

@@ -5,3 +5,4 @@ pub mod Calls
 pub mod Runs
 pub mod Order
 pub mod Content
+pub mod Examples

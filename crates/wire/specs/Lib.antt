@@ -7,4 +7,5 @@ pub mod Mpint
 pub mod Read
 pub mod Values
 pub mod Write
+pub mod Frames
 pub mod Promises

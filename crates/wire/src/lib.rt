@@ -14,3 +14,10 @@ pub enum Constraint {
     KeyLifetime { seconds: Seconds },
     Confirm,
 }
+
+// What the first bytes of a connection hold.
+pub enum Split {
+    MoreNeeded,
+    TooLong,
+    Frame,
+}

@@ -1,0 +1,41 @@
+-- 01's starred examples, by computation.
+use mathlib.Core.Path.{refl}
+use native.Mathlib.Omega.{arith}
+use Rattle.wire.specs.Numbers.{beAt}
+use Rattle.wire.specs.Read.{cutOf, same, numberAt, stringAt}
+use Rattle.wire.specs.Steps.{so, part, number}
+use Rattle.wire.specs.Frames.{splitOf}
+use Rattle.rule.specs.Gateway.{dueAt, lasting, atClock, advance, found}
+use Rattle.rule.specs.Soundness.{everyEntry, distinct, sound}
+use Rattle.rule.specs.Rule.{live, items, listed, listing, removing, removingAll, locking, unlocking, hashOf, signed, signingData, confirming, signing, gated, row, table, rule}
+use Rattle.rule.specs.Calls.{forNumber, lent, lentLength, refusalOf, follow, served, refusal, call}
+use Rattle.rule.specs.Runs.{heard, heardIn, turn, turnsFrom, endOf}
+use Rattle.rule.specs.Examples.{StarredExamples, lockedAb, oneKey}
+use Rattle.rule.proofs.SoundLaws.{fresh-sound, sound-rule}
+
+pub starred-examples : StarredExamples
+unfolding beAt cutOf same numberAt stringAt so part number splitOf dueAt lasting atClock advance found everyEntry distinct sound live items listed listing removing removingAll locking unlocking hashOf signed signingData confirming signing gated row table rule forNumber lent lentLength refusalOf follow served refusal call heard heardIn turn turnsFrom endOf
+starred-examples = record {
+  fresh-sound = fresh-sound;
+  locked-sound = sound-rule lockedAb .0 refl;
+  one-key-sound = sound-rule oneKey .0 refl;
+  empty-payload = refl;
+  fresh-list = refl;
+  lock-empty = refl;
+  lock-ab = refl;
+  then-list = refl;
+  then-unlock-ac = refl;
+  then-unlock-ab = refl;
+  lock-cut = refl;
+  sign-cut = refl;
+  sign-absent = refl;
+  flags-6 = refl;
+  flags-4 = refl;
+  flags-1 = refl;
+  first-asks = refl;
+  second-asks = refl;
+  two-locks = refl;
+  first-holds = refl;
+  more-needed = refl;
+  too-long = refl;
+}

@@ -1,0 +1,83 @@
+-- 01's starred examples, as one statement. Where 01 says "then", the state is the one that the call before it left.
+use Prim.Native.Nat.{ℕ}
+use mathlib.Core.Path.{_≡_}
+use mathlib.Core.Bool.{true, false}
+use mathlib.Core.Option.{none, some}
+use mathlib.Core.List.{List, [], _∷_}
+use lib.ListN.{replicate}
+use Rattle.wire.specs.declared.Split.the-variants.{MoreNeeded, TooLong}
+use Rattle.wire.specs.Frames.{splitOf}
+use Rattle.keys.specs.declared.constraints.Lifetime.the-variants.{Forever}
+use Rattle.rule.specs.declared.Hash.{Hash}
+use Rattle.rule.specs.declared.Hash.the-variants.{Plain, Sha256, Sha512}
+use Rattle.rule.specs.Gateway.{Gateway, fresh}
+use Rattle.rule.specs.Soundness.{Sound}
+use Rattle.rule.specs.Rule.{gate, signature, reply, close, FAILURE, SUCCESS}
+use Rattle.rule.specs.Calls.{Answers, nothingLent, Call, Outcome, asks, lands, call}
+use Rattle.rule.specs.Runs.{turns, endOf, landings}
+
+-- a call of a request at reading 0, with room for every reply
+abbrev pub lending : ℕ → Answers → List ℕ → Call
+lending request answers payload = record { request = request; frame = record { payload = payload }; reading = 0; answers = answers; buffer = 8265; store = 32768 }
+
+abbrev pub gateYes : Answers
+gateYes = record { gate = some true; check = none; confirmation = none; signature = none }
+
+abbrev pub unasked : List ℕ → Call
+unasked payload = lending 0 nothingLent payload
+
+abbrev pub pastGate : List ℕ → Call
+pastGate payload = lending 0 gateYes payload
+
+abbrev pub lockAb : List ℕ
+lockAb = 0x16 ∷ 0 ∷ 0 ∷ 0 ∷ 2 ∷ 0x61 ∷ 0x62 ∷ []
+
+abbrev pub lockCd : List ℕ
+lockCd = 0x16 ∷ 0 ∷ 0 ∷ 0 ∷ 2 ∷ 0x63 ∷ 0x64 ∷ []
+
+-- the fresh gateway, locked with "ab"
+abbrev pub lockedAb : Gateway
+lockedAb = record { places = replicate 8 none; lock = 0x61 ∷ 0x62 ∷ []; clock = 0; next = 1 }
+
+-- one key, held under the blob 61, and a request for its signature over no data
+abbrev pub oneKey : Gateway
+oneKey = record {
+  places = some (record { number = 1; reading = 0; lifetime = Forever; confirm = false; blob = 0x61 ∷ []; fields = 0 ∷ [] }) ∷ replicate 7 none;
+  lock = [];
+  clock = 0;
+  next = 2;
+}
+
+abbrev pub signWith : ℕ → List ℕ
+signWith flags = 0x0D ∷ 0 ∷ 0 ∷ 0 ∷ 1 ∷ 0x61 ∷ 0 ∷ 0 ∷ 0 ∷ 0 ∷ 0 ∷ 0 ∷ 0 ∷ flags ∷ []
+
+abbrev pub asksHash : Hash → Outcome
+asksHash hash = asks (signature 1 10 10 hash)
+
+-- two LOCKs cross: both ask the gate, both get their yes, and both land
+abbrev pub bothLand : List Call
+bothLand = lending 1 nothingLent lockAb ∷ lending 2 nothingLent lockCd ∷ lending 1 gateYes lockAb ∷ lending 2 gateYes lockCd ∷ []
+
+pub record StarredExamples : Type 0 where
+  pub fresh-sound : Sound fresh
+  pub locked-sound : Sound lockedAb
+  pub one-key-sound : Sound oneKey
+  pub empty-payload : call fresh (unasked []) ≡ record { outcome = lands (reply (0 ∷ 0 ∷ 0 ∷ 1 ∷ 5 ∷ [])); gateway = fresh }
+  pub fresh-list : call fresh (pastGate (0x0B ∷ [])) ≡ record { outcome = lands (reply (0 ∷ 0 ∷ 0 ∷ 5 ∷ 0x0C ∷ 0 ∷ 0 ∷ 0 ∷ 0 ∷ [])); gateway = fresh }
+  pub lock-empty : call fresh (pastGate (0x16 ∷ 0 ∷ 0 ∷ 0 ∷ 0 ∷ [])) ≡ record { outcome = lands SUCCESS; gateway = fresh }
+  pub lock-ab : call fresh (pastGate lockAb) ≡ record { outcome = lands SUCCESS; gateway = lockedAb }
+  pub then-list : call lockedAb (unasked (0x0B ∷ [])) ≡ record { outcome = lands FAILURE; gateway = lockedAb }
+  pub then-unlock-ac : call lockedAb (pastGate (0x17 ∷ 0 ∷ 0 ∷ 0 ∷ 2 ∷ 0x61 ∷ 0x63 ∷ [])) ≡ record { outcome = lands FAILURE; gateway = lockedAb }
+  pub then-unlock-ab : call lockedAb (pastGate (0x17 ∷ 0 ∷ 0 ∷ 0 ∷ 2 ∷ 0x61 ∷ 0x62 ∷ 0xFF ∷ [])) ≡ record { outcome = lands SUCCESS; gateway = fresh }
+  pub lock-cut : call fresh (pastGate (0x16 ∷ 0 ∷ 0 ∷ 0 ∷ 3 ∷ 0x61 ∷ 0x62 ∷ [])) ≡ record { outcome = lands FAILURE; gateway = fresh }
+  pub sign-cut : call fresh (pastGate (0x0D ∷ 0 ∷ 0 ∷ 0 ∷ 4 ∷ 0x61 ∷ [])) ≡ record { outcome = lands close; gateway = fresh }
+  pub sign-absent : call fresh (pastGate (0x0D ∷ 0 ∷ 0 ∷ 0 ∷ 1 ∷ 0x61 ∷ [])) ≡ record { outcome = lands FAILURE; gateway = fresh }
+  pub flags-6 : call oneKey (pastGate (signWith 6)) ≡ record { outcome = asksHash Sha256; gateway = oneKey }
+  pub flags-4 : call oneKey (pastGate (signWith 4)) ≡ record { outcome = asksHash Sha512; gateway = oneKey }
+  pub flags-1 : call oneKey (pastGate (signWith 1)) ≡ record { outcome = asksHash Plain; gateway = oneKey }
+  pub first-asks : call fresh (lending 1 nothingLent lockAb) ≡ record { outcome = asks (gate 6); gateway = fresh }
+  pub second-asks : call fresh (lending 2 nothingLent lockCd) ≡ record { outcome = asks (gate 6); gateway = fresh }
+  pub two-locks : landings (turns fresh bothLand) ≡ SUCCESS ∷ FAILURE ∷ []
+  pub first-holds : endOf fresh bothLand ≡ lockedAb
+  pub more-needed : splitOf (0 ∷ 4 ∷ 0 ∷ 0 ∷ []) ≡ MoreNeeded
+  pub too-long : splitOf (0 ∷ 4 ∷ 0 ∷ 1 ∷ []) ≡ TooLong
