@@ -11,4 +11,10 @@ pub mod LockedRuns
 pub mod SoundLaws
 pub mod ReplyLaws
 pub mod QuestionLaws
+pub mod RowLaws
+pub mod AnswerLaws
+pub mod ListLaws
+pub mod LockLaws
+pub mod RemoveLaws
+pub mod TimeLaws
 pub mod Starred

@@ -141,6 +141,12 @@ LockRule =
     (g : Gateway) (c : Call) → PastGate g c → locked g ≡ false → Begins 22 (payloadOf c)
     → (call g c .outcome ≡ lands SUCCESS) ↔ ((v : List ℕ) × Carries v (payloadOf c) × (length v ≤ 1024))
 
+-- its success stores the passphrase, whole, and changes nothing else
+abbrev pub LockHolds : Type 0
+LockHolds =
+    (g : Gateway) (c : Call) (v : List ℕ) → Begins 22 (payloadOf c) → Carries v (payloadOf c) → call g c .outcome ≡ lands SUCCESS
+    → call g c .gateway ≡ record { places = atCall g c .places; lock = v; clock = atCall g c .clock; next = g .next }
+
 -- a locked gateway past the gate is opened by exactly the stored passphrase, whole
 abbrev pub UnlockRule : Type 0
 UnlockRule =
@@ -152,6 +158,14 @@ abbrev pub UnlockOpens : Type 0
 UnlockOpens =
     (g : Gateway) (c : Call) → Begins 23 (payloadOf c) → call g c .outcome ≡ lands SUCCESS
     → call g c .gateway ≡ record { places = atCall g c .places; lock = []; clock = atCall g c .clock; next = g .next }
+
+-- ## Replies
+
+-- every request but a list and a signature lands SUCCESS or FAILURE
+abbrev pub SuccessOrFailure : Type 0
+SuccessOrFailure =
+    (g : Gateway) (c : Call) (l : Landing) → (Begins 11 (payloadOf c) → ⊥) → (Begins 13 (payloadOf c) → ⊥) → call g c .outcome ≡ lands l
+    → (l ≡ SUCCESS) ⊎ (l ≡ FAILURE)
 
 -- ## Lists
 
@@ -273,3 +287,28 @@ SignsAlways =
     → HeldAt (atCall g c) i e → SignRequest (payloadOf c) (e .blob) bytes flags → length bytes < 2 ^ 32 → Confirmed c e
     → c .answers .signature ≡ some (record { number = e .number; answer = some blob })
     → call g c .outcome ≡ lands (reply (string (14 ∷ string blob)))
+
+-- why a sign request past the gate closes: its blob is malformed; its data or flags are, once a Confirm key has its yes; the signer gave none
+pub data Closes (g : Gateway) (c : Call) : Type 0 where
+  no-blob : ((v : List ℕ) → Carries v (payloadOf c) → ⊥) → Closes g c
+  no-data : (i : ℕ) (e : Entry) → HeldAt (atCall g c) i e → Carries (e .blob) (payloadOf c) → Confirmed c e
+      → ((bytes : List ℕ) (flags : ℕ) → length bytes < 2 ^ 32 → SignRequest (payloadOf c) (e .blob) bytes flags → ⊥) → Closes g c
+  no-signature : (i : ℕ) (e : Entry) (bytes : List ℕ) (flags : ℕ) → HeldAt (atCall g c) i e → SignRequest (payloadOf c) (e .blob) bytes flags → Confirmed c e
+      → c .answers .signature ≡ some (record { number = e .number; answer = none }) → Closes g c
+
+-- a call closes exactly so
+abbrev pub CloseRule : Type 0
+CloseRule =
+    (g : Gateway) (c : Call) → Sound g → Bytes (payloadOf c)
+    → (call g c .outcome ≡ lands close) ↔ (PastGate g c × (locked g ≡ false) × Begins 13 (payloadOf c) × Closes g c)
+
+-- why a sign request past the gate fails: its key is absent, or its Confirm key got a no that carries its number
+pub data SignFails (g : Gateway) (c : Call) : Type 0 where
+  absent : (v : List ℕ) → Carries v (payloadOf c) → ((i : ℕ) (e : Entry) → HeldAt (atCall g c) i e → e .blob ≢ v) → SignFails g c
+  denied : (i : ℕ) (e : Entry) → HeldAt (atCall g c) i e → Carries (e .blob) (payloadOf c) → e .confirm ≡ true
+      → c .answers .confirmation ≡ some (record { number = e .number; answer = false }) → SignFails g c
+
+abbrev pub SignFailRule : Type 0
+SignFailRule =
+    (g : Gateway) (c : Call) → Sound g → PastGate g c → locked g ≡ false → Begins 13 (payloadOf c)
+    → (call g c .outcome ≡ lands FAILURE) ↔ SignFails g c

@@ -1,0 +1,4 @@
+pub mod Refusals
+pub mod Requests
+pub mod Identities
+pub mod Signatures

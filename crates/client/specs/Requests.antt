@@ -1,0 +1,77 @@
+-- Requests as the draft writes them, and what a writer answers and leaves.
+use Prim.Native.Nat.{ℕ, _+_}
+use mathlib.Core.List.{List, [], _∷_, _++_}
+use lib.ListN.{length, take}
+use lib.Dec.{leb, ltb, eqb}
+use Rattle.wire.specs.declared.Constraint.{Constraint}
+use Rattle.wire.specs.Numbers.{be32}
+use Rattle.wire.specs.Utf8.{utf8End}
+use Rattle.wire.specs.Steps.{so}
+use Rattle.wire.specs.Write.{write, string}
+use Rattle.keys.specs.Forms.{constraintForms}
+use Rattle.client.specs.declared.Refusal.the-variants.{OutputTooShort, Malformed, PayloadTooLong, TooManyConstraints}
+use Rattle.client.specs.declared.Wrote.{Wrote}
+use Rattle.client.specs.declared.Wrote.the-variants.{Written, Refused}
+
+-- ## The messages
+
+abbrev pub requestIdentities : List ℕ
+requestIdentities = 11 ∷ []
+
+abbrev pub signRequest : List ℕ → List ℕ → ℕ → List ℕ
+signRequest blob bytes flags = 13 ∷ (string blob ++ (string bytes ++ be32 flags))
+
+abbrev pub lockRequest : List ℕ → List ℕ
+lockRequest passphrase = 22 ∷ string passphrase
+
+abbrev pub unlockRequest : List ℕ → List ℕ
+unlockRequest passphrase = 23 ∷ string passphrase
+
+abbrev pub plainSmartcard : List ℕ → List ℕ → List ℕ
+plainSmartcard id pin = 20 ∷ (string id ++ string pin)
+
+-- "one to four (lifetime or Confirm, given order) give 26 with a u32 count before them"
+abbrev pub constrainedSmartcard : List ℕ → List ℕ → List Constraint → List ℕ
+constrainedSmartcard id pin cs = 26 ∷ (string id ++ (string pin ++ (be32 (length cs) ++ constraintForms cs)))
+
+abbrev pub removeSmartcard : List ℕ → List ℕ → List ℕ
+removeSmartcard id pin = 21 ∷ (string id ++ string pin)
+
+-- ## Frames
+
+-- the room for a payload of n bytes, and its first bytes written: a payload over 262,144 bytes is refused, and an output too short for its frame
+unfoldable pub headAnswer : ℕ → List ℕ → List ℕ → Wrote
+headAnswer n head out =
+    so (Refused PayloadTooLong) (leb n 262144)
+    (so (Refused OutputTooShort) (leb (4 + n) (length out)) (Written (4 + length head)))
+
+unfoldable pub headLeft : ℕ → List ℕ → List ℕ → List ℕ
+headLeft n head out = so out (leb n 262144) (so out (leb (4 + n) (length out)) (write out 0 (be32 n ++ head)))
+
+-- a payload written whole: the frame stands at the front of the output, or the output is untouched
+abbrev pub answered : List ℕ → List ℕ → Wrote
+answered payload out = headAnswer (length payload) payload out
+
+abbrev pub filled : List ℕ → List ℕ → List ℕ
+filled payload out = headLeft (length payload) payload out
+
+-- ## Smartcards: "writers 18, 12, 17, 11"
+
+unfoldable pub removeSmartcardAnswer : List ℕ → List ℕ → List ℕ → Wrote
+removeSmartcardAnswer id pin out = so (Refused (Malformed (utf8End id))) (eqb (utf8End id) (length id)) (answered (removeSmartcard id pin) out)
+
+unfoldable pub removeSmartcardLeft : List ℕ → List ℕ → List ℕ → List ℕ
+removeSmartcardLeft id pin out = so out (eqb (utf8End id) (length id)) (filled (removeSmartcard id pin) out)
+
+-- "no constraints gives 20"
+unfoldable pub addSmartcard : List ℕ → List ℕ → List Constraint → ℕ → List ℕ
+addSmartcard id pin cs count = so (constrainedSmartcard id pin (take count cs)) (eqb count 0) (plainSmartcard id pin)
+
+unfoldable pub addSmartcardAnswer : List ℕ → List ℕ → List Constraint → ℕ → List ℕ → Wrote
+addSmartcardAnswer id pin cs count out =
+    so (Refused TooManyConstraints) (leb count 4)
+    (so (Refused (Malformed (utf8End id))) (eqb (utf8End id) (length id))
+    (answered (addSmartcard id pin cs count) out))
+
+unfoldable pub addSmartcardLeft : List ℕ → List ℕ → List Constraint → ℕ → List ℕ → List ℕ
+addSmartcardLeft id pin cs count out = so out (leb count 4) (so out (eqb (utf8End id) (length id)) (filled (addSmartcard id pin cs count) out))

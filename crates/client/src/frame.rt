@@ -1,0 +1,41 @@
+// The splitter: what the first bytes of a connection hold, and the payload as a part of them.
+use wire::Split;
+use wire::read::Cursor;
+use wire::read::Number;
+use wire::read::cut;
+ghost use mathlib.Core.Path.{_≡_};
+ghost use Rattle.wire.specs.Frames.{splitOf, payloadOf};
+
+pub fn read_frame(s: &[u8]) -> Split
+    ensures { λ r. ⌜ r ≡ splitOf (now (s .entry)) ⌝ }
+{
+    let start = Cursor { at: 0 };
+    let Number::Value(n, next) = start.number(s) else {
+        return Split::MoreNeeded;
+    };
+    if 262144 < n {
+        return Split::TooLong;
+    }
+    let from = next.at;
+    let to = from + (n as usize);
+    if s.len() < to {
+        return Split::MoreNeeded;
+    }
+    Split::Frame
+}
+
+// Empty unless a frame is whole.
+pub fn frame_payload(s: &[u8]) -> &[u8]
+    ensures { λ r. ⌜ now r ≡ payloadOf (now (s .entry)) ⌝ }
+{
+    let start = Cursor { at: 0 };
+    let Number::Value(n, next) = start.number(s) else {
+        return cut(s, 0, 0);
+    };
+    if 262144 < n {
+        return cut(s, 0, 0);
+    }
+    let from = next.at;
+    let to = from + (n as usize);
+    cut(s, from, to)
+}

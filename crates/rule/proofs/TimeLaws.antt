@@ -1,0 +1,105 @@
+-- An accepted call raises the clock to its reading and leaves no entry whose time is up but what it has itself added with lifetime 0.
+use Prim.Native.Nat.{ℕ, zero, suc, _-_, _<_, max}
+use native.Mathlib.Omega.{arith}
+use mathlib.Core.Path.{_≡_, refl, sym, ap, _∙_}
+use mathlib.Core.Logic.{_⊎_, inl, inr}
+use mathlib.Core.Bool.{false}
+use mathlib.Core.Option.{none, some}
+use mathlib.Core.List.{List, [], _∷_, map}
+use lib.Dec.{leb}
+use lib.ListN.{set}
+use borrow.Author.Tests.{leb-false}
+use Rattle.wire.specs.declared.Seconds.{Seconds}
+use Rattle.keys.specs.declared.constraints.Lifetime.{Lifetime}
+use Rattle.keys.specs.declared.constraints.Lifetime.the-variants.{Forever, For}
+use Rattle.rule.specs.Gateway.{Entry, Place, Gateway, millisOf, dueAt, lasting, atClock, advance, vacate}
+use Rattle.rule.specs.Soundness.{EveryEntry}
+use Rattle.rule.specs.Rule.{Landing}
+use Rattle.rule.specs.Calls.{Call, refusal, call}
+use Rattle.rule.specs.Order.{ownAnswers}
+use Rattle.rule.specs.Content.{atCall, payloadOf, OnTime, GoneOnTime, ClockRaised}
+use Rattle.rule.proofs.Cases.{so-cases}
+use Rattle.rule.proofs.Clock.{advance-clock}
+use Rattle.rule.proofs.Plans.{alone-has}
+use Rattle.rule.proofs.Effects.{Effect, leaves, removes, clears, locks, stores, rule-effect, effect-clock}
+use Rattle.rule.proofs.Crossing.{planOf, own-cases}
+use Rattle.rule.proofs.PlaceLaws.{some-not-none, Fewer, every-at, every-imp, fewer-every, freed-fewer, vacate-frees, set-every, set-none-fewer}
+
+-- what holds once the clock is raised, and after each effect, holds after an accepted call
+accepted-keeps : (P : Gateway → Type 0) (g : Gateway) (c : Call) → P (atCall g c)
+    → ((l : Landing) (after : Gateway) → Effect (atCall g c) l after → P after) → refusal g c ≡ none → P (call g c .gateway)
+accepted-keeps P g c now effects =
+    own-cases g c (λ o r. o ≡ none → P (r .gateway))
+    (λ n never. absurd (some-not-none never))
+    (λ q _ _. now)
+    (λ _. effects _ _ (alone-has (Effect (atCall g c)) (ownAnswers c) (planOf g c) (rule-effect (atCall g c) (payloadOf c))))
+
+pub clock-raised : ClockRaised
+clock-raised g c =
+    let raised = advance-clock (c .reading) g in
+    accepted-keeps (λ after. after .clock ≡ max (g .clock) (c .reading)) g c raised (λ l after h. effect-clock h ∙ raised)
+
+-- ## On time
+
+not-due : (clock : ℕ) (e : Entry) → dueAt clock (e .reading) (e .lifetime) ≡ false → OnTime clock e
+unfolding dueAt
+not-due clock e h seconds for =
+    let early : leb (millisOf seconds) (clock - e .reading) ≡ false = rw for at h in
+    let l : clock - e .reading < millisOf seconds = leb-false _ _ early in
+    omega arith
+
+lasting-on-time : (clock : ℕ) (ps : List Place) → EveryEntry (OnTime clock) (map (lasting clock) ps)
+unfolding lasting
+lasting-on-time clock [] = tt
+lasting-on-time clock (none ∷ ps) = lasting-on-time clock ps
+lasting-on-time clock (some e ∷ ps) =
+    so-cases (λ p. EveryEntry (OnTime clock) (p ∷ map (lasting clock) ps)) (dueAt clock (e .reading) (e .lifetime))
+    (λ _. lasting-on-time clock ps)
+    (λ early. (not-due clock e early, lasting-on-time clock ps))
+
+-- on time, or just added with lifetime 0
+abbrev Timely : ℕ → ℕ → Entry → Type 0
+Timely clock next e = OnTime clock e ⊎ ((e .number ≡ next) × (e .lifetime ≡ For (record { count = 0 })))
+
+forever-not-for : (seconds : Seconds) → Forever ≡ For seconds → ⊥
+forever-not-for seconds never = let z : _≡_ {A = ℕ} 0 1 = cc in omega arith
+
+same-seconds : {a b : Seconds} → For a ≡ For b → a ≡ b
+same-seconds e = cc
+
+still-timely : (g : Gateway) (ps : List Place) → Fewer (g .places) ps → EveryEntry (OnTime (g .clock)) (g .places) → EveryEntry (Timely (g .clock) (g .next)) ps
+still-timely g ps fewer all = every-imp (OnTime (g .clock)) (Timely (g .clock) (g .next)) (λ e. inl) ps (fewer-every (OnTime (g .clock)) (g .places) ps fewer all)
+
+new-timely : (clock next : ℕ) (e : Entry) → e .number ≡ next → e .reading ≡ clock → Timely clock next e
+new-timely clock next e number reading = by-lifetime (e .lifetime) refl
+  where
+    by-count : (n : ℕ) → e .lifetime ≡ For (record { count = n }) → Timely clock next e
+    by-count zero is = inr (number, is)
+    by-count (suc n) is = inl (λ seconds for. let count : suc n ≡ seconds .count = ap (λ s. s .count) (same-seconds (sym is ∙ for)) in omega arith)
+
+    by-lifetime : (l : Lifetime) → e .lifetime ≡ l → Timely clock next e
+    by-lifetime Forever is = inl (λ seconds never. absurd (forever-not-for seconds (sym is ∙ never)))
+    by-lifetime (For seconds) is = by-count (seconds .count) is
+
+effect-timely : {g after : Gateway} {l : Landing} → EveryEntry (OnTime (g .clock)) (g .places) → Effect g l after
+    → EveryEntry (Timely (g .clock) (g .next)) (after .places)
+effect-timely {g} all (leaves e) = rw e (still-timely g (g .places) (λ i x h. h) all)
+effect-timely {g} all (removes blob i _ _ e) = rw e (still-timely g (set (g .places) i none) (set-none-fewer (g .places) i) all)
+effect-timely {g} all (clears _ e) = rw e (still-timely g (map vacate (g .places)) (freed-fewer vacate vacate-frees (g .places)) all)
+effect-timely {g} all (locks passphrase _ _ e) = rw e (still-timely g (g .places) (λ i x h. h) all)
+effect-timely {g} all (stores entry i new _ e) =
+    rw e
+    (set-every (Timely (g .clock) (g .next)) (g .places) i entry (new-timely (g .clock) (g .next) entry (new .number) (new .reading))
+    (still-timely g (g .places) (λ i x h. h) all))
+
+pub gone-on-time : GoneOnTime
+unfolding advance atClock
+gone-on-time g c i e accepted held =
+    let now : Gateway = atCall g c in
+    let on-time : EveryEntry (OnTime (now .clock)) (now .places) = lasting-on-time (max (g .clock) (c .reading)) (g .places) in
+    every-at (Timely (now .clock) (now .next)) (call g c .gateway .places)
+    (accepted-keeps (λ after. EveryEntry (Timely (now .clock) (now .next)) (after .places)) g c
+    (still-timely now (now .places) (λ i x h. h) on-time)
+    (λ l after. effect-timely on-time)
+    accepted)
+    i e held
