@@ -1,6 +1,7 @@
 // The types that the rule and the code share. The rule itself stands in specs/.
 
 // A clock reading.
+#[repr(C)]
 pub struct Millis {
     pub count: u64,
 }

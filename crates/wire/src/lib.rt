@@ -5,6 +5,7 @@ pub mod utf8;
 pub mod write;
 
 // A lifetime, as the messages count it.
+#[repr(C)]
 pub struct Seconds {
     pub count: u32,
 }
