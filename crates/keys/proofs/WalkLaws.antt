@@ -157,7 +157,7 @@ mutual
   seconds-forms at (w ∷ x ∷ y ∷ z ∷ s) c₀ l c bytes e =
       seconds-limit w x y z s c₀ bytes (walk-forms (at + 4) s (For (record { count = be w x y z })) c₀ l c (λ i. bytes (suc (suc (suc (suc i))))) e)
 
-walk-rule : (at : ℕ) (s : List ℕ) (l : Lifetime) (c : Bool) → Bytes s
+pub walk-rule : (at : ℕ) (s : List ℕ) (l : Lifetime) (c : Bool) → Bytes s
     → (walkOf at s Forever false ≡ Done l c) ↔ ((cs : List Constraint) × (s ≡ constraintForms cs) × Adds Forever false cs l c)
 walk-rule at s l c bytes = (
   (λ e. let r = walk-forms at s Forever false l c bytes e in (r .cs, r .form, r .adds)),

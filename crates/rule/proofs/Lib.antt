@@ -17,4 +17,10 @@ pub mod ListLaws
 pub mod LockLaws
 pub mod RemoveLaws
 pub mod TimeLaws
+pub mod FollowLaws
+pub mod RequestLaws
+pub mod BodyLaws
+pub mod AddLaws
+pub mod SignLaws
+pub mod UsableLaws
 pub mod Starred

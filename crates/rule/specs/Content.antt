@@ -283,8 +283,8 @@ SignsOnly =
 -- an open gateway answers a well-formed sign request for a held key when gate, confirmation and signer say yes
 abbrev pub SignsAlways : Type 0
 SignsAlways =
-    (g : Gateway) (c : Call) (i : ℕ) (e : Entry) (bytes blob : List ℕ) (flags : ℕ) → Sound g → Bytes (payloadOf c) → PastGate g c → locked g ≡ false
-    → HeldAt (atCall g c) i e → SignRequest (payloadOf c) (e .blob) bytes flags → length bytes < 2 ^ 32 → Confirmed c e
+    (g : Gateway) (c : Call) (i : ℕ) (e : Entry) (bytes blob : List ℕ) (flags : ℕ) → Bytes (payloadOf c) → PastGate g c → locked g ≡ false
+    → HeldAt (atCall g c) i e → SignRequest (payloadOf c) (e .blob) bytes flags → Confirmed c e
     → c .answers .signature ≡ some (record { number = e .number; answer = some blob })
     → call g c .outcome ≡ lands (reply (string (14 ∷ string blob)))
 
@@ -292,14 +292,14 @@ SignsAlways =
 pub data Closes (g : Gateway) (c : Call) : Type 0 where
   no-blob : ((v : List ℕ) → Carries v (payloadOf c) → ⊥) → Closes g c
   no-data : (i : ℕ) (e : Entry) → HeldAt (atCall g c) i e → Carries (e .blob) (payloadOf c) → Confirmed c e
-      → ((bytes : List ℕ) (flags : ℕ) → length bytes < 2 ^ 32 → SignRequest (payloadOf c) (e .blob) bytes flags → ⊥) → Closes g c
+      → ((bytes : List ℕ) (flags : ℕ) → SignRequest (payloadOf c) (e .blob) bytes flags → ⊥) → Closes g c
   no-signature : (i : ℕ) (e : Entry) (bytes : List ℕ) (flags : ℕ) → HeldAt (atCall g c) i e → SignRequest (payloadOf c) (e .blob) bytes flags → Confirmed c e
       → c .answers .signature ≡ some (record { number = e .number; answer = none }) → Closes g c
 
 -- a call closes exactly so
 abbrev pub CloseRule : Type 0
 CloseRule =
-    (g : Gateway) (c : Call) → Sound g → Bytes (payloadOf c)
+    (g : Gateway) (c : Call) → Bytes (payloadOf c)
     → (call g c .outcome ≡ lands close) ↔ (PastGate g c × (locked g ≡ false) × Begins 13 (payloadOf c) × Closes g c)
 
 -- why a sign request past the gate fails: its key is absent, or its Confirm key got a no that carries its number
@@ -310,5 +310,5 @@ pub data SignFails (g : Gateway) (c : Call) : Type 0 where
 
 abbrev pub SignFailRule : Type 0
 SignFailRule =
-    (g : Gateway) (c : Call) → Sound g → PastGate g c → locked g ≡ false → Begins 13 (payloadOf c)
+    (g : Gateway) (c : Call) → PastGate g c → locked g ≡ false → Begins 13 (payloadOf c)
     → (call g c .outcome ≡ lands FAILURE) ↔ SignFails g c

@@ -1,0 +1,205 @@
+-- Adding: its SUCCESS stores the entry that a well-formed request makes, every such request within the limits succeeds, and the key check sees the fields alone.
+use Prim.Native.Nat.{ℕ, _≤_, _<_}
+use native.Mathlib.Omega.{arith}
+use mathlib.Core.Path.{_≡_, refl, sym, ap, _∙_, subst}
+use mathlib.Core.Logic.{_≢_, _⊎_, inl, inr}
+use mathlib.Core.Bool.{Bool, true, false}
+use mathlib.Core.Option.{Option, none, some}
+use mathlib.Core.List.{List}
+use borrow.Author.Tests.{le-leb, lt-ltb}
+use lib.ListN.{length}
+use lib.Seq.{getD-set-same, getD-set-other}
+use Rattle.wire.specs.Numbers.{Bytes}
+use Rattle.wire.specs.Read.{cutOf}
+use Rattle.wire.specs.Steps.{so}
+use Rattle.keys.specs.declared.kinds.Places.{Places}
+use Rattle.keys.specs.declared.constraints.Lifetime.{Lifetime}
+use Rattle.keys.specs.declared.addition.Addition.{Addition}
+use Rattle.keys.specs.Kinds.{blobOf}
+use Rattle.keys.specs.Additions.{additionAt}
+use Rattle.keys.specs.Forms.{ed25519-key, ecdsa-key, rsa-key, KeyFields, as-ed25519, as-nistp256, as-nistp384, as-nistp521, as-rsa}
+use Rattle.rule.specs.declared.Found.{Found}
+use Rattle.rule.specs.declared.Found.the-variants.{At, Nothing}
+use Rattle.rule.specs.Gateway.{Entry, Place, Gateway, locked, atClock, advance, seek, holds, isFree, found, placeFor, withEntry}
+use Rattle.rule.specs.Soundness.{within}
+use Rattle.rule.specs.Rule.{Question, gate, check, Answer, SUCCESS, added, entryOf, storing, adding}
+use Rattle.rule.specs.Calls.{lent, Call, Outcome, asks, lands, Result, follow, call}
+use Rattle.rule.specs.Order.{Begins}
+use Rattle.rule.specs.Content.{HeldAt, FreeAt, atCall, payloadOf, PastGate, add, add-constrained, AddRequest, madeBy, Put, AddedOnly, AddedAlways, CheckAsks}
+use Rattle.rule.proofs.Cases.{true-not-false, both-true}
+use Rattle.rule.proofs.Clock.{advance-next}
+use Rattle.rule.proofs.PlaceLaws.{every-at, seek-first, seek-none, found-at, absent-differs, Placed, replacing, anew, placed, no-place, place-inside}
+use Rattle.rule.proofs.Effects.{Storable}
+use Rattle.rule.proofs.RefusalLaws.{accepted}
+use Rattle.rule.proofs.RowLaws.{past-gate, Beyond, success-beyond, through, failure-shows, same-landing}
+use Rattle.rule.proofs.Plans.{asks-not-lands}
+use Rattle.rule.proofs.RequestLaws.{addByte, add-in, add-out}
+use Rattle.rule.proofs.BodyLaws.{adding-cases, signing-cases, addResult, AsksIn, in-add, in-sign, silent, asks-in}
+
+-- ## The add rows
+
+add-through : (constrained : Bool) (g : Gateway) (c : Call) → Begins (addByte constrained) (payloadOf c) → {o : Outcome} → call g c .outcome ≡ o → Beyond o
+    → call g c ≡ addResult constrained g c
+add-through false g c begins e b = through add g c begins e b .result
+add-through true g c begins e b = through add-constrained g c begins e b .result
+
+add-past : (constrained : Bool) (g : Gateway) (c : Call) → PastGate g c → locked g ≡ false → Begins (addByte constrained) (payloadOf c) → call g c ≡ addResult constrained g c
+add-past false g c past state begins = past-gate add g c past state begins
+add-past true g c past state begins = past-gate add-constrained g c past state begins
+
+-- the entry that is read is the entry that the request makes
+read-made : (g : Gateway) (c : Call) (p : Places) (fields blob : List ℕ) (l : Lifetime) (confirm : Bool)
+    → cutOf (payloadOf c) 1 (p .end) ≡ fields → blobOf (payloadOf c) 1 p ≡ blob → entryOf (atCall g c) (payloadOf c) p l confirm ≡ madeBy g c fields blob l confirm
+unfolding advance atClock
+read-made g c p fields blob l confirm cut public = rw (cut, public)
+
+-- ## What SUCCESS did
+
+free-place : (p : Place) → isFree p ≡ true → p ≡ none
+free-place none t = refl
+free-place (some e) t = absurd (true-not-false (sym t))
+
+module _ (g : Gateway) (e : Entry) (i : ℕ) where
+  where-put : Placed (e .blob) (g .places) i
+      → ((old : Entry) × HeldAt g i old × (old .blob ≡ e .blob))
+      ⊎ (FreeAt g i × ((j : ℕ) → j < i → FreeAt g j → ⊥) × ((j : ℕ) (old : Entry) → HeldAt g j old → old .blob ≢ e .blob))
+  where-put (replacing at) = let held = found-at (e .blob) (g .places) i at in inl (held .entry, held .there, held .is)
+  where-put (anew absent at) =
+      let first = seek-first isFree (g .places) i at in
+      inr (
+        (first .inside, free-place _ (first .passes)),
+        (λ j before free. true-not-false (sym (ap isFree (free .1)) ∙ first .earlier j before)),
+        every-at (λ x. x .blob ≢ e .blob) (g .places) (absent-differs (e .blob) (g .places) absent),
+      )
+
+  put : Storable g e i → Put g (withEntry i e g) i e
+  put s =
+      let p = placed (e .blob) (g .places) i (s .place) in
+      record {
+        there = getD-set-same (g .places) i (some e) none (place-inside (e .blob) (g .places) i p);
+        others = λ j n. getD-set-other (g .places) i j (some e) none n;
+        lock = refl;
+        clock = refl;
+        next = refl;
+        place = where-put p;
+      }
+
+-- a request in the draft's form was stored
+abbrev Added : Gateway → Call → Gateway → Type 0
+Added g c after =
+    (fields : List ℕ) × (blob : List ℕ) × (lifetime : Lifetime) × (confirm : Bool) × (i : ℕ) × AddRequest (payloadOf c) fields blob lifetime confirm
+    × Put (atCall g c) after i (madeBy g c fields blob lifetime confirm)
+
+add-success : (constrained : Bool) (g : Gateway) (c : Call) → Bytes (payloadOf c) → Begins (addByte constrained) (payloadOf c) → call g c .outcome ≡ lands SUCCESS
+    → Added g c (call g c .gateway)
+add-success constrained g c bytes begins e =
+    let result = add-through constrained g c begins e success-beyond in
+    let now = atCall g c in
+    rw result
+    (adding-cases (lent (c .answers)) now (payloadOf c) (λ r. r .outcome ≡ lands SUCCESS → Added g c (r .gateway))
+    (λ never. failure-shows (same-landing never))
+    constrained
+    (λ p l confirm i read storable never. absurd (asks-not-lands _ SUCCESS never))
+    (λ p l confirm i read storable _.
+    let (fields, blob, request, r) = add-in (payloadOf c) bytes constrained p l confirm begins read in
+    let made = read-made g c p fields blob l confirm (r .cut) (r .public) in
+    let entry = entryOf now (payloadOf c) p l confirm in
+    (fields, blob, l, confirm, i, request, subst (Put now (withEntry i entry now) i) made (put now entry i storable)))
+    (rw result at e))
+
+pub added-only : AddedOnly
+added-only g c bytes (inl begins) e = add-success false g c bytes begins e
+added-only g c bytes (inr begins) e = add-success true g c bytes begins e
+
+-- ## What succeeds
+
+-- fields and blob begin with a string, so they are not empty
+record SomeBytes (fields blob : List ℕ) : Type 0 where
+  fields-some : 1 ≤ length fields
+  blob-some : 1 ≤ length blob
+
+some-bytes : {fields blob : List ℕ} → KeyFields fields blob → SomeBytes fields blob
+some-bytes (as-ed25519 (ed25519-key a seed _ _)) = record { fields-some = omega arith; blob-some = omega arith }
+some-bytes (as-nistp256 (ecdsa-key q d n _ _ _ _)) = record { fields-some = omega arith; blob-some = omega arith }
+some-bytes (as-nistp384 (ecdsa-key q d n _ _ _ _)) = record { fields-some = omega arith; blob-some = omega arith }
+some-bytes (as-nistp521 (ecdsa-key q d n _ _ _ _)) = record { fields-some = omega arith; blob-some = omega arith }
+some-bytes (as-rsa (rsa-key n e d iqmp p q _ _ _ _ _ _)) = record { fields-some = omega arith; blob-some = omega arith }
+
+-- a place that holds the blob, or a free one
+abbrev Room : Gateway → List ℕ → Type 0
+Room g blob = ((i : ℕ) × (old : Entry) × HeldAt g i old × (old .blob ≡ blob)) ⊎ ((i : ℕ) × FreeAt g i)
+
+room-place : (g : Gateway) (blob : List ℕ) → Room g blob → (i : ℕ) × (placeFor blob (g .places) ≡ At i)
+room-place g blob room = by-place (placeFor blob (g .places)) refl
+  where
+    full : seek (holds blob) 0 (g .places) ≡ Nothing → seek isFree 0 (g .places) ≡ Nothing → Room g blob → ⊥
+    full absent none-free (inl (i, old, held, is)) = every-at (λ x. x .blob ≢ blob) (g .places) (absent-differs blob (g .places) absent) i old held is
+    full absent none-free (inr (i, free)) = true-not-false (sym (ap isFree (free .1)) ∙ seek-none isFree 0 (g .places) none-free i (free .0))
+
+    by-place : (f : Found) → placeFor blob (g .places) ≡ f → (i : ℕ) × (placeFor blob (g .places) ≡ At i)
+    by-place (At i) e = (i, e)
+    by-place Nothing e = let (absent, none-free) = no-place blob (g .places) e in absurd (full absent none-free room)
+
+storing-succeeds : (answer : (q : Question) → Option (Answer q)) (g : Gateway) (e : Entry) (i to : ℕ) → Storable g e i → answer (check 1 to) ≡ some true
+    → follow answer g (storing g e to) .outcome ≡ lands SUCCESS
+unfolding storing so found follow
+storing-succeeds answer g e i to s checked = rw (s .blob, s .fields, lt-ltb _ _ (s .numbers-left), s .place, checked)
+
+within-true : (low high n : ℕ) → low ≤ n → n ≤ high → within low high n ≡ true
+within-true low high n l h = both-true _ _ (le-leb low n l) (le-leb n high h)
+
+pub added-always : AddedAlways
+unfolding adding added lent
+added-always g c fields blob l confirm bytes past state request blob-fits fields-fit numbers-left room checked =
+    let fits = accepted g c (past .accepted) .payload in
+    let (constrained, p, r) = add-out (payloadOf c) bytes fields blob l confirm (omega arith) request in
+    let now = atCall g c in
+    let (i, place) = room-place now blob room in
+    let some-byte = some-bytes (request .key) in
+    let storable : Storable now (entryOf now (payloadOf c) p l confirm) i
+    = record {
+      blob = rw (r .public) (within-true 1 1024 (length blob) (some-byte .blob-some) blob-fits);
+      fields = rw (r .cut) (within-true 1 3072 (length fields) (some-byte .fields-some) fields-fit);
+      numbers-left = rw (advance-next (c .reading) g) numbers-left;
+      place = rw (r .public) place;
+      number = refl;
+      reading = refl;
+    } in
+    rw (add-past constrained g c past state (r .begins), r .read) (storing-succeeds (lent (c .answers)) now (entryOf now (payloadOf c) p l confirm) i (p .end) storable checked)
+
+-- ## What the key check sees
+
+pub check-asks : CheckAsks
+check-asks g c from to bytes e = by-row (asks-in g c (check from to) (λ class never. check-not-gate never) e)
+  where
+    Seen : Type 0
+    Seen =
+        (fields : List ℕ) × (blob : List ℕ) × (lifetime : Lifetime) × (confirm : Bool) × AddRequest (payloadOf c) fields blob lifetime confirm
+        × (cutOf (payloadOf c) from to ≡ fields)
+
+    check-not-gate : {class : ℕ} → check from to ≡ gate class → ⊥
+    check-not-gate never = let z : _≡_ {A = ℕ} 0 1 = cc in omega arith
+
+    Asks : Result → Type 0
+    Asks r = r .outcome ≡ asks (check from to) → Seen
+
+    asked : (constrained : Bool) (p : Places) (l : Lifetime) (confirm : Bool) → Begins (addByte constrained) (payloadOf c)
+        → additionAt (payloadOf c) 1 constrained ≡ Addition.Whole p l confirm → asks (check 1 (p .end)) ≡ asks (check from to) → Seen
+    asked constrained p l confirm begins read is =
+        let (fields, blob, request, r) = add-in (payloadOf c) bytes constrained p l confirm begins read in
+        let same-from : 1 ≡ from = cc in
+        let same-to : p .end ≡ to = cc in
+        (fields, blob, l, confirm, request, rw (← same-from, ← same-to) (r .cut))
+
+    by-row : AsksIn g c (check from to) → Seen
+    by-row (in-add constrained begins is) =
+        adding-cases (lent (c .answers)) (atCall g c) (payloadOf c) Asks silent constrained
+        (λ p l confirm i read _. asked constrained p l confirm begins read)
+        (λ p l confirm i _ _. silent)
+        is
+    by-row (in-sign begins is) =
+        signing-cases (lent (c .answers)) (atCall g c) (payloadOf c) Asks silent silent
+        (λ i x _ never. let z : _≡_ {A = ℕ} 0 1 = cc in absurd (omega arith))
+        (λ i x from to flags _ _ _ never. let z : _≡_ {A = ℕ} 0 1 = cc in absurd (omega arith))
+        (λ i x from to flags blob _ _ _ _. silent)
+        is

@@ -1,0 +1,180 @@
+-- Every result of a row's body with lent answers, and what it says: one case lemma for each body. So only adds and signs ask behind the gate.
+use Prim.Native.Nat.{ℕ, _-_}
+use mathlib.Core.Path.{_≡_, refl, sym, ap, _∙_}
+use mathlib.Core.Logic.{_≢_}
+use mathlib.Core.Bool.{Bool, true, false}
+use mathlib.Core.Option.{Option, none, some}
+use mathlib.Core.List.{List, []}
+use borrow.Author.Tests.{ltb-true}
+use lib.ListN.{length}
+use lib.Dec.{leb, ltb}
+use Rattle.wire.specs.declared.read.Cursor.{Cursor}
+use Rattle.wire.specs.declared.read.Number.{Number}
+use Rattle.wire.specs.declared.read.Part.the-variants.{Whole}
+use Rattle.wire.specs.Read.{cutOf, same, stringAt, numberAt}
+use Rattle.keys.specs.declared.kinds.Places.{Places}
+use Rattle.keys.specs.declared.constraints.Lifetime.{Lifetime}
+use Rattle.keys.specs.declared.addition.Addition.{Addition}
+use Rattle.keys.specs.Additions.{additionAt}
+use Rattle.rule.specs.Gateway.{Entry, Gateway, seek, holds, placeFor, withLock, without, withEntry}
+use Rattle.rule.specs.Soundness.{lastNumber, within}
+use Rattle.rule.specs.Rule.{Question, gate, check, confirmation, signature, Answer, Landing, reply, close, FAILURE, SUCCESS, Plan, land, fails, closes, listing, removing, removingAll, locking, unlocking, hashOf, signatureReply, signed, signingData, confirming, signing, entryOf, storing, adding}
+use Rattle.rule.specs.Calls.{lent, Call, asks, lands, Result, follow, call}
+use Rattle.rule.specs.Order.{Begins, Carries}
+use Rattle.rule.specs.Content.{HeldAt, atCall, payloadOf, Row, list, add, add-constrained, remove, remove-all, sign, lock, unlock}
+use Rattle.rule.proofs.Cases.{so-cases, part-cases, number-cases, found-cases, added-cases, true-not-false}
+use Rattle.rule.proofs.PlaceLaws.{found-at}
+use Rattle.rule.proofs.Effects.{Storable}
+use Rattle.rule.proofs.Leavings.{lands-not-asks}
+use Rattle.rule.proofs.RowLaws.{bodyResult, question-beyond, through-some}
+use Rattle.rule.proofs.RequestLaws.{addByte}
+use Rattle.rule.proofs.FollowLaws.{Gives, land-gives, ask-gives, so-gives}
+
+-- the key that a request names, held in place i
+pub record Chosen (g : Gateway) (payload : List ℕ) (i : ℕ) (e : Entry) : Type 0 where
+  pub there : HeldAt g i e
+  pub carries : Carries (e .blob) payload
+
+-- data and flags at a place of the payload
+pub record Ordered (payload : List ℕ) (at from to flags : ℕ) : Type 0 where
+  pub next : Cursor
+  pub end : Cursor
+  pub message : stringAt payload at ≡ Whole from to next
+  pub choice : numberAt payload (next .at) ≡ Number.Value flags end
+
+-- a Confirm key has its yes
+abbrev pub Allowed : ((q : Question) → Option (Answer q)) → Entry → Type 0
+Allowed answer e = e .confirm ≡ true → answer (confirmation (e .number)) ≡ some true
+
+module _ (answer : (q : Question) → Option (Answer q)) (g : Gateway) (payload : List ℕ) (P : Result → Type 0) where
+  abbrev Follows : Plan → Type 0
+  Follows = Gives answer g P
+
+  abbrev Lands : Landing → Gateway → Type 0
+  Lands l after = P (record { outcome = lands l; gateway = after })
+
+  abbrev Asks : Question → Type 0
+  Asks q = P (record { outcome = asks q; gateway = g })
+
+  module _ (failing : Lands FAILURE g) where
+    failure : Follows (fails g)
+    failure = land-gives answer g P FAILURE g failing
+
+    success : (after : Gateway) → Lands SUCCESS after → Follows (land SUCCESS after)
+    success after h = land-gives answer g P SUCCESS after h
+
+    pub removing-cases : ((i : ℕ) (e : Entry) → Chosen g payload i e → Lands SUCCESS (without i g)) → Follows (removing g payload)
+    unfolding removing
+    removing-cases removed =
+        part-cases Follows (stringAt payload 1) (λ _. failure) λ f t k read.
+        found-cases Follows (seek (holds (cutOf payload f t)) 0 (g .places)) (λ _. failure) λ i at.
+        let held = found-at (cutOf payload f t) (g .places) i at in
+        success (without i g)
+        (removed i (held .entry) (record { there = held .there; carries = record { from = f; to = t; next = k; read = read; is = sym (held .is) } }))
+
+    pub locking-cases : ((passphrase : List ℕ) → Lands SUCCESS (withLock passphrase g)) → Follows (locking g payload)
+    unfolding locking
+    locking-cases locked =
+        part-cases Follows (stringAt payload 1) (λ _. failure) λ f t k _.
+        so-gives answer g P (leb (t - f) 1024) _ failing λ _. success _ (locked (cutOf payload f t))
+
+    pub unlocking-cases : ((passphrase : List ℕ) → Lands SUCCESS (withLock passphrase g)) → Follows (unlocking g payload)
+    unfolding unlocking
+    unlocking-cases unlocked =
+        part-cases Follows (stringAt payload 1) (λ _. failure) λ f t k _.
+        so-gives answer g P (same (g .lock) (cutOf payload f t)) _ failing λ _. success _ (unlocked [])
+
+    pub adding-cases : (constrained : Bool)
+        → ((p : Places) (l : Lifetime) (c : Bool) (i : ℕ) → additionAt payload 1 constrained ≡ Addition.Whole p l c → Storable g (entryOf g payload p l c) i → Asks (check 1 (p .end)))
+        → ((p : Places) (l : Lifetime) (c : Bool) (i : ℕ) → additionAt payload 1 constrained ≡ Addition.Whole p l c → Storable g (entryOf g payload p l c) i
+        → Lands SUCCESS (withEntry i (entryOf g payload p l c) g))
+        → Follows (adding constrained g payload)
+    unfolding adding storing
+    adding-cases constrained asking stored =
+        added-cases Follows (additionAt payload 1 constrained) failure λ p l c read.
+        let e = entryOf g payload p l c in
+        so-gives answer g P (within 1 1024 (length (e .blob))) _ failing λ blob.
+        so-gives answer g P (within 1 3072 (length (e .fields))) _ failing λ fields.
+        so-gives answer g P (ltb (g .next) lastNumber) _ failing λ left.
+        found-cases Follows (placeFor (e .blob) (g .places)) (λ _. failure) λ i place.
+        let storable : Storable g e i = record { blob = blob; fields = fields; numbers-left = ltb-true _ _ left; place = place; number = refl; reading = refl } in
+        ask-gives answer g P (check 1 (p .end)) _
+        (λ _. asking p l c i read storable)
+        (λ granted _. so-gives answer g P granted _ failing λ _. success _ (stored p l c i read storable))
+
+    pub signing-cases : Lands close g
+        → ((i : ℕ) (e : Entry) → Chosen g payload i e → Asks (confirmation (e .number)))
+        → ((i : ℕ) (e : Entry) (from to flags : ℕ) (k : Chosen g payload i e) → Ordered payload (k .carries .next .at) from to flags → Allowed answer e
+        → Asks (signature (e .number) from to (hashOf flags)))
+        → ((i : ℕ) (e : Entry) (from to flags : ℕ) (blob : List ℕ) (k : Chosen g payload i e) → Ordered payload (k .carries .next .at) from to flags → Allowed answer e
+        → answer (signature (e .number) from to (hashOf flags)) ≡ some (some blob) → Lands (reply (signatureReply blob)) g)
+        → Follows (signing g payload)
+    unfolding signing confirming signingData signed
+    signing-cases closing confirms asking signs =
+        part-cases Follows (stringAt payload 1) (λ _. closed) λ f t k read.
+        found-cases Follows (seek (holds (cutOf payload f t)) 0 (g .places)) (λ _. failure) λ i at.
+        let held = found-at (cutOf payload f t) (g .places) i at in
+        let e = held .entry in
+        let key : Chosen g payload i e = record { there = held .there; carries = record { from = f; to = t; next = k; read = read; is = sym (held .is) } } in
+        rw (held .there)
+        (so-cases Follows (e .confirm)
+        (λ _.
+        ask-gives answer g P (confirmation (e .number)) _
+        (λ _. confirms i e key)
+        (λ granted says. so-gives answer g P granted _ failing λ agreed. by-data i e key (λ _. says ∙ ap some agreed)))
+        (λ free. by-data i e key (λ confirm. absurd (true-not-false (sym confirm ∙ free)))))
+      where
+        closed : Follows (closes g)
+        closed = land-gives answer g P close g closing
+
+        by-signer : (i : ℕ) (e : Entry) (from to flags : ℕ) (k : Chosen g payload i e) → Ordered payload (k .carries .next .at) from to flags → Allowed answer e
+            → (a : Option (List ℕ)) → answer (signature (e .number) from to (hashOf flags)) ≡ some a → Follows (signed g a)
+        by-signer i e from to flags k order allowed none says = closed
+        by-signer i e from to flags k order allowed (some blob) says = land-gives answer g P _ g (signs i e from to flags blob k order allowed says)
+
+        by-data : (i : ℕ) (e : Entry) (k : Chosen g payload i e) → Allowed answer e → Follows (signingData g payload (e .number) (k .carries .next .at))
+        by-data i e k allowed =
+            part-cases Follows (stringAt payload (k .carries .next .at)) (λ _. closed) λ from to next message.
+            number-cases Follows (numberAt payload (next .at)) (λ _. closed) λ flags end choice.
+            let order : Ordered payload (k .carries .next .at) from to flags = record { next = next; end = end; message = message; choice = choice } in
+            ask-gives answer g P (signature (e .number) from to (hashOf flags)) (signed g)
+            (λ _. asking i e from to flags k order allowed)
+            (by-signer i e from to flags k order allowed)
+
+-- ## Questions behind the gate
+
+-- a request's body, followed at its call
+abbrev pub addResult : Bool → Gateway → Call → Result
+addResult constrained g c = follow (lent (c .answers)) (atCall g c) (adding constrained (atCall g c) (payloadOf c))
+
+abbrev pub signResult : Gateway → Call → Result
+signResult g c = follow (lent (c .answers)) (atCall g c) (signing (atCall g c) (payloadOf c))
+
+-- an add or a sign request asks q behind the gate
+pub data AsksIn (g : Gateway) (c : Call) (q : Question) : Type 0 where
+  in-add : (constrained : Bool) → Begins (addByte constrained) (payloadOf c) → addResult constrained g c .outcome ≡ asks q → AsksIn g c q
+  in-sign : Begins 13 (payloadOf c) → signResult g c .outcome ≡ asks q → AsksIn g c q
+
+-- a landing asks nothing
+pub silent : {X : Type 0} {l : Landing} {q : Question} → lands l ≡ asks q → X
+silent {l = l} {q = q} never = absurd (lands-not-asks l q never)
+
+-- no other row asks there
+pub asks-in : (g : Gateway) (c : Call) (q : Question) → ((class : ℕ) → q ≢ gate class) → call g c .outcome ≡ asks q → AsksIn g c q
+unfolding listing removingAll follow
+asks-in g c q other e =
+    let some-row = through-some g c e (question-beyond other) in
+    by-row (some-row .row) (some-row .begins) (rw (some-row .through .result) at e)
+  where
+    Asks : Result → Type 0
+    Asks r = r .outcome ≡ asks q → AsksIn g c q
+
+    by-row : {byte : ℕ} {needs : Bool} {class : ℕ} (r : Row byte needs class) → Begins byte (payloadOf c) → Asks (bodyResult r g c)
+    by-row list begins = silent
+    by-row add begins = in-add false begins
+    by-row add-constrained begins = in-add true begins
+    by-row remove begins = removing-cases (lent (c .answers)) (atCall g c) (payloadOf c) Asks silent (λ i e k. silent)
+    by-row remove-all begins = silent
+    by-row sign begins = in-sign begins
+    by-row lock begins = locking-cases (lent (c .answers)) (atCall g c) (payloadOf c) Asks silent (λ passphrase. silent)
+    by-row unlock begins = unlocking-cases (lent (c .answers)) (atCall g c) (payloadOf c) Asks silent (λ passphrase. silent)

@@ -1,0 +1,236 @@
+-- Add and sign requests: what the readers take is what the draft writes, and what the draft writes they take.
+use Prim.Native.Nat.{ℕ, _+_, _^_, _<_}
+use native.Mathlib.Omega.{arith}
+use mathlib.Core.Path.{_≡_, refl, ap, _∙_}
+use mathlib.Core.Bool.{Bool, true, false}
+use mathlib.Core.List.{List, _∷_, _++_}
+use lib.ListN.{length, drop, length-append}
+use lib.Seq.{drop-cons, getD-drop}
+use Rattle.wire.specs.declared.read.Cursor.{Cursor}
+use Rattle.wire.specs.declared.read.Number.{Number}
+use Rattle.wire.specs.declared.read.Part.the-variants.{Whole}
+use Rattle.wire.specs.Numbers.{Bytes, be32}
+use Rattle.wire.specs.Abnf.{Octets}
+use Rattle.wire.specs.Values.{Span, partReads, read}
+use Rattle.wire.specs.Read.{cutOf, stringAt, numberAt, textAt}
+use Rattle.wire.specs.Steps.{part}
+use Rattle.wire.specs.Write.{string}
+use Rattle.wire.proofs.Reading.{string-read, number-read}
+use Rattle.wire.proofs.Format.{string-shape, string-form, number-form, be-shape, be-small}
+use Rattle.wire.proofs.Laws.{text-rule, whole-of}
+use Rattle.keys.specs.declared.kinds.Places.{Places}
+use Rattle.keys.specs.declared.kinds.Key.{Key}
+use Rattle.keys.specs.declared.constraints.Lifetime.{Lifetime}
+use Rattle.keys.specs.declared.constraints.Lifetime.the-variants.{Forever}
+use Rattle.keys.specs.declared.constraints.Walk.{Walk}
+use Rattle.keys.specs.declared.constraints.Walk.the-variants.{Done, Duplicate, Unknown, Cut}
+use Rattle.keys.specs.declared.addition.Addition.{Addition}
+use Rattle.keys.specs.Kinds.{keyAt, blobOf}
+use Rattle.keys.specs.Additions.{limitsOf, constraintsAt, commentedAt, key, additionAt}
+use Rattle.keys.proofs.KeyLaws.{only-keys, every-key}
+use Rattle.keys.proofs.FieldLaws.{lies-at, lies-cut}
+use Rattle.keys.proofs.WalkLaws.{walk-rule}
+use Rattle.rule.specs.Order.{Begins}
+use Rattle.rule.specs.Content.{Limits, plain, constrained, AddRequest, SignRequest}
+use Rattle.rule.proofs.Cases.{part-cases}
+
+-- ## A payload and its first byte
+
+pub first-shape : {byte : ℕ} {payload : List ℕ} → Begins byte payload → payload ≡ byte ∷ drop 1 payload
+first-shape {byte} {payload} b = drop-cons payload 0 0 (b .some-byte) ∙ ap (λ (n : ℕ). n ∷ drop 1 payload) (b .first)
+
+pub shape-first : {byte : ℕ} {payload rest : List ℕ} → payload ≡ byte ∷ rest → Begins byte payload
+shape-first {byte} {payload} e = rw e (record { some-byte = omega arith; first = refl })
+
+pub drop-bytes : (at : ℕ) (s : List ℕ) → Bytes s → Bytes (drop at s)
+drop-bytes at s bytes i = rw (getD-drop at s i 0) (bytes (at + i))
+
+-- ## The steps of an add request
+
+-- what was read one behind the other
+record Steps (s : List ℕ) (c : Bool) (p : Places) (l : Lifetime) (confirm : Bool) : Type 0 where
+  fields : keyAt s 1 ≡ Key.Whole p
+  from : ℕ
+  to : ℕ
+  next : Cursor
+  comment : textAt s (p .end) ≡ Whole from to next
+  limits : constraintsAt s (next .at) c ≡ Done l confirm
+
+module _ (s : List ℕ) (c : Bool) (p : Places) (l : Lifetime) (confirm : Bool) where
+  abbrev Went : Addition → Type 0
+  Went a = a ≡ Addition.Whole p l confirm → Steps s c p l confirm
+
+  faulty : (at : ℕ) → Went (Addition.Fault at)
+  faulty at e = let z : _≡_ {A = ℕ} 0 1 = cc in absurd (omega arith)
+
+  steps : Went (additionAt s 1 c)
+  unfolding additionAt key commentedAt limitsOf
+  steps = by-key (keyAt s 1) refl
+    where
+      by-walk : (q : Places) (w : Walk) → limitsOf q w ≡ Addition.Whole p l confirm → (q ≡ p) × (w ≡ Done l confirm)
+      by-walk q (Done m b) e = let x : m ≡ l = cc in let y : b ≡ confirm = cc in ((cc), (cc))
+      by-walk q (Duplicate at) e = let z : _≡_ {A = ℕ} 0 1 = cc in absurd (omega arith)
+      by-walk q (Unknown at) e = let z : _≡_ {A = ℕ} 0 1 = cc in absurd (omega arith)
+      by-walk q (Cut at) e = let z : _≡_ {A = ℕ} 0 1 = cc in absurd (omega arith)
+
+      by-key : (k : Key) → keyAt s 1 ≡ k → Went (key Addition.Fault k (λ p. commentedAt s p c))
+      by-key (Key.Whole q) h =
+          part-cases Went (textAt s (q .end)) faulty λ f t k e w.
+          let (x, y) = by-walk q (constraintsAt s (k .at) c) w in
+          record { fields = h ∙ ap Key.Whole x; from = f; to = t; next = k; comment = rw x at e; limits = y }
+      by-key (Key.Fault at) h = faulty at
+
+  steps-back : Steps s c p l confirm → additionAt s 1 c ≡ Addition.Whole p l confirm
+  unfolding additionAt key commentedAt part limitsOf
+  steps-back r = rw (r .fields, r .comment, r .limits)
+
+-- ## Texts
+
+-- a text that is read is a string of UTF-8
+text-shape : (s : List ℕ) (at f t : ℕ) (k : Cursor) → Bytes s → textAt s at ≡ Whole f t k
+    → Octets (cutOf s f t) × (drop at s ≡ string (cutOf s f t) ++ drop (k .at) s)
+text-shape s at f t k bytes e =
+    let r = text-rule s at (record { from = f; to = t }) (k .at) .0 (ap partReads e) in
+    let w = whole-of (stringAt s at) (record { from = f; to = t }) (k .at) (r .0) in
+    let behind : k .at ≡ t = string-read s at f t _ w .place in
+    (r .1, string-shape s at f t _ bytes w ∙ rw behind)
+
+-- and is read
+text-there : (s : List ℕ) (at : ℕ) (v rest : List ℕ) → Bytes s → length v < 2 ^ 32 → Octets v → drop at s ≡ string v ++ rest
+    → (textAt s at ≡ Whole (at + 4) (at + 4 + length v) (record { at = at + 4 + length v })) × (drop (at + 4 + length v) s ≡ rest)
+text-there s at v rest bytes small octets e =
+    let (w, is, behind) = string-form s at v rest bytes small .0 e in
+    let span : Span = record { from = at + 4; to = at + 4 + length v } in
+    (whole-of (textAt s at) span _ (text-rule s at span _ .1 (ap partReads w, rw is octets)), behind)
+
+-- ## Add requests
+
+-- which first byte, by whether constraints follow
+abbrev pub addByte : Bool → ℕ
+addByte false = 17
+addByte true = 25
+
+-- what the reader of an add request says of these fields, blob and limits
+pub record AddRead (payload : List ℕ) (c : Bool) (p : Places) (fields blob : List ℕ) (l : Lifetime) (confirm : Bool) : Type 0 where
+  pub begins : Begins (addByte c) payload
+  pub read : additionAt payload 1 c ≡ Addition.Whole p l confirm
+  pub cut : cutOf payload 1 (p .end) ≡ fields
+  pub public : blobOf payload 1 p ≡ blob
+
+module _ (payload : List ℕ) (bytes : Bytes payload) where
+  limits-in : (c : Bool) (at : ℕ) (l : Lifetime) (confirm : Bool) → constraintsAt payload at c ≡ Done l confirm → Limits (addByte c) (drop at payload) l confirm
+  limits-in false at l confirm e =
+      let x : Forever ≡ l = cc in
+      let y : false ≡ confirm = cc in
+      rw (← x, ← y) (plain (drop at payload))
+  limits-in true at l confirm e =
+      let (cs, form, adds) = walk-rule at (drop at payload) l confirm (drop-bytes at payload bytes) .0 e in
+      rw form (constrained cs l confirm adds)
+
+  limits-out : {byte : ℕ} {rest : List ℕ} {l : Lifetime} {confirm : Bool} → Limits byte rest l confirm
+      → (c : Bool) × (byte ≡ addByte c) × ((at : ℕ) → drop at payload ≡ rest → constraintsAt payload at c ≡ Done l confirm)
+  limits-out (plain rest) = (false, refl, λ at e. refl)
+  limits-out (constrained cs l confirm adds) = (true, refl, λ at e. walk-rule at (drop at payload) l confirm (drop-bytes at payload bytes) .1 (cs, e, adds))
+
+  -- what is read is a request as the draft writes it
+  pub add-in : (c : Bool) (p : Places) (l : Lifetime) (confirm : Bool) → Begins (addByte c) payload → additionAt payload 1 c ≡ Addition.Whole p l confirm
+      → (fields : List ℕ) × (blob : List ℕ) × AddRequest payload fields blob l confirm × AddRead payload c p fields blob l confirm
+  add-in c p l confirm begins e =
+      let w = steps payload c p l confirm e in
+      let (fields, blob, form, shape, found) = only-keys payload 1 p bytes (w .fields) in
+      let (octets, commented) = text-shape payload (p .end) (w .from) (w .to) (w .next) bytes (w .comment) in
+      let lies = lies-at payload 1 fields (drop (p .end) payload) (begins .some-byte) shape .0 in (
+        fields,
+        blob,
+        record {
+          byte = addByte c;
+          comment = cutOf payload (w .from) (w .to);
+          rest = drop (w .next .at) payload;
+          key = form;
+          text = octets;
+          limits = limits-in c (w .next .at) l confirm (w .limits);
+          shape = first-shape begins ∙ ap (λ (rest : List ℕ). addByte c ∷ rest) (shape ∙ ap (λ (rest : List ℕ). fields ++ rest) commented);
+        },
+        record { begins = begins; read = e; cut = ap (cutOf payload 1) (found .end) ∙ lies-cut lies; public = found .public },
+      )
+
+  -- what the draft writes is read
+  pub add-out : (fields blob : List ℕ) (l : Lifetime) (confirm : Bool) → length payload < 2 ^ 32 → AddRequest payload fields blob l confirm
+      → (c : Bool) × (p : Places) × AddRead payload c p fields blob l confirm
+  add-out fields blob l confirm small r =
+      let (c, byte, limits) = limits-out (r .limits) in
+      let size = simp length-append at (ap length (r .shape)) in
+      let rest : List ℕ = string (r .comment) ++ r .rest in
+      let shape : drop 1 payload ≡ fields ++ rest = ap (drop 1) (r .shape) in
+      let (p, found) = every-key payload 1 fields blob rest bytes (r .key) (omega arith) shape in
+      let begins : Begins (addByte c) payload = rw (← byte) (shape-first (r .shape)) in
+      let (lies, behind) = lies-at payload 1 fields rest (begins .some-byte) shape in
+      let commented : drop (p .end) payload ≡ rest = rw (found .end) behind in
+      let (text, left) = text-there payload (p .end) (r .comment) (r .rest) bytes (omega arith) (r .text) commented in (
+        c,
+        p,
+        record {
+          begins = begins;
+          read = steps-back payload c p l confirm (record { fields = found .read-so; from = _; to = _; next = _; comment = text; limits = limits _ left });
+          cut = ap (cutOf payload 1) (found .end) ∙ lies-cut lies;
+          public = found .public;
+        },
+      )
+
+-- ## Sign requests
+
+-- what the readers of a sign request say of this blob, data and flags
+pub record SignRead (payload blob bytes : List ℕ) (flags : ℕ) : Type 0 where
+  pub from : ℕ
+  pub to : ℕ
+  pub next : Cursor
+  pub key : stringAt payload 1 ≡ Whole from to next
+  pub is-key : cutOf payload from to ≡ blob
+  pub data-from : ℕ
+  pub data-to : ℕ
+  pub data-next : Cursor
+  pub message : stringAt payload (next .at) ≡ Whole data-from data-to data-next
+  pub is-message : cutOf payload data-from data-to ≡ bytes
+  pub end : Cursor
+  pub choice : numberAt payload (data-next .at) ≡ Number.Value flags end
+
+-- a string that is read, and what is behind it
+string-in : (s : List ℕ) (at f t : ℕ) (k : Cursor) → Bytes s → stringAt s at ≡ Whole f t k → drop at s ≡ string (cutOf s f t) ++ drop (k .at) s
+string-in s at f t k bytes e = string-shape s at f t k bytes e ∙ rw (string-read s at f t k e .place)
+
+module _ (payload : List ℕ) (is-bytes : Bytes payload) (blob bytes : List ℕ) (flags : ℕ) where
+  pub sign-in : Begins 13 payload → SignRead payload blob bytes flags → SignRequest payload blob bytes flags
+  sign-in begins r =
+      let n = number-read payload (r .data-next .at) flags (r .end) (r .choice) in
+      let flags-shape : drop (r .data-next .at) payload ≡ be32 flags ++ drop (r .data-next .at + 4) payload
+      = rw (n .number) (be-shape payload (r .data-next .at) is-bytes (n .within)) in
+      let data-shape = string-in payload (r .next .at) (r .data-from) (r .data-to) (r .data-next) is-bytes (r .message) in
+      let key-shape = string-in payload 1 (r .from) (r .to) (r .next) is-bytes (r .key) in
+      record {
+        rest = drop (r .data-next .at + 4) payload;
+        short = rw (n .number) (be-small payload (r .data-next .at) is-bytes);
+        shape = first-shape begins ∙ ap (λ (rest : List ℕ). 13 ∷ rest) (rw (← flags-shape, ← r .is-message, ← data-shape, ← r .is-key) key-shape);
+      }
+
+  pub sign-out : length payload < 2 ^ 32 → SignRequest payload blob bytes flags → Begins 13 payload × SignRead payload blob bytes flags
+  sign-out small r =
+      let size = simp length-append at (ap length (r .shape)) in
+      let (key, is-key, behind) = string-form payload 1 blob (string bytes ++ (be32 flags ++ r .rest)) is-bytes (omega arith) .0 (ap (drop 1) (r .shape)) in
+      let (message, is-message, left) = string-form payload _ bytes (be32 flags ++ r .rest) is-bytes (omega arith) .0 behind in
+      let (choice, _) = number-form payload _ flags (r .rest) is-bytes (r .short) .0 left in (
+        shape-first (r .shape),
+        record {
+          from = _;
+          to = _;
+          next = _;
+          key = key;
+          is-key = is-key;
+          data-from = _;
+          data-to = _;
+          data-next = _;
+          message = message;
+          is-message = is-message;
+          end = _;
+          choice = choice;
+        },
+      )
