@@ -198,7 +198,7 @@ check-asks g c from to bytes e = by-row (asks-in g c (check from to) (λ class n
         (λ p l confirm i _ _. silent)
         is
     by-row (in-sign begins is) =
-        signing-cases (lent (c .answers)) (atCall g c) (payloadOf c) Asks silent silent
+        signing-cases (lent (c .answers)) (atCall g c) (payloadOf c) Asks (λ _. silent) (λ _. silent)
         (λ i x _ never. let z : _≡_ {A = ℕ} 0 1 = cc in absurd (omega arith))
         (λ i x from to flags _ _ _ never. let z : _≡_ {A = ℕ} 0 1 = cc in absurd (omega arith))
         (λ i x from to flags blob _ _ _ _. silent)

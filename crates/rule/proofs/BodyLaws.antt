@@ -1,5 +1,6 @@
 -- Every result of a row's body with lent answers, and what it says: one case lemma for each body. So only adds and signs ask behind the gate.
 use Prim.Native.Nat.{ℕ, _-_}
+use native.Mathlib.Omega.{arith}
 use mathlib.Core.Path.{_≡_, refl, sym, ap, _∙_}
 use mathlib.Core.Logic.{_≢_}
 use mathlib.Core.Bool.{Bool, true, false}
@@ -10,12 +11,14 @@ use lib.ListN.{length}
 use lib.Dec.{leb, ltb}
 use Rattle.wire.specs.declared.read.Cursor.{Cursor}
 use Rattle.wire.specs.declared.read.Number.{Number}
+use Rattle.wire.specs.declared.read.Part.{Part}
 use Rattle.wire.specs.declared.read.Part.the-variants.{Whole}
 use Rattle.wire.specs.Read.{cutOf, same, stringAt, numberAt}
 use Rattle.keys.specs.declared.kinds.Places.{Places}
 use Rattle.keys.specs.declared.constraints.Lifetime.{Lifetime}
 use Rattle.keys.specs.declared.addition.Addition.{Addition}
 use Rattle.keys.specs.Additions.{additionAt}
+use Rattle.rule.specs.declared.Found.the-variants.{Nothing}
 use Rattle.rule.specs.Gateway.{Entry, Gateway, seek, holds, placeFor, withLock, without, withEntry}
 use Rattle.rule.specs.Soundness.{lastNumber, within}
 use Rattle.rule.specs.Rule.{Question, gate, check, confirmation, signature, Answer, Landing, reply, close, FAILURE, SUCCESS, Plan, land, fails, closes, listing, removing, removingAll, locking, unlocking, hashOf, signatureReply, signed, signingData, confirming, signing, entryOf, storing, adding}
@@ -27,7 +30,7 @@ use Rattle.rule.proofs.PlaceLaws.{found-at}
 use Rattle.rule.proofs.Effects.{Storable}
 use Rattle.rule.proofs.Leavings.{lands-not-asks}
 use Rattle.rule.proofs.RowLaws.{bodyResult, question-beyond, through-some}
-use Rattle.rule.proofs.RequestLaws.{addByte}
+use Rattle.rule.proofs.RequestLaws.{addByte, Ordered}
 use Rattle.rule.proofs.FollowLaws.{Gives, land-gives, ask-gives, so-gives}
 
 -- the key that a request names, held in place i
@@ -35,16 +38,33 @@ pub record Chosen (g : Gateway) (payload : List ℕ) (i : ℕ) (e : Entry) : Typ
   pub there : HeldAt g i e
   pub carries : Carries (e .blob) payload
 
--- data and flags at a place of the payload
-pub record Ordered (payload : List ℕ) (at from to flags : ℕ) : Type 0 where
-  pub next : Cursor
-  pub end : Cursor
-  pub message : stringAt payload at ≡ Whole from to next
-  pub choice : numberAt payload (next .at) ≡ Number.Value flags end
+whole-not-fault : {p : Part} {from to at : ℕ} {next : Cursor} → p ≡ Whole from to next → p ≡ Part.Fault at → ⊥
+whole-not-fault e f = let z : _≡_ {A = ℕ} 0 1 = cc in omega arith
+
+-- nothing is ordered where the flags behind the data are cut
+flags-not-cut : {payload : List ℕ} {at from to flags x y cut : ℕ} {next : Cursor} → Ordered payload at from to flags → stringAt payload at ≡ Whole x y next
+    → numberAt payload (next .at) ≡ Number.Fault cut → ⊥
+flags-not-cut {next = next} order message fault =
+    let same-next : order .next ≡ next = cc in
+    let z : _≡_ {A = ℕ} 0 1 = cc in
+    omega arith
 
 -- a Confirm key has its yes
 abbrev pub Allowed : ((q : Question) → Option (Answer q)) → Entry → Type 0
 Allowed answer e = e .confirm ≡ true → answer (confirmation (e .number)) ≡ some true
+
+-- why a sign request fails behind the gate
+pub data Failing (answer : (q : Question) → Option (Answer q)) (g : Gateway) (payload : List ℕ) : Type 0 where
+  not-found : (v : List ℕ) → Carries v payload → seek (holds v) 0 (g .places) ≡ Nothing → Failing answer g payload
+  said-no : (i : ℕ) (e : Entry) → Chosen g payload i e → e .confirm ≡ true → answer (confirmation (e .number)) ≡ some false → Failing answer g payload
+
+-- why it closes
+pub data Closing (answer : (q : Question) → Option (Answer q)) (g : Gateway) (payload : List ℕ) : Type 0 where
+  no-key : ((v : List ℕ) → Carries v payload → ⊥) → Closing answer g payload
+  no-order : (i : ℕ) (e : Entry) (k : Chosen g payload i e) → Allowed answer e → ((from to flags : ℕ) → Ordered payload (k .carries .next .at) from to flags → ⊥)
+      → Closing answer g payload
+  none-given : (i : ℕ) (e : Entry) (from to flags : ℕ) (k : Chosen g payload i e) → Ordered payload (k .carries .next .at) from to flags → Allowed answer e
+      → answer (signature (e .number) from to (hashOf flags)) ≡ some none → Closing answer g payload
 
 module _ (answer : (q : Question) → Option (Answer q)) (g : Gateway) (payload : List ℕ) (P : Result → Type 0) where
   abbrev Follows : Plan → Type 0
@@ -66,7 +86,7 @@ module _ (answer : (q : Question) → Option (Answer q)) (g : Gateway) (payload 
     pub removing-cases : ((i : ℕ) (e : Entry) → Chosen g payload i e → Lands SUCCESS (without i g)) → Follows (removing g payload)
     unfolding removing
     removing-cases removed =
-        part-cases Follows (stringAt payload 1) (λ _. failure) λ f t k read.
+        part-cases Follows (stringAt payload 1) (λ _ _. failure) λ f t k read.
         found-cases Follows (seek (holds (cutOf payload f t)) 0 (g .places)) (λ _. failure) λ i at.
         let held = found-at (cutOf payload f t) (g .places) i at in
         success (without i g)
@@ -75,13 +95,13 @@ module _ (answer : (q : Question) → Option (Answer q)) (g : Gateway) (payload 
     pub locking-cases : ((passphrase : List ℕ) → Lands SUCCESS (withLock passphrase g)) → Follows (locking g payload)
     unfolding locking
     locking-cases locked =
-        part-cases Follows (stringAt payload 1) (λ _. failure) λ f t k _.
+        part-cases Follows (stringAt payload 1) (λ _ _. failure) λ f t k _.
         so-gives answer g P (leb (t - f) 1024) _ failing λ _. success _ (locked (cutOf payload f t))
 
     pub unlocking-cases : ((passphrase : List ℕ) → Lands SUCCESS (withLock passphrase g)) → Follows (unlocking g payload)
     unfolding unlocking
     unlocking-cases unlocked =
-        part-cases Follows (stringAt payload 1) (λ _. failure) λ f t k _.
+        part-cases Follows (stringAt payload 1) (λ _ _. failure) λ f t k _.
         so-gives answer g P (same (g .lock) (cutOf payload f t)) _ failing λ _. success _ (unlocked [])
 
     pub adding-cases : (constrained : Bool)
@@ -102,44 +122,53 @@ module _ (answer : (q : Question) → Option (Answer q)) (g : Gateway) (payload 
         (λ _. asking p l c i read storable)
         (λ granted _. so-gives answer g P granted _ failing λ _. success _ (stored p l c i read storable))
 
-    pub signing-cases : Lands close g
-        → ((i : ℕ) (e : Entry) → Chosen g payload i e → Asks (confirmation (e .number)))
-        → ((i : ℕ) (e : Entry) (from to flags : ℕ) (k : Chosen g payload i e) → Ordered payload (k .carries .next .at) from to flags → Allowed answer e
-        → Asks (signature (e .number) from to (hashOf flags)))
-        → ((i : ℕ) (e : Entry) (from to flags : ℕ) (blob : List ℕ) (k : Chosen g payload i e) → Ordered payload (k .carries .next .at) from to flags → Allowed answer e
-        → answer (signature (e .number) from to (hashOf flags)) ≡ some (some blob) → Lands (reply (signatureReply blob)) g)
-        → Follows (signing g payload)
-    unfolding signing confirming signingData signed
-    signing-cases closing confirms asking signs =
-        part-cases Follows (stringAt payload 1) (λ _. closed) λ f t k read.
-        found-cases Follows (seek (holds (cutOf payload f t)) 0 (g .places)) (λ _. failure) λ i at.
-        let held = found-at (cutOf payload f t) (g .places) i at in
-        let e = held .entry in
-        let key : Chosen g payload i e = record { there = held .there; carries = record { from = f; to = t; next = k; read = read; is = sym (held .is) } } in
-        rw (held .there)
-        (so-cases Follows (e .confirm)
-        (λ _.
-        ask-gives answer g P (confirmation (e .number)) _
-        (λ _. confirms i e key)
-        (λ granted says. so-gives answer g P granted _ failing λ agreed. by-data i e key (λ _. says ∙ ap some agreed)))
-        (λ free. by-data i e key (λ confirm. absurd (true-not-false (sym confirm ∙ free)))))
-      where
-        closed : Follows (closes g)
-        closed = land-gives answer g P close g closing
+  pub signing-cases : (Failing answer g payload → Lands FAILURE g) → (Closing answer g payload → Lands close g)
+      → ((i : ℕ) (e : Entry) → Chosen g payload i e → Asks (confirmation (e .number)))
+      → ((i : ℕ) (e : Entry) (from to flags : ℕ) (k : Chosen g payload i e) → Ordered payload (k .carries .next .at) from to flags → Allowed answer e
+      → Asks (signature (e .number) from to (hashOf flags)))
+      → ((i : ℕ) (e : Entry) (from to flags : ℕ) (blob : List ℕ) (k : Chosen g payload i e) → Ordered payload (k .carries .next .at) from to flags → Allowed answer e
+      → answer (signature (e .number) from to (hashOf flags)) ≡ some (some blob) → Lands (reply (signatureReply blob)) g)
+      → Follows (signing g payload)
+  unfolding signing confirming signingData signed
+  signing-cases failing closing confirms asking signs =
+      part-cases Follows (stringAt payload 1) (λ _ cut. closed (no-key (λ v s. whole-not-fault (s .read) cut))) λ f t k read.
+      found-cases Follows (seek (holds (cutOf payload f t)) 0 (g .places))
+      (λ absent. failed (not-found (cutOf payload f t) (record { from = f; to = t; next = k; read = read; is = refl }) absent)) λ i at.
+      let held = found-at (cutOf payload f t) (g .places) i at in
+      let e = held .entry in
+      let key : Chosen g payload i e = record { there = held .there; carries = record { from = f; to = t; next = k; read = read; is = sym (held .is) } } in
+      rw (held .there)
+      (so-cases Follows (e .confirm)
+      (λ confirm.
+      ask-gives answer g P (confirmation (e .number)) _
+      (λ _. confirms i e key)
+      (λ granted says.
+      so-cases Follows granted
+      (λ agreed. by-data i e key (λ _. says ∙ ap some agreed))
+      (λ denied. failed (said-no i e key confirm (says ∙ ap some denied)))))
+      (λ free. by-data i e key (λ confirm. absurd (true-not-false (sym confirm ∙ free)))))
+    where
+      failed : Failing answer g payload → Follows (fails g)
+      failed why = land-gives answer g P FAILURE g (failing why)
 
-        by-signer : (i : ℕ) (e : Entry) (from to flags : ℕ) (k : Chosen g payload i e) → Ordered payload (k .carries .next .at) from to flags → Allowed answer e
-            → (a : Option (List ℕ)) → answer (signature (e .number) from to (hashOf flags)) ≡ some a → Follows (signed g a)
-        by-signer i e from to flags k order allowed none says = closed
-        by-signer i e from to flags k order allowed (some blob) says = land-gives answer g P _ g (signs i e from to flags blob k order allowed says)
+      closed : Closing answer g payload → Follows (closes g)
+      closed why = land-gives answer g P close g (closing why)
 
-        by-data : (i : ℕ) (e : Entry) (k : Chosen g payload i e) → Allowed answer e → Follows (signingData g payload (e .number) (k .carries .next .at))
-        by-data i e k allowed =
-            part-cases Follows (stringAt payload (k .carries .next .at)) (λ _. closed) λ from to next message.
-            number-cases Follows (numberAt payload (next .at)) (λ _. closed) λ flags end choice.
-            let order : Ordered payload (k .carries .next .at) from to flags = record { next = next; end = end; message = message; choice = choice } in
-            ask-gives answer g P (signature (e .number) from to (hashOf flags)) (signed g)
-            (λ _. asking i e from to flags k order allowed)
-            (by-signer i e from to flags k order allowed)
+      by-signer : (i : ℕ) (e : Entry) (from to flags : ℕ) (k : Chosen g payload i e) → Ordered payload (k .carries .next .at) from to flags → Allowed answer e
+          → (a : Option (List ℕ)) → answer (signature (e .number) from to (hashOf flags)) ≡ some a → Follows (signed g a)
+      by-signer i e from to flags k order allowed none says = closed (none-given i e from to flags k order allowed says)
+      by-signer i e from to flags k order allowed (some blob) says = land-gives answer g P _ g (signs i e from to flags blob k order allowed says)
+
+      by-data : (i : ℕ) (e : Entry) (k : Chosen g payload i e) → Allowed answer e → Follows (signingData g payload (e .number) (k .carries .next .at))
+      by-data i e k allowed =
+          part-cases Follows (stringAt payload (k .carries .next .at))
+          (λ _ cut. closed (no-order i e k allowed (λ from to flags order. whole-not-fault (order .message) cut))) λ from to next message.
+          number-cases Follows (numberAt payload (next .at))
+          (λ _ cut. closed (no-order i e k allowed (λ _ _ flags order. flags-not-cut order message cut))) λ flags end choice.
+          let order : Ordered payload (k .carries .next .at) from to flags = record { next = next; end = end; message = message; choice = choice } in
+          ask-gives answer g P (signature (e .number) from to (hashOf flags)) (signed g)
+          (λ _. asking i e from to flags k order allowed)
+          (by-signer i e from to flags k order allowed)
 
 -- ## Questions behind the gate
 

@@ -24,15 +24,15 @@ module _ {A : Type 0} (P : A → Type 0) where
   so-cases true f g = f refl
   so-cases false f g = g refl
 
-  pub part-cases : (p : Part) {z : ℕ → A} {next : ℕ → ℕ → Cursor → A} → ((at : ℕ) → P (z at)) → ((f t : ℕ) (k : Cursor) → p ≡ Whole f t k → P (next f t k)) → P (part z p next)
+  pub part-cases : (p : Part) {z : ℕ → A} {next : ℕ → ℕ → Cursor → A} → ((at : ℕ) → p ≡ Part.Fault at → P (z at)) → ((f t : ℕ) (k : Cursor) → p ≡ Whole f t k → P (next f t k)) → P (part z p next)
   unfolding part
   part-cases (Whole f t k) g h = h f t k refl
-  part-cases (Part.Fault at) g h = g at
+  part-cases (Part.Fault at) g h = g at refl
 
-  pub number-cases : (n : Number) {z : ℕ → A} {next : ℕ → Cursor → A} → ((at : ℕ) → P (z at)) → ((i : ℕ) (k : Cursor) → n ≡ Number.Value i k → P (next i k)) → P (number z n next)
+  pub number-cases : (n : Number) {z : ℕ → A} {next : ℕ → Cursor → A} → ((at : ℕ) → n ≡ Number.Fault at → P (z at)) → ((i : ℕ) (k : Cursor) → n ≡ Number.Value i k → P (next i k)) → P (number z n next)
   unfolding number
   number-cases (Number.Value i k) g h = h i k refl
-  number-cases (Number.Fault at) g h = g at
+  number-cases (Number.Fault at) g h = g at refl
 
   pub found-cases : (f : Found) {z : A} {next : ℕ → A} → (f ≡ Nothing → P z) → ((i : ℕ) → f ≡ At i → P (next i)) → P (found z f next)
   unfolding found

@@ -43,14 +43,14 @@ module _ (g : Gateway) where
   removing-effect : (payload : List ℕ) → Lands (removing g payload)
   unfolding removing
   removing-effect payload =
-      part-cases Lands (stringAt payload 1) (λ _. leaves refl) λ f t k _.
+      part-cases Lands (stringAt payload 1) (λ _ _. leaves refl) λ f t k _.
       found-cases Lands (seek (holds (cutOf payload f t)) 0 (g .places)) (λ _. leaves refl) λ i e.
       removes (cutOf payload f t) i e refl refl
 
   locking-effect : (payload : List ℕ) → Lands (locking g payload)
   unfolding locking
   locking-effect payload =
-      part-cases Lands (stringAt payload 1) (λ _. leaves refl) λ f t k e.
+      part-cases Lands (stringAt payload 1) (λ _ _. leaves refl) λ f t k e.
       so-cases Lands (leb (t - f) 1024)
       (λ fits.
       let w = string-read payload 1 f t k e in
@@ -62,14 +62,14 @@ module _ (g : Gateway) where
   unlocking-effect : (payload : List ℕ) → Lands (unlocking g payload)
   unfolding unlocking
   unlocking-effect payload =
-      part-cases Lands (stringAt payload 1) (λ _. leaves refl) λ f t k _.
+      part-cases Lands (stringAt payload 1) (λ _ _. leaves refl) λ f t k _.
       so-cases Lands (same (g .lock) (cutOf payload f t)) (λ _. locks [] zero-le refl refl) (λ _. leaves refl)
 
   data-effect : (payload : List ℕ) (n at : ℕ) → Lands (signingData g payload n at)
   unfolding signingData signed
   data-effect payload n at =
-      part-cases Lands (stringAt payload at) (λ _. leaves refl) λ f t k _.
-      number-cases Lands (numberAt payload (k .at)) (λ _. leaves refl) λ flags end _.
+      part-cases Lands (stringAt payload at) (λ _ _. leaves refl) λ f t k _.
+      number-cases Lands (numberAt payload (k .at)) (λ _ _. leaves refl) λ flags end _.
       by-signer
     where
       by-signer : (a : Option (List ℕ)) → Lands (signed g a)
@@ -79,7 +79,7 @@ module _ (g : Gateway) where
   signing-effect : (payload : List ℕ) → Lands (signing g payload)
   unfolding signing confirming
   signing-effect payload =
-      part-cases Lands (stringAt payload 1) (λ _. leaves refl) λ f t k _.
+      part-cases Lands (stringAt payload 1) (λ _ _. leaves refl) λ f t k _.
       found-cases Lands (seek (holds (cutOf payload f t)) 0 (g .places)) (λ _. leaves refl) λ i _.
       let p = getD (g .places) i none in
       let signer = data-effect payload (numberIn p) (k .at) in

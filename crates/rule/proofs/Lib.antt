@@ -22,5 +22,6 @@ pub mod RequestLaws
 pub mod BodyLaws
 pub mod AddLaws
 pub mod SignLaws
+pub mod CloseLaws
 pub mod UsableLaws
 pub mod Starred

@@ -1,4 +1,4 @@
--- Locking and unlocking past the gate: exactly which passphrases succeed, and what an unlock's success does.
+-- Locking and unlocking past the gate: exactly which passphrases succeed, and what success does.
 use Prim.Native.Nat.{ℕ, _-_, _≤_}
 use native.Mathlib.Omega.{arith}
 use mathlib.Core.Path.{_≡_, refl, sym, ap, _∙_}
@@ -14,8 +14,9 @@ use Rattle.rule.specs.Gateway.{Gateway, advance, atClock, withLock}
 use Rattle.rule.specs.Rule.{SUCCESS, Plan, locking, unlocking}
 use Rattle.rule.specs.Calls.{lent, Call, lands, follow, call}
 use Rattle.rule.specs.Order.{Begins, Carries}
-use Rattle.rule.specs.Content.{atCall, payloadOf, lock, unlock, LockRule, UnlockRule, UnlockOpens}
+use Rattle.rule.specs.Content.{atCall, payloadOf, lock, unlock, LockRule, LockHolds, UnlockRule, UnlockOpens}
 use Rattle.rule.proofs.Cases.{so-cases, part-cases}
+use Rattle.rule.proofs.RequestLaws.{one-carried}
 use Rattle.rule.proofs.RowLaws.{past-gate, OnSuccess, failure-shows, success-shows}
 
 carries-length : {v payload : List ℕ} (s : Carries v payload) → length v ≡ s .to - s .from
@@ -25,23 +26,30 @@ carries-length {v} {payload} s =
 
 -- ## Lock
 
-abbrev Passphrase : List ℕ → Type 0
-Passphrase payload = (v : List ℕ) × Carries v payload × (length v ≤ 1024)
+-- the payload carries a passphrase that fits, and the gateway is locked with it
+record Locks (g : Gateway) (payload : List ℕ) (after : Gateway) : Type 0 where
+  passphrase : List ℕ
+  carries : Carries passphrase payload
+  fits : length passphrase ≤ 1024
+  locks : after ≡ withLock passphrase g
 
-locking-shows : (g : Gateway) (payload : List ℕ) → OnSuccess (λ _. Passphrase payload) (locking g payload)
+locking-shows : (g : Gateway) (payload : List ℕ) → OnSuccess (Locks g payload) (locking g payload)
 unfolding locking
 locking-shows g payload =
-    part-cases Shows (stringAt payload 1) (λ _. failure-shows) λ f t k e.
+    part-cases Shows (stringAt payload 1) (λ _ _. failure-shows) λ f t k e.
     so-cases Shows (leb (t - f) 1024)
     (λ fits _.
     let s : Carries (cutOf payload f t) payload = record { from = f; to = t; next = k; read = e; is = refl } in
     let l = carries-length s in
     let h : t - f ≤ 1024 = leb-true _ _ fits in
-    (cutOf payload f t, s, omega arith))
+    record { passphrase = cutOf payload f t; carries = s; fits = omega arith; locks = refl })
     (λ _. failure-shows)
   where
     Shows : Plan → Type 0
-    Shows = OnSuccess (λ _. Passphrase payload)
+    Shows = OnSuccess (Locks g payload)
+
+lock-shows : (g : Gateway) (c : Call) → Begins 22 (payloadOf c) → call g c .outcome ≡ lands SUCCESS → Locks (atCall g c) (payloadOf c) (call g c .gateway)
+lock-shows g c begins = success-shows (Locks (atCall g c) (payloadOf c)) lock g c begins (locking-shows (atCall g c) (payloadOf c))
 
 locking-succeeds : (g : Gateway) (c : Call) (v : List ℕ) → Carries v (payloadOf c) → length v ≤ 1024
     → follow (lent (c .answers)) g (locking g (payloadOf c)) .outcome ≡ lands SUCCESS
@@ -53,9 +61,15 @@ locking-succeeds g c v s h =
 
 pub lock-rule : LockRule
 lock-rule g c past fit begins = (
-  success-shows (λ _. Passphrase (payloadOf c)) lock g c begins (locking-shows (atCall g c) (payloadOf c)),
+  (λ e. let shown = lock-shows g c begins e in (shown .passphrase, shown .carries, shown .fits)),
   (λ (v, s, h). rw (past-gate lock g c past fit begins) (locking-succeeds (atCall g c) c v s h)),
 )
+
+pub lock-holds : LockHolds
+unfolding advance atClock
+lock-holds g c v begins carries e =
+    let shown = lock-shows g c begins e in
+    shown .locks ∙ ap (λ (passphrase : List ℕ). withLock passphrase (atCall g c)) (one-carried (shown .carries) carries .0)
 
 -- ## Unlock
 
@@ -67,7 +81,7 @@ record Unlocks (g : Gateway) (payload : List ℕ) (after : Gateway) : Type 0 whe
 unlocking-shows : (g : Gateway) (payload : List ℕ) → OnSuccess (Unlocks g payload) (unlocking g payload)
 unfolding unlocking
 unlocking-shows g payload =
-    part-cases Shows (stringAt payload 1) (λ _. failure-shows) λ f t k e.
+    part-cases Shows (stringAt payload 1) (λ _ _. failure-shows) λ f t k e.
     so-cases Shows (same (g .lock) (cutOf payload f t))
     (λ equal _. record { carries = record { from = f; to = t; next = k; read = e; is = sym (same-rule _ _ .0 equal) }; opens = refl })
     (λ _. failure-shows)

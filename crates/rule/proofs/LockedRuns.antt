@@ -1,25 +1,25 @@
 -- Between a lock and an unlock: what the rule does while locked, a run of it, and the lock's success.
-use Prim.Native.Nat.{ℕ, _-_, max, zero-le}
-use mathlib.Core.Path.{_≡_, refl}
+use Prim.Native.Nat.{ℕ, max, zero-le}
+use mathlib.Core.Path.{_≡_, refl, ap}
 use mathlib.Core.Bool.{Bool, true, false}
 use mathlib.Core.Option.{Option, none}
 use mathlib.Core.List.{List, [], _∷_, _++_}
 use borrow.Author.Tests.{ltb-true, lt-ltb, eqb-true}
 use lib.ListN.{length}
-use lib.Dec.{leb, ltb, eqb}
+use lib.Dec.{ltb, eqb}
 use Rattle.wire.specs.Steps.{so}
 use Rattle.wire.specs.Read.{cutOf, same, stringAt}
 use Rattle.rule.specs.Gateway.{Gateway, locked, opened, advance}
-use Rattle.rule.specs.Rule.{Question, gate, Answer, Landing, FAILURE, SUCCESS, Plan, land, ask, fails, locking, unlocking, gated, row, table, rule}
+use Rattle.rule.specs.Rule.{Question, gate, Answer, Landing, FAILURE, SUCCESS, Plan, land, ask, fails, unlocking, gated, row, table, rule}
 use Rattle.rule.specs.Calls.{given, Call, asks, Result, call}
 use Rattle.rule.specs.Runs.{heard, heardIn, greatest, Turn, turn, turnsFrom, endOf, Landed, alone}
-use Rattle.rule.specs.Order.{EveryTurn, settled, ownAnswers, Begins, Carries, NoUnlocking, EveryQuestion, someAccepted, WhileLocked, LockStores, BetweenLockAndUnlock, Needs, here, behind}
+use Rattle.rule.specs.Order.{EveryTurn, settled, ownAnswers, Begins, NoUnlocking, EveryQuestion, someAccepted, WhileLocked, LockStores, BetweenLockAndUnlock, Needs, here, behind}
 use Rattle.rule.proofs.Cases.{so-cases, part-cases}
 use Rattle.rule.proofs.Clock.{advance-lock}
-use Rattle.rule.proofs.Plans.{EveryLanding, alone-has, call-has, refused-not-asks}
-use Rattle.rule.proofs.Effects.{success-not-failure}
+use Rattle.rule.proofs.Plans.{EveryLanding, alone-has, refused-not-asks}
 use Rattle.rule.proofs.Crossing.{landingResult, heardBy, planOf, own-cases, Together, together, together-asked, advance-settled}
 use Rattle.rule.proofs.Leavings.{lands-not-asks}
+use Rattle.rule.proofs.LockLaws.{lock-holds}
 
 -- every question of a plan
 abbrev pub EveryAsk : (Question → Type 0) → Plan → Type 0
@@ -76,7 +76,7 @@ module _ (g : Gateway) (h : locked g ≡ true) where
         locked-cases Lands payload (stays refl refl) λ begins granted.
         so-cases Lands granted
         (λ _.
-        part-cases Lands (stringAt payload 1) (λ _. stays refl refl) λ f t k _.
+        part-cases Lands (stringAt payload 1) (λ _ _. stays refl refl) λ f t k _.
         so-cases Lands (same (g .lock) (cutOf payload f t)) (λ _. unlocks begins refl) (λ _. stays refl refl))
         (λ _. stays refl refl)
 
@@ -90,7 +90,7 @@ module _ (g : Gateway) (h : locked g ≡ true) where
           (refl, begins),
           λ granted.
               so-cases Asks granted
-              (λ _. part-cases Asks (stringAt payload 1) (λ _. tt) λ f t k _. so-cases Asks (same (g .lock) (cutOf payload f t)) (λ _. tt) (λ _. tt))
+              (λ _. part-cases Asks (stringAt payload 1) (λ _ _. tt) λ f t k _. so-cases Asks (same (g .lock) (cutOf payload f t)) (λ _. tt) (λ _. tt))
               (λ _. tt),
         )
 
@@ -164,41 +164,8 @@ while-locked g cs h no-unlocking =
 
 -- ## The lock's success
 
-lock-row : (g : Gateway) (payload : List ℕ) → Begins 22 payload → rule g payload ≡ gated g (opened g) 6 (locking g payload)
-unfolding rule table row so
-lock-row g payload begins = rw (lt-ltb _ _ (begins .some-byte), begins .first)
-
-abbrev Stored : List ℕ → Landing → Gateway → Type 0
-Stored passphrase l after = l ≡ SUCCESS → after .lock ≡ passphrase
-
-module _ (g : Gateway) (payload passphrase : List ℕ) (carries : Carries passphrase payload) where
-  abbrev Stores : Plan → Type 0
-  Stores = EveryLanding (Stored passphrase)
-
-  failure-stores : Stores (fails g)
-  failure-stores e = absurd (success-not-failure e refl)
-
-  locking-stores : Stores (locking g payload)
-  unfolding locking
-  locking-stores =
-      part-cases Stores (stringAt payload 1) (λ _. failure-stores) λ f t k e.
-      so-cases Stores (leb (t - f) 1024)
-      (λ _ _. let from : f ≡ carries .from = cc in let to : t ≡ carries .to = cc in rw (from, to) (carries .is))
-      (λ _. failure-stores)
-
-  lock-row-stores : Begins 22 payload → Stores (rule g payload)
-  unfolding gated
-  lock-row-stores begins =
-      rw (lock-row g payload begins)
-      (so-cases Stores (opened g)
-      (λ _ granted. so-cases Stores granted (λ _. locking-stores) (λ _. failure-stores))
-      (λ _. failure-stores))
-
 pub lock-stores : LockStores
-lock-stores g c passphrase begins carries e =
-    call-has (Stored passphrase) g c SUCCESS
-    (lock-row-stores (advance (c .reading) g) (c .frame .payload) passphrase carries begins)
-    e refl
+lock-stores g c passphrase begins carries e = ap (λ after. after .lock) (lock-holds g c passphrase begins carries e)
 
 pub between-lock-and-unlock : BetweenLockAndUnlock
 between-lock-and-unlock g c passphrase begins carries some-byte e cs =

@@ -39,8 +39,8 @@ module _ (oracle : Oracle) (g : Gateway) where
   data-asks : (payload : List ℕ) (n at : ℕ) → AtMost 1 (signingData g payload n at)
   unfolding signingData signed
   data-asks payload n at =
-      part-cases (AtMost 1) (stringAt payload at) (λ _. land-asks 1 _ g) λ f t k _.
-      number-cases (AtMost 1) (numberAt payload (k .at)) (λ _. land-asks 1 _ g) λ flags end _.
+      part-cases (AtMost 1) (stringAt payload at) (λ _ _. land-asks 1 _ g) λ f t k _.
+      number-cases (AtMost 1) (numberAt payload (k .at)) (λ _ _. land-asks 1 _ g) λ flags end _.
       ask-asks 0 (signature n f t (hashOf flags)) (signed g) signed-asks
     where
       signed-asks : (a : Option (List ℕ)) → AtMost 0 (signed g a)
@@ -50,7 +50,7 @@ module _ (oracle : Oracle) (g : Gateway) where
   signing-asks : (payload : List ℕ) → AtMost 2 (signing g payload)
   unfolding signing confirming
   signing-asks payload =
-      part-cases (AtMost 2) (stringAt payload 1) (λ _. land-asks 2 _ g) λ f t k _.
+      part-cases (AtMost 2) (stringAt payload 1) (λ _ _. land-asks 2 _ g) λ f t k _.
       found-cases (AtMost 2) (seek (holds (cutOf payload f t)) 0 (g .places)) (λ _. land-asks 2 _ g) λ i _.
       let p = getD (g .places) i none in
       let signer = data-asks payload (numberIn p) (k .at) in
@@ -70,19 +70,19 @@ module _ (oracle : Oracle) (g : Gateway) where
   removing-asks : (payload : List ℕ) → AtMost 2 (removing g payload)
   unfolding removing
   removing-asks payload =
-      part-cases (AtMost 2) (stringAt payload 1) (λ _. land-asks 2 _ g) λ f t k _.
+      part-cases (AtMost 2) (stringAt payload 1) (λ _ _. land-asks 2 _ g) λ f t k _.
       found-cases (AtMost 2) (seek (holds (cutOf payload f t)) 0 (g .places)) (λ _. land-asks 2 _ g) (λ i _. land-asks 2 _ _)
 
   locking-asks : (payload : List ℕ) → AtMost 2 (locking g payload)
   unfolding locking
   locking-asks payload =
-      part-cases (AtMost 2) (stringAt payload 1) (λ _. land-asks 2 _ g) λ f t k _.
+      part-cases (AtMost 2) (stringAt payload 1) (λ _ _. land-asks 2 _ g) λ f t k _.
       so-asks 2 (leb (t - f) 1024) _ (land-asks 2 _ _)
 
   unlocking-asks : (payload : List ℕ) → AtMost 2 (unlocking g payload)
   unfolding unlocking
   unlocking-asks payload =
-      part-cases (AtMost 2) (stringAt payload 1) (λ _. land-asks 2 _ g) λ f t k _.
+      part-cases (AtMost 2) (stringAt payload 1) (λ _ _. land-asks 2 _ g) λ f t k _.
       so-asks 2 (same (g .lock) (cutOf payload f t)) _ (land-asks 2 _ _)
 
   row-asks : (first byte : ℕ) (fit : Bool) (class : ℕ) (body below : Plan) → AtMost 2 body → AtMost 3 below → AtMost 3 (row g first byte fit class body below)

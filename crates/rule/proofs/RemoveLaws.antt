@@ -31,7 +31,7 @@ without-gone g i = record {
 removing-shows : (g : Gateway) (payload : List ℕ) → OnSuccess (Taken g payload) (removing g payload)
 unfolding removing
 removing-shows g payload =
-    part-cases Shows (stringAt payload 1) (λ _. failure-shows) λ f t k read.
+    part-cases Shows (stringAt payload 1) (λ _ _. failure-shows) λ f t k read.
     found-cases Shows (seek (holds (cutOf payload f t)) 0 (g .places)) (λ _. failure-shows) λ i at _.
     let held = found-at (cutOf payload f t) (g .places) i at in
     (i, held .entry, held .there, record { from = f; to = t; next = k; read = read; is = sym (held .is) }, without-gone g i)

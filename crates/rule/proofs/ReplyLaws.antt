@@ -83,15 +83,15 @@ module _ (lent : (q : Question) → Option (Answer q)) (g : Gateway)
   data-fits : (payload : List ℕ) (n at : ℕ) → Fits (signingData g payload n at)
   unfolding signingData
   data-fits payload n at =
-      part-cases Fits (stringAt payload at) (λ _. closes-fits) λ f t k _.
-      number-cases Fits (numberAt payload (k .at)) (λ _. closes-fits) λ flags end _.
+      part-cases Fits (stringAt payload at) (λ _ _. closes-fits) λ f t k _.
+      number-cases Fits (numberAt payload (k .at)) (λ _ _. closes-fits) λ flags end _.
       ask-fits (signature n f t (hashOf flags)) (signed g) λ a e.
       signed-fits a (λ blob is. short n f t (hashOf flags) blob (e ∙ ap some is))
 
   signing-fits : (payload : List ℕ) → Fits (signing g payload)
   unfolding signing confirming
   signing-fits payload =
-      part-cases Fits (stringAt payload 1) (λ _. closes-fits) λ f t k _.
+      part-cases Fits (stringAt payload 1) (λ _ _. closes-fits) λ f t k _.
       found-cases Fits (seek (holds (cutOf payload f t)) 0 (g .places)) (λ _. fails-fits) λ i _.
       let p = getD (g .places) i none in
       let signer = data-fits payload (numberIn p) (k .at) in
@@ -111,19 +111,19 @@ module _ (lent : (q : Question) → Option (Answer q)) (g : Gateway)
   removing-fits : (payload : List ℕ) → Fits (removing g payload)
   unfolding removing
   removing-fits payload =
-      part-cases Fits (stringAt payload 1) (λ _. fails-fits) λ f t k _.
+      part-cases Fits (stringAt payload 1) (λ _ _. fails-fits) λ f t k _.
       found-cases Fits (seek (holds (cutOf payload f t)) 0 (g .places)) (λ _. fails-fits) (λ i _. success-fits _)
 
   locking-fits : (payload : List ℕ) → Fits (locking g payload)
   unfolding locking
   locking-fits payload =
-      part-cases Fits (stringAt payload 1) (λ _. fails-fits) λ f t k _.
+      part-cases Fits (stringAt payload 1) (λ _ _. fails-fits) λ f t k _.
       so-fits (leb (t - f) 1024) _ (success-fits _)
 
   unlocking-fits : (payload : List ℕ) → Fits (unlocking g payload)
   unfolding unlocking
   unlocking-fits payload =
-      part-cases Fits (stringAt payload 1) (λ _. fails-fits) λ f t k _.
+      part-cases Fits (stringAt payload 1) (λ _ _. fails-fits) λ f t k _.
       so-fits (same (g .lock) (cutOf payload f t)) _ (success-fits _)
 
   row-fits : (first byte : ℕ) (fit : Bool) (class : ℕ) (body below : Plan) → Fits body → Fits below → Fits (row g first byte fit class body below)

@@ -30,7 +30,7 @@ use Rattle.keys.specs.Additions.{limitsOf, constraintsAt, commentedAt, key, add
 use Rattle.keys.proofs.KeyLaws.{only-keys, every-key}
 use Rattle.keys.proofs.FieldLaws.{lies-at, lies-cut}
 use Rattle.keys.proofs.WalkLaws.{walk-rule}
-use Rattle.rule.specs.Order.{Begins}
+use Rattle.rule.specs.Order.{Begins, Carries}
 use Rattle.rule.specs.Content.{Limits, plain, constrained, AddRequest, SignRequest}
 use Rattle.rule.proofs.Cases.{part-cases}
 
@@ -44,6 +44,13 @@ shape-first {byte} {payload} e = rw e (record { some-byte = omega arith; first =
 
 pub drop-bytes : (at : ℕ) (s : List ℕ) → Bytes s → Bytes (drop at s)
 drop-bytes at s bytes i = rw (getD-drop at s i 0) (bytes (at + i))
+
+-- a payload carries one string, and one place is behind it
+pub one-carried : {v w payload : List ℕ} (s : Carries v payload) (t : Carries w payload) → (v ≡ w) × (s .next ≡ t .next)
+one-carried s t =
+    let from : s .from ≡ t .from = cc in
+    let to : s .to ≡ t .to = cc in
+    ((cc), (cc))
 
 -- ## The steps of an add request
 
@@ -75,7 +82,7 @@ module _ (s : List ℕ) (c : Bool) (p : Places) (l : Lifetime) (confirm : Bool) 
 
       by-key : (k : Key) → keyAt s 1 ≡ k → Went (key Addition.Fault k (λ p. commentedAt s p c))
       by-key (Key.Whole q) h =
-          part-cases Went (textAt s (q .end)) faulty λ f t k e w.
+          part-cases Went (textAt s (q .end)) (λ at _. faulty at) λ f t k e w.
           let (x, y) = by-walk q (constraintsAt s (k .at) c) w in
           record { fields = h ∙ ap Key.Whole x; from = f; to = t; next = k; comment = rw x at e; limits = y }
       by-key (Key.Fault at) h = faulty at
@@ -179,58 +186,53 @@ module _ (payload : List ℕ) (bytes : Bytes payload) where
 
 -- ## Sign requests
 
+-- data and flags at a place of the payload
+pub record Ordered (payload : List ℕ) (at from to flags : ℕ) : Type 0 where
+  pub next : Cursor
+  pub end : Cursor
+  pub message : stringAt payload at ≡ Whole from to next
+  pub choice : numberAt payload (next .at) ≡ Number.Value flags end
+
 -- what the readers of a sign request say of this blob, data and flags
 pub record SignRead (payload blob bytes : List ℕ) (flags : ℕ) : Type 0 where
+  pub begins : Begins 13 payload
+  pub carries : Carries blob payload
   pub from : ℕ
   pub to : ℕ
-  pub next : Cursor
-  pub key : stringAt payload 1 ≡ Whole from to next
-  pub is-key : cutOf payload from to ≡ blob
-  pub data-from : ℕ
-  pub data-to : ℕ
-  pub data-next : Cursor
-  pub message : stringAt payload (next .at) ≡ Whole data-from data-to data-next
-  pub is-message : cutOf payload data-from data-to ≡ bytes
-  pub end : Cursor
-  pub choice : numberAt payload (data-next .at) ≡ Number.Value flags end
+  pub order : Ordered payload (carries .next .at) from to flags
+  pub is-message : cutOf payload from to ≡ bytes
 
 -- a string that is read, and what is behind it
 string-in : (s : List ℕ) (at f t : ℕ) (k : Cursor) → Bytes s → stringAt s at ≡ Whole f t k → drop at s ≡ string (cutOf s f t) ++ drop (k .at) s
 string-in s at f t k bytes e = string-shape s at f t k bytes e ∙ rw (string-read s at f t k e .place)
 
-module _ (payload : List ℕ) (is-bytes : Bytes payload) (blob bytes : List ℕ) (flags : ℕ) where
-  pub sign-in : Begins 13 payload → SignRead payload blob bytes flags → SignRequest payload blob bytes flags
-  sign-in begins r =
-      let n = number-read payload (r .data-next .at) flags (r .end) (r .choice) in
-      let flags-shape : drop (r .data-next .at) payload ≡ be32 flags ++ drop (r .data-next .at + 4) payload
-      = rw (n .number) (be-shape payload (r .data-next .at) is-bytes (n .within)) in
-      let data-shape = string-in payload (r .next .at) (r .data-from) (r .data-to) (r .data-next) is-bytes (r .message) in
-      let key-shape = string-in payload 1 (r .from) (r .to) (r .next) is-bytes (r .key) in
-      record {
-        rest = drop (r .data-next .at + 4) payload;
-        short = rw (n .number) (be-small payload (r .data-next .at) is-bytes);
-        shape = first-shape begins ∙ ap (λ (rest : List ℕ). 13 ∷ rest) (rw (← flags-shape, ← r .is-message, ← data-shape, ← r .is-key) key-shape);
-      }
+-- what is read is a request as the draft writes it
+pub sign-in : {payload blob : List ℕ} {from to flags : ℕ} → Bytes payload → Begins 13 payload → (k : Carries blob payload) → Ordered payload (k .next .at) from to flags
+    → SignRequest payload blob (cutOf payload from to) flags
+sign-in {payload} {blob} {from} {to} {flags} bytes begins k order =
+    let at = order .next .at in
+    let n = number-read payload at flags (order .end) (order .choice) in
+    let flags-shape : drop at payload ≡ be32 flags ++ drop (at + 4) payload = rw (n .number) (be-shape payload at bytes (n .within)) in
+    let data-shape = string-in payload (k .next .at) from to (order .next) bytes (order .message) in
+    let key-shape = string-in payload 1 (k .from) (k .to) (k .next) bytes (k .read) in
+    record {
+      rest = drop (at + 4) payload;
+      short = rw (n .number) (be-small payload at bytes);
+      shape = first-shape begins ∙ ap (λ (rest : List ℕ). 13 ∷ rest) (rw (← flags-shape, ← data-shape, ← k .is) key-shape);
+    }
 
-  pub sign-out : length payload < 2 ^ 32 → SignRequest payload blob bytes flags → Begins 13 payload × SignRead payload blob bytes flags
-  sign-out small r =
-      let size = simp length-append at (ap length (r .shape)) in
-      let (key, is-key, behind) = string-form payload 1 blob (string bytes ++ (be32 flags ++ r .rest)) is-bytes (omega arith) .0 (ap (drop 1) (r .shape)) in
-      let (message, is-message, left) = string-form payload _ bytes (be32 flags ++ r .rest) is-bytes (omega arith) .0 behind in
-      let (choice, _) = number-form payload _ flags (r .rest) is-bytes (r .short) .0 left in (
-        shape-first (r .shape),
-        record {
-          from = _;
-          to = _;
-          next = _;
-          key = key;
-          is-key = is-key;
-          data-from = _;
-          data-to = _;
-          data-next = _;
-          message = message;
-          is-message = is-message;
-          end = _;
-          choice = choice;
-        },
-      )
+-- what the draft writes is read
+pub sign-out : {payload blob bytes : List ℕ} {flags : ℕ} → Bytes payload → length payload < 2 ^ 32 → SignRequest payload blob bytes flags → SignRead payload blob bytes flags
+sign-out {payload} {blob} {bytes} {flags} is-bytes small r =
+    let size = simp length-append at (ap length (r .shape)) in
+    let (key, is-key, behind) = string-form payload 1 blob (string bytes ++ (be32 flags ++ r .rest)) is-bytes (omega arith) .0 (ap (drop 1) (r .shape)) in
+    let (message, is-message, left) = string-form payload _ bytes (be32 flags ++ r .rest) is-bytes (omega arith) .0 behind in
+    let (choice, _) = number-form payload _ flags (r .rest) is-bytes (r .short) .0 left in
+    record {
+      begins = shape-first (r .shape);
+      carries = record { from = _; to = _; next = _; read = key; is = is-key };
+      from = _;
+      to = _;
+      order = record { next = _; end = _; message = message; choice = choice };
+      is-message = is-message;
+    }

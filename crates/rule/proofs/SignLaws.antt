@@ -1,21 +1,21 @@
 -- Signing: whom the signer is asked for and with what, that a signature goes out only so, and that it goes out where gate, confirmation and signer say yes.
 use Prim.Native.Nat.{ℕ, _/_, _%_}
 use native.Mathlib.Omega.{arith}
-use mathlib.Core.Path.{_≡_, refl, sym}
+use mathlib.Core.Path.{_≡_, refl, sym, _∙_}
 use mathlib.Core.Bool.{Bool, true, false}
 use mathlib.Core.Option.{Option, none, some}
 use mathlib.Core.List.{List, _∷_}
 use borrow.Author.Tests.{eq-eqb, ne-eqb, eqb-true}
 use lib.Dec.{eqb}
+use Rattle.wire.specs.Numbers.{Bytes}
 use Rattle.wire.specs.Read.{cutOf}
 use Rattle.wire.specs.Steps.{so, part, number}
 use Rattle.wire.specs.Write.{string}
-use Rattle.rule.specs.declared.Found.the-variants.{At}
-use Rattle.rule.specs.Gateway.{Entry, Gateway, seek, holds, found}
+use Rattle.rule.specs.Gateway.{Entry, Gateway, locked, found}
 use Rattle.rule.specs.Rule.{Question, gate, confirmation, signature, Answer, reply, hashOf, signatureReply, signed, signingData, confirming, signing}
-use Rattle.rule.specs.Calls.{Numbered, forNumber, lent, Call, asks, lands, Result, follow}
-use Rattle.rule.specs.Order.{Carries}
-use Rattle.rule.specs.Content.{HeldAt, atCall, payloadOf, sign, SignRequest, HashTable, Confirmed, SignatureAsks, SignsOnly, SignsAlways}
+use Rattle.rule.specs.Calls.{Numbered, forNumber, lent, Call, asks, lands, Result, follow, call}
+use Rattle.rule.specs.Order.{Begins, Carries}
+use Rattle.rule.specs.Content.{HeldAt, atCall, payloadOf, PastGate, sign, SignRequest, HashTable, Confirmed, SignatureAsks, SignsOnly, SignsAlways}
 use Rattle.rule.proofs.Cases.{so-cases}
 use Rattle.rule.proofs.PlaceLaws.{some-not-none, held-found}
 use Rattle.rule.proofs.RefusalLaws.{accepted}
@@ -23,7 +23,7 @@ use Rattle.rule.proofs.SoundLaws.{sound-advance, sound-rule}
 use Rattle.rule.proofs.AnswerLaws.{numbered-answers}
 use Rattle.rule.proofs.RowLaws.{same-landing, past-gate, landing-beyond, through}
 use Rattle.rule.proofs.Plans.{asks-not-lands}
-use Rattle.rule.proofs.RequestLaws.{SignRead, sign-in, sign-out}
+use Rattle.rule.proofs.RequestLaws.{Ordered, sign-in, sign-out}
 use Rattle.rule.proofs.BodyLaws.{Allowed, adding-cases, signing-cases, AsksIn, in-add, in-sign, silent, asks-in}
 
 -- ## Hash and answers
@@ -37,7 +37,7 @@ hash-table flags = record {
 }
 
 -- an answer that counts for a number carries it
-own-number : {A : Type 0} (n : ℕ) (o : Option (Numbered A)) (a : A) → forNumber n o ≡ some a → o ≡ some (record { number = n; answer = a })
+pub own-number : {A : Type 0} (n : ℕ) (o : Option (Numbered A)) (a : A) → forNumber n o ≡ some a → o ≡ some (record { number = n; answer = a })
 unfolding forNumber
 own-number n none a = λ never. absurd (some-not-none (sym never))
 own-number {A} n (some x) a =
@@ -45,7 +45,7 @@ own-number {A} n (some x) a =
     (λ t e. let same-number = eqb-true _ _ t in let same-answer : x .answer ≡ a = cc in λ i. some (record { number = same-number i; answer = same-answer i }))
     (λ _ never. absurd (some-not-none (sym never)))
 
-allowed-confirmed : (c : Call) (e : Entry) → Allowed (lent (c .answers)) e → Confirmed c e
+pub allowed-confirmed : (c : Call) (e : Entry) → Allowed (lent (c .answers)) e → Confirmed c e
 unfolding lent
 allowed-confirmed c e allowed confirm = own-number (e .number) (c .answers .confirmation) true (allowed confirm)
 
@@ -72,28 +72,12 @@ signature-asks g c n from to hash bytes e = by-row (asks-in g c (signature n fro
         (λ p l confirm i _ _. silent)
         is
     by-row (in-sign begins is) =
-        signing-cases (lent (c .answers)) (atCall g c) (payloadOf c) Asks silent silent
+        signing-cases (lent (c .answers)) (atCall g c) (payloadOf c) Asks (λ _. silent) (λ _. silent)
         (λ i x _ never. let z : _≡_ {A = ℕ} 0 1 = cc in absurd (omega arith))
         (λ i x f t flags key order allowed same.
-        let same-from : f ≡ from = cc in
-        let same-to : t ≡ to = cc in
+        let same-part : cutOf (payloadOf c) f t ≡ cutOf (payloadOf c) from to = cc in
         let same-hash : hashOf flags ≡ hash = cc in
-        let r : SignRead (payloadOf c) (x .blob) (cutOf (payloadOf c) from to) flags
-        = record {
-          from = key .carries .from;
-          to = key .carries .to;
-          next = key .carries .next;
-          key = key .carries .read;
-          is-key = key .carries .is;
-          data-from = f;
-          data-to = t;
-          data-next = order .next;
-          message = order .message;
-          is-message = rw (same-from, same-to);
-          end = order .end;
-          choice = order .choice;
-        } in
-        (i, x, flags, key .there, (cc), sign-in (payloadOf c) bytes (x .blob) (cutOf (payloadOf c) from to) flags begins r, rw (← same-hash) (hash-table flags), allowed-confirmed c x allowed))
+        (i, x, flags, key .there, (cc), rw same-part at (sign-in bytes begins (key .carries) order), rw (← same-hash) (hash-table flags), allowed-confirmed c x allowed))
         (λ i x f t flags blob _ _ _ _. silent)
         is
 
@@ -104,8 +88,8 @@ unfolding signatureReply lent
 signs-only g c bytes begins e other =
     let result = through sign g c begins e (landing-beyond other) .result in
     signing-cases (lent (c .answers)) (atCall g c) (payloadOf c) Out
-    (λ is. absurd (other (sym (same-landing is))))
-    (λ never. let z : _≡_ {A = ℕ} 0 1 = cc in absurd (omega arith))
+    (λ _ is. absurd (other (sym (same-landing is))))
+    (λ _ never. let z : _≡_ {A = ℕ} 0 1 = cc in absurd (omega arith))
     (λ i x _ never. absurd (asks-not-lands _ _ never))
     (λ i x f t flags _ _ _ never. absurd (asks-not-lands _ _ never))
     (λ i x f t flags blob key order allowed says is.
@@ -120,41 +104,46 @@ signs-only g c bytes begins e other =
     same-bytes : {sent : List ℕ} → lands (reply sent) ≡ lands (reply bytes) → bytes ≡ sent
     same-bytes is = cc
 
--- ## What is answered
+-- ## A held key past the gate
 
-data-signed : (answer : (q : Question) → Option (Answer q)) (g : Gateway) (payload : List ℕ) (n : ℕ) {blob bytes : List ℕ} {flags : ℕ}
-    (r : SignRead payload blob bytes flags) (signed-blob : List ℕ)
-    → answer (signature n (r .data-from) (r .data-to) (hashOf flags)) ≡ some (some signed-blob)
-    → follow answer g (signingData g payload n (r .next .at)) .outcome ≡ lands (reply (string (14 ∷ string signed-blob)))
-unfolding signingData signed signatureReply part number follow
-data-signed answer g payload n r signed-blob says = rw (r .message, r .choice, says)
+data-signed : (answer : (q : Question) → Option (Answer q)) (g : Gateway) (payload : List ℕ) (n : ℕ) {at from to flags : ℕ} → Ordered payload at from to flags
+    → (a : Option (List ℕ)) → answer (signature n from to (hashOf flags)) ≡ some a → follow answer g (signingData g payload n at) ≡ follow answer g (signed g a)
+unfolding signingData part number follow
+data-signed answer g payload n order a says = rw (order .message, order .choice, says)
 
-signing-signed : (answer : (q : Question) → Option (Answer q)) (g : Gateway) (payload : List ℕ) (i : ℕ) (e : Entry) {bytes : List ℕ} {flags : ℕ}
-    (r : SignRead payload (e .blob) bytes flags) (signed-blob : List ℕ)
-    → seek (holds (e .blob)) 0 (g .places) ≡ At i → HeldAt g i e → Allowed answer e
-    → answer (signature (e .number) (r .data-from) (r .data-to) (hashOf flags)) ≡ some (some signed-blob)
-    → follow answer g (signing g payload) .outcome ≡ lands (reply (string (14 ∷ string signed-blob)))
-unfolding signing confirming part so found follow
-signing-signed answer g payload i e r signed-blob at held allowed says =
-    let out = data-signed answer g payload (e .number) r signed-blob says in
-    rw (r .key, r .is-key, at, held) (by-confirm (e .confirm) refl out)
-  where
-    by-confirm : (b : Bool) → e .confirm ≡ b
-        → follow answer g (signingData g payload (e .number) (r .next .at)) .outcome ≡ lands (reply (string (14 ∷ string signed-blob)))
-        → follow answer g (confirming g payload (some e) (r .next .at)) .outcome ≡ lands (reply (string (14 ∷ string signed-blob)))
-    by-confirm true is out = rw (is, allowed is) out
-    by-confirm false is out = rw is out
+module _ (g : Gateway) (c : Call) (past : PastGate g c) (state : locked g ≡ false) (i : ℕ) (e : Entry) (held : HeldAt (atCall g c) i e) where
+  module _ (begins : Begins 13 (payloadOf c)) (s : Carries (e .blob) (payloadOf c)) where
+    -- the request comes to the key that it names
+    pub comes-to-key : call g c ≡ follow (lent (c .answers)) (atCall g c) (confirming (atCall g c) (payloadOf c) (some e) (s .next .at))
+    unfolding signing part found
+    comes-to-key =
+        let sound = sound-rule g .0 (accepted g c (past .accepted) .state) in
+        let at = held-found (atCall g c .places) (sound-advance (c .reading) g sound .distinct) i e held in
+        rw (past-gate sign g c past state begins, s .read, s .is, at, held)
+
+    -- and, with the yes that the key needs, to its data
+    pub comes-to-data : Confirmed c e → call g c ≡ follow (lent (c .answers)) (atCall g c) (signingData (atCall g c) (payloadOf c) (e .number) (s .next .at))
+    unfolding confirming so follow
+    comes-to-data confirmed = comes-to-key ∙ by-confirm (e .confirm) refl
+      where
+        by-confirm : (b : Bool) → e .confirm ≡ b
+            → follow (lent (c .answers)) (atCall g c) (confirming (atCall g c) (payloadOf c) (some e) (s .next .at))
+            ≡ follow (lent (c .answers)) (atCall g c) (signingData (atCall g c) (payloadOf c) (e .number) (s .next .at))
+        by-confirm true is = rw (is, numbered-answers (c .answers) .confirmations (e .number) .own true (confirmed is))
+        by-confirm false is = rw is
+
+  -- and, well-formed, to what the signer says
+  pub comes-to-signer : {bytes : List ℕ} {flags : ℕ} (a : Option (List ℕ)) → Bytes (payloadOf c) → SignRequest (payloadOf c) (e .blob) bytes flags → Confirmed c e
+      → c .answers .signature ≡ some (record { number = e .number; answer = a })
+      → call g c ≡ follow (lent (c .answers)) (atCall g c) (signed (atCall g c) a)
+  comes-to-signer {flags = flags} a is-bytes request confirmed says =
+      let fits = accepted g c (past .accepted) .payload in
+      let r = sign-out is-bytes (omega arith) request in
+      comes-to-data (r .begins) (r .carries) confirmed
+      ∙ data-signed (lent (c .answers)) (atCall g c) (payloadOf c) (e .number) (r .order) a
+      (numbered-answers (c .answers) .signatures (e .number) (r .from) (r .to) (hashOf flags) .own a says)
 
 pub signs-always : SignsAlways
-unfolding lent
+unfolding signed signatureReply follow
 signs-always g c i e bytes blob flags is-bytes past state held request confirmed says =
-    let fits = accepted g c (past .accepted) .payload in
-    let sound = sound-rule g .0 (accepted g c (past .accepted) .state) in
-    let now = atCall g c in
-    let (begins, r) = sign-out (payloadOf c) is-bytes (e .blob) bytes flags (omega arith) request in
-    let at = held-found (now .places) (sound-advance (c .reading) g sound .distinct) i e held in
-    let counts = numbered-answers (c .answers) in
-    rw (past-gate sign g c past state begins)
-    (signing-signed (lent (c .answers)) now (payloadOf c) i e r blob at held
-    (λ confirm. counts .confirmations (e .number) .own true (confirmed confirm))
-    (counts .signatures (e .number) (r .data-from) (r .data-to) (hashOf flags) .own (some blob) says))
+    rw (comes-to-signer g c past state i e held (some blob) is-bytes request confirmed says)

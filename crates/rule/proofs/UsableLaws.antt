@@ -84,7 +84,7 @@ module _ (g : Gateway) (c : Call) (bytes : Bytes (payloadOf c)) (i : ℕ) (e : E
       removed begins (subst (λ x. Carries (x .blob) (payloadOf c)) (same-entry (sym (key .there) ∙ there)) (key .carries)) (sym success)
   row-keeps remove-all begins = λ success. inr (cleared begins (sym success))
   row-keeps sign begins =
-      signing-cases (lent (c .answers)) (atCall g c) (payloadOf c) Keeps stays stays
+      signing-cases (lent (c .answers)) (atCall g c) (payloadOf c) Keeps (λ _. stays) (λ _. stays)
       (λ j x _. stays)
       (λ j x f t flags _ _ _. stays)
       (λ j x f t flags blob _ _ _ _. stays)
