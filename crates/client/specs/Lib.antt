@@ -2,3 +2,4 @@ pub mod Refusals
 pub mod Requests
 pub mod Identities
 pub mod Signatures
+pub mod Promises

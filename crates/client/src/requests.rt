@@ -122,11 +122,17 @@ fn constraint_len(c: Constraint) -> usize
     }
 }
 
+// An array's length, which a proof does not know by itself.
+fn four_of(cs: [Constraint; 4])
+    ensures { λ r. ⌜ length cs ≡ 4 ⌝ }
+{}
+
 // The length of the first `count` constraints as they are written.
 fn constraints_len(cs: [Constraint; 4], count: usize) -> usize
     requires { ⌜ count ≤ 4 ⌝ }
     ensures { λ r. ⌜ (r ≡ length (constraintForms (take count cs))) × (r ≤ 20) ⌝ }
 {
+    four_of(cs);
     let mut n: usize = 0;
     let mut i: usize = 0;
     while i < count {
@@ -155,6 +161,7 @@ fn put_constraints(out: &mut [u8], at: usize, cs: [Constraint; 4], count: usize)
     requires { ⌜ (count ≤ 4) × (at + length (constraintForms (take count cs)) ≤ length (now out)) ⌝ }
     ensures { λ r. ⌜ (r ≡ at + length (constraintForms (take count cs))) × (now (out .exit) ≡ write (now (out .entry)) at (constraintForms (take count cs))) ⌝ }
 {
+    four_of(cs);
     let mut place = at;
     let mut i: usize = 0;
     while i < count {
@@ -177,6 +184,7 @@ fn add_constrained(
     ensures { λ r. ⌜ (r ≡ answered (constrainedSmartcard (now (id .entry)) (now (pin .entry)) (take count cs)) (now (out .entry)))
         × (now (out .exit) ≡ filled (constrainedSmartcard (now (id .entry)) (now (pin .entry)) (take count cs)) (now (out .entry))) ⌝ }
 {
+    four_of(cs);
     let extra = 4 + constraints_len(cs, count);
     let w = two_strings(out, msg::ADD_SMARTCARD_KEY_CONSTRAINED, id, pin, extra);
     let Wrote::Written(at) = w else {

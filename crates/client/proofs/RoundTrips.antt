@@ -1,0 +1,188 @@
+-- The promises: the splitter finds what a writer wrote, refusals are told apart by number, and the readers find in a request what was given.
+use Prim.Native.Nat.{ℕ, zero, suc, _+_, _^_, _≤_, _<_}
+use mathlib.Core.Path.{_≡_, refl, sym, ap, _∙_}
+use mathlib.Core.List.{List, [], _∷_, _++_, append-nil}
+use mathlib.Core.Bool.{Bool, true, false, cond}
+use native.Mathlib.Omega.{arith}
+use native.Mathlib.Nat.{add-sub-cancel-left}
+use borrow.Author.Tests.{le-leb}
+use lib.Dec.{eqb}
+use lib.ListN.{length, take, drop, length-append}
+use lib.Seq.{take-at, drop-at}
+use Rattle.wire.specs.declared.read.Number.{Number}
+use Rattle.wire.specs.Numbers.{Bytes, be32}
+use Rattle.wire.specs.Read.{cutOf, numberAt}
+use Rattle.wire.specs.Steps.{so, number}
+use Rattle.wire.specs.Write.{write, string}
+use Rattle.wire.specs.Frames.{splitOf, payloadOf}
+use Rattle.wire.proofs.Reading.{number-there, cut-there}
+use Rattle.wire.proofs.Format.{be-written, number-form, string-form}
+use Rattle.rule.specs.Order.{Begins, Carries}
+use Rattle.client.specs.declared.Refusal.{Refusal}
+use Rattle.client.specs.declared.Refusal.the-variants.{OutputTooShort, Malformed, UnfitType, AgentFailure, OtherReply, NoSuchItem, PayloadTooLong, TooManyConstraints}
+use Rattle.client.specs.declared.Wrote.{Wrote}
+use Rattle.client.specs.declared.Wrote.the-variants.{Refused}
+use Rattle.client.specs.Refusals.{refusalNumber}
+use Rattle.client.specs.Requests.{signRequest, removeSmartcardAnswer, removeSmartcardLeft, addSmartcardAnswer, addSmartcardLeft}
+use Rattle.client.specs.Promises.{Holds, Splits, Sent, Writes, WriterRule, RemoveSmartcardRule, AddSmartcardRule, placeless, RefusalsApart, ListRead, LockRead, UnlockRead, SignRead}
+use Rattle.client.proofs.WriteLaws.{Met, Stage, stage, untouched}
+
+-- ## Frames
+
+module _ (p rest : List ℕ) (h : length p ≤ 262144) where
+  size : length (string p ++ rest) ≡ 4 + length p + length rest
+  size = simp length-append (omega arith)
+
+  length-read : Number.Value (length p) (record { at = 4 }) ≡ numberAt (string p ++ rest) 0
+  length-read =
+      ap (λ (n : ℕ). Number.Value n (record { at = 4 })) (sym (be-written (string p ++ rest) 0 (length p) (p ++ rest) (omega arith) refl))
+      ∙ number-there (string p ++ rest) 0 (omega (arith, size))
+
+  part-read : cutOf (string p ++ rest) 4 (4 + length p) ≡ p
+  part-read =
+      sym (cut-there (string p ++ rest) 4 (4 + length p) (omega arith) (omega (arith, size))) ∙ rw (add-sub-cancel-left 4 (length p)) (take-at p rest (length p) refl)
+
+  found : Holds (string p ++ rest) p
+  unfolding splitOf payloadOf number so
+  found =
+      let s = size in
+      record {
+        frame = rw (← length-read, le-leb (length p) 262144 h, le-leb (4 + length p) (length (string p ++ rest)) (omega arith));
+        payload-is = rw (← length-read, le-leb (length p) 262144 h, le-leb (4 + length p) (length (string p ++ rest)) (omega arith)) part-read;
+      }
+
+pub splits : Splits
+splits p h = record { alone = rw (append-nil (string p)) at (found p [] h); followed = λ rest. found p rest h }
+
+-- ## Writers
+
+module _ (p out : List ℕ) (n : ℕ) (left : List ℕ) (s : Stage (length p) p out n left) where
+  end : length (string p) ≡ n
+  end = omega (arith, s .place)
+
+  written : left ≡ string p ++ drop n out
+  unfolding write
+  written = let q : 0 + length (string p) ≡ n = omega (arith, end) in s .holds ∙ ap (λ (i : ℕ). string p ++ drop i out) q
+
+  first : take n left ≡ string p
+  first = rw written (take-at (string p) (drop n out) n end)
+
+  sent : Sent p out left n
+  sent =
+      record {
+        bytes = first;
+        behind = rw written (drop-at (string p) (drop n out) n end);
+        splits = rw first (splits p (s .small) .alone);
+      }
+
+module _ (p out : List ℕ) (answer : Wrote) (left : List ℕ) (e : Met (length p) p out answer left) where
+  writes : Writes p out answer left
+  writes = record { sent = λ n f. sent p out n left (stage (length p) p out answer left e n f); untouched = λ r f. untouched (length p) p out answer left e r f }
+
+pub writer-rule : WriterRule
+writer-rule p out = writes p out _ _ (refl, refl)
+
+-- a test before a writer
+tested : (p out : List ℕ) (r : Refusal) (b : Bool) (answer : Wrote) (left : List ℕ) → Writes p out answer left → Writes p out (so (Refused r) b answer) (so out b left)
+unfolding so
+tested p out r true answer left w = w
+tested p out r false answer left w = record { sent = λ n e. (let z : _≡_ {A = ℕ} 0 1 = cc in absurd (omega arith)); untouched = λ k e. refl }
+
+pub remove-smartcard-rule : RemoveSmartcardRule
+unfolding removeSmartcardAnswer removeSmartcardLeft
+remove-smartcard-rule id pin out = tested _ out _ _ _ _ (writer-rule _ out)
+
+pub add-smartcard-rule : AddSmartcardRule
+unfolding addSmartcardAnswer addSmartcardLeft
+add-smartcard-rule id pin cs count out = tested _ out _ _ _ _ (tested _ out _ _ _ _ (writer-rule _ out))
+
+-- ## Refusals
+
+-- the refusal of a number
+abbrev refusalOf : ℕ → Refusal
+refusalOf n =
+    cond (eqb n 11) OutputTooShort
+    (cond (eqb n 12) (Malformed 0)
+    (cond (eqb n 13) UnfitType
+    (cond (eqb n 14) AgentFailure
+    (cond (eqb n 15) OtherReply
+    (cond (eqb n 16) NoSuchItem
+    (cond (eqb n 17) PayloadTooLong TooManyConstraints))))))
+
+numbered : (r : Refusal) → placeless r ≡ refusalOf (refusalNumber r)
+numbered OutputTooShort = refl
+numbered (Malformed at) = refl
+numbered UnfitType = refl
+numbered AgentFailure = refl
+numbered OtherReply = refl
+numbered NoSuchItem = refl
+numbered PayloadTooLong = refl
+numbered TooManyConstraints = refl
+
+pub refusals-apart : RefusalsApart
+refusals-apart a b e = numbered a ∙ ap refusalOf e ∙ sym (numbered b)
+
+-- ## What the rule reads
+
+bytes-cons : (a : ℕ) (s : List ℕ) → a < 256 → Bytes s → Bytes (a ∷ s)
+bytes-cons a s h k zero = h
+bytes-cons a s h k (suc i) = k i
+
+bytes-none : Bytes []
+bytes-none i = omega arith
+
+bytes-append : (a b : List ℕ) → Bytes a → Bytes b → Bytes (a ++ b)
+bytes-append [] b h k = k
+bytes-append (x ∷ a) b h k = bytes-cons x (a ++ b) (h 0) (bytes-append a b (λ i. h (suc i)) k)
+
+bytes-number : (n : ℕ) (s : List ℕ) → Bytes s → Bytes (be32 n ++ s)
+bytes-number n s k zero = omega arith
+bytes-number n s k (suc zero) = omega arith
+bytes-number n s k (suc (suc zero)) = omega arith
+bytes-number n s k (suc (suc (suc zero))) = omega arith
+bytes-number n s k (suc (suc (suc (suc i)))) = k i
+
+bytes-string : (v rest : List ℕ) → Bytes v → Bytes rest → Bytes (string v ++ rest)
+bytes-string v rest h k = bytes-number (length v) (v ++ rest) (bytes-append v rest h k)
+
+begins : (byte : ℕ) (s : List ℕ) → Begins byte (byte ∷ s)
+begins byte s = record { some-byte = omega arith; first = refl }
+
+pub list-read : ListRead
+list-read = begins 11 []
+
+-- a string behind the first byte, and what is behind it
+carries : (byte : ℕ) (v rest : List ℕ) → byte < 256 → Bytes v → Bytes rest → length v < 2 ^ 32 → Carries v (byte ∷ (string v ++ rest))
+carries byte v rest b h k l =
+    let r = string-form (byte ∷ (string v ++ rest)) 1 v rest (bytes-cons byte (string v ++ rest) b (bytes-string v rest h k)) l .0 refl in
+    record { from = _; to = _; next = _; read = r .0; is = r .1 }
+
+lock-like : (byte : ℕ) (v : List ℕ) → byte < 256 → Bytes v → length v < 2 ^ 32 → Begins byte (byte ∷ string v) × Carries v (byte ∷ string v)
+lock-like byte v b h l = (begins byte (string v), rw (append-nil (string v)) at (carries byte v [] b h bytes-none l))
+
+pub lock-read : LockRead
+lock-read v h l = lock-like 22 v (omega arith) h l
+
+pub unlock-read : UnlockRead
+unlock-read v h l = lock-like 23 v (omega arith) h l
+
+pub sign-read : SignRead
+sign-read blob bytes flags hb hd lb ld lf =
+    let f : Bytes (be32 flags) = bytes-number flags [] bytes-none in
+    let rest : Bytes (string bytes ++ be32 flags) = bytes-string bytes (be32 flags) hd f in
+    let all : Bytes (signRequest blob bytes flags) = bytes-cons 13 (string blob ++ (string bytes ++ be32 flags)) (omega arith) (bytes-string blob (string bytes ++ be32 flags) hb rest) in
+    let r = string-form (signRequest blob bytes flags) 1 blob (string bytes ++ be32 flags) all lb .0 refl in
+    let s = string-form (signRequest blob bytes flags) (1 + 4 + length blob) bytes (be32 flags) all ld .0 (r .2) in
+    let n = number-form (signRequest blob bytes flags) (1 + 4 + length blob + 4 + length bytes) flags [] all lf .0 (s .2) in
+    record {
+      byte = begins 13 _;
+      key = record { from = _; to = _; next = record { at = 1 + 4 + length blob }; read = r .0; is = r .1 };
+      from = _;
+      to = _;
+      next = record { at = 1 + 4 + length blob + 4 + length bytes };
+      end = _;
+      data-read = s .0;
+      data-is = s .1;
+      flags-read = n .0;
+      form = record { rest = []; short = lf; shape = refl };
+    }

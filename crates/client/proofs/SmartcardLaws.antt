@@ -1,0 +1,109 @@
+-- The smartcard writers: their tests come first, in the definition's order, and behind them stands the payload's own writer.
+use Prim.Native.Nat.{ℕ, _+_, _≤_, _<_}
+use mathlib.Core.Path.{_≡_, refl, sym, ap, _∙_}
+use mathlib.Core.List.{List, _∷_, _++_, append-assoc}
+use native.Mathlib.Omega.{arith}
+use borrow.Author.Tests.{le-leb, lt-leb, eq-eqb, ne-eqb}
+use lib.ListN.{length, take, length-append}
+use lib.Seq.{length-take-le}
+use Rattle.wire.specs.declared.Constraint.{Constraint}
+use Rattle.wire.specs.Numbers.{be32}
+use Rattle.wire.specs.Utf8.{utf8End}
+use Rattle.wire.specs.Steps.{so}
+use Rattle.wire.specs.Write.{write, string}
+use Rattle.keys.specs.Forms.{constraintForms}
+use Rattle.client.specs.declared.Refusal.{Refusal}
+use Rattle.client.specs.declared.Refusal.the-variants.{Malformed, TooManyConstraints}
+use Rattle.client.specs.declared.Wrote.{Wrote}
+use Rattle.client.specs.declared.Wrote.the-variants.{Written, Refused}
+use Rattle.client.specs.Requests.{plainSmartcard, constrainedSmartcard, removeSmartcard, removeSmartcardAnswer, removeSmartcardLeft, addSmartcard, addSmartcardAnswer, addSmartcardLeft}
+use Rattle.client.proofs.WriteLaws.{Met, Stage, refused, stage-size, more, counted, whole, behind-two}
+
+-- what the two smartcard writers ensure
+abbrev pub Removed : List ℕ → List ℕ → List ℕ → Wrote → List ℕ → Type 0
+Removed id pin out r m = (r ≡ removeSmartcardAnswer id pin out) × (m ≡ removeSmartcardLeft id pin out)
+
+abbrev pub Added : List ℕ → List ℕ → List Constraint → ℕ → List ℕ → Wrote → List ℕ → Type 0
+Added id pin cs count out r m = (r ≡ addSmartcardAnswer id pin cs count out) × (m ≡ addSmartcardLeft id pin cs count out)
+
+-- two strings behind a byte, with nothing more
+pub two-whole : (kind : ℕ) (a b out : List ℕ) (r : Wrote) (m : List ℕ)
+    → Met (9 + length a + length b + 0) (kind ∷ (string a ++ string b)) out r m → Met (length (kind ∷ (string a ++ string b))) (kind ∷ (string a ++ string b)) out r m
+two-whole kind a b out r m e = counted _ _ out r m e (simp length-append (omega arith))
+
+module _ (id pin out : List ℕ) (end : ℕ) (e : end ≡ utf8End id) where
+  pub remove-malformed : (end ≡ length id → ⊥) → Removed id pin out (Refused (Malformed end)) out
+  unfolding removeSmartcardAnswer removeSmartcardLeft so
+  remove-malformed h = rw (← e, ne-eqb end (length id) h) (refl, refl)
+
+  pub remove-written : end ≡ length id → (r : Wrote) (m : List ℕ) → Met (length (removeSmartcard id pin)) (removeSmartcard id pin) out r m → Removed id pin out r m
+  unfolding removeSmartcardAnswer removeSmartcardLeft so
+  remove-written h r m f = rw (← e, eq-eqb end (length id) h) f
+
+  module _ (cs : List Constraint) (count : ℕ) where
+    pub add-malformed : count ≤ 4 → (end ≡ length id → ⊥) → Added id pin cs count out (Refused (Malformed end)) out
+    unfolding addSmartcardAnswer addSmartcardLeft so
+    add-malformed k h = rw (le-leb count 4 k, ← e, ne-eqb end (length id) h) (refl, refl)
+
+    module _ (k : count ≤ 4) (h : end ≡ length id) (r : Wrote) (m : List ℕ) where
+      pub add-plain : count ≡ 0 → Met (length (plainSmartcard id pin)) (plainSmartcard id pin) out r m → Added id pin cs count out r m
+      unfolding addSmartcardAnswer addSmartcardLeft addSmartcard so
+      add-plain z f = rw (le-leb count 4 k, ← e, eq-eqb end (length id) h, eq-eqb count 0 z) f
+
+      pub add-constrained : (count ≡ 0 → ⊥) → Met (length (constrainedSmartcard id pin (take count cs))) (constrainedSmartcard id pin (take count cs)) out r m
+          → Added id pin cs count out r m
+      unfolding addSmartcardAnswer addSmartcardLeft addSmartcard so
+      add-constrained z f = rw (le-leb count 4 k, ← e, eq-eqb end (length id) h, ne-eqb count 0 z) f
+
+pub too-many : (id pin : List ℕ) (cs : List Constraint) (count : ℕ) (out : List ℕ) → 4 < count → Added id pin cs count out (Refused TooManyConstraints) out
+unfolding addSmartcardAnswer addSmartcardLeft so
+too-many id pin cs count out h = rw (lt-leb count 4 h) (refl, refl)
+
+-- ## Constraints behind the two strings
+
+-- the payload's head: a byte and two strings
+abbrev pub headOf : List ℕ → List ℕ → List ℕ
+headOf id pin = 26 ∷ (string id ++ string pin)
+
+-- what is counted, before anything is written
+pub record Counted (cs : List Constraint) (count size : ℕ) : Type 0 where
+  pub four : length cs ≡ 4
+  pub few : count ≤ 4
+  pub size-is : size ≡ length (constraintForms (take count cs))
+
+module _ (id pin : List ℕ) (cs : List Constraint) (count size : ℕ) (out : List ℕ) (c : Counted cs count size) where
+  number-is : length (take count cs) ≡ count
+  number-is = length-take-le count cs (omega arith)
+
+  length-is : 9 + length id + length pin + (4 + size) ≡ length (constrainedSmartcard id pin (take count cs))
+  length-is = simp length-append (omega arith)
+
+  pub constrained-refused : (r : Wrote) (m : List ℕ) → Met (9 + length id + length pin + (4 + size)) (headOf id pin) out r m → (k : Refusal) → r ≡ Refused k
+      → Met (length (constrainedSmartcard id pin (take count cs))) (constrainedSmartcard id pin (take count cs)) out r m
+  constrained-refused r m f k g = refused _ _ out r m f k g _ _ length-is
+
+  module _ (at : ℕ) (m : List ℕ) (s : Stage (9 + length id + length pin + (4 + size)) (headOf id pin) out at m) where
+    head-size : length (headOf id pin) ≡ 9 + length id + length pin
+    head-size = simp length-append (omega arith)
+
+    pub number-room : at + 4 ≤ length m
+    number-room = let l = stage-size s (omega (arith, head-size)) in omega (arith, head-size)
+
+    module _ (first : ℕ) (o : List ℕ) (e : o ≡ write m at (be32 count)) (f : first ≡ at + 4) where
+      numbered : Stage (9 + length id + length pin + (4 + size)) (headOf id pin ++ be32 count) out first o
+      numbered = more s (be32 count) o first _ e f refl (rw length-append (omega (arith, head-size)))
+
+      numbered-size : length (headOf id pin ++ be32 count) ≡ 13 + length id + length pin
+      numbered-size = rw length-append (omega (arith, head-size))
+
+      pub constraints-room : first + length (constraintForms (take count cs)) ≤ length o
+      constraints-room = let l = stage-size numbered (omega (arith, numbered-size)) in omega (arith, numbered-size, numbered .place, numbered .fits)
+
+      shape : (headOf id pin ++ be32 count) ++ constraintForms (take count cs) ≡ constrainedSmartcard id pin (take count cs)
+      shape = append-assoc (headOf id pin) (be32 count) (constraintForms (take count cs)) ∙ behind-two 26 id pin (be32 count ++ constraintForms (take count cs))
+          ∙ ap (λ (i : ℕ). 26 ∷ (string id ++ (string pin ++ (be32 i ++ constraintForms (take count cs))))) (sym number-is)
+
+      pub constrained-written : (end : ℕ) (w : List ℕ) → end ≡ first + length (constraintForms (take count cs)) → w ≡ write o first (constraintForms (take count cs))
+          → Met (length (constrainedSmartcard id pin (take count cs))) (constrainedSmartcard id pin (take count cs)) out (Written end) w
+      constrained-written end w g h =
+          whole _ _ out end w (more numbered (constraintForms (take count cs)) w end (constrainedSmartcard id pin (take count cs)) h g shape (omega (arith, length-is))) length-is

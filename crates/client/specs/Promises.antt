@@ -1,0 +1,108 @@
+-- What frames, writers and refusals promise, as statements; the proofs are in proofs/. That no second answer meets a contract is the wire's
+-- `OneAnswer`.
+use Prim.Native.Nat.{ℕ, _^_, _≤_, _<_}
+use mathlib.Core.Path.{_≡_}
+use mathlib.Core.List.{List, _++_}
+use lib.ListN.{length, take, drop}
+use Rattle.wire.specs.declared.Constraint.{Constraint}
+use Rattle.wire.specs.declared.Split.the-variants.{Frame}
+use Rattle.wire.specs.declared.read.Cursor.{Cursor}
+use Rattle.wire.specs.declared.read.Number.{Number}
+use Rattle.wire.specs.declared.read.Part.the-variants.{Whole}
+use Rattle.wire.specs.Numbers.{Bytes}
+use Rattle.wire.specs.Read.{cutOf, numberAt, stringAt}
+use Rattle.wire.specs.Write.{string}
+use Rattle.wire.specs.Frames.{splitOf, payloadOf}
+use Rattle.rule.specs.Order.{Begins, Carries}
+use Rattle.rule.specs.Content.{SignRequest}
+use Rattle.client.specs.declared.Refusal.{Refusal}
+use Rattle.client.specs.declared.Refusal.the-variants.{OutputTooShort, Malformed, UnfitType, AgentFailure, OtherReply, NoSuchItem, PayloadTooLong, TooManyConstraints}
+use Rattle.client.specs.declared.Wrote.{Wrote}
+use Rattle.client.specs.declared.Wrote.the-variants.{Written, Refused}
+use Rattle.client.specs.Refusals.{refusalNumber}
+use Rattle.client.specs.Requests.{requestIdentities, signRequest, lockRequest, unlockRequest, removeSmartcard, addSmartcard, answered, filled, removeSmartcardAnswer, removeSmartcardLeft, addSmartcardAnswer, addSmartcardLeft}
+
+-- ## Frames
+
+-- the splitter says that a frame is whole, and hands out its payload
+pub record Holds (s payload : List ℕ) : Type 0 where
+  pub frame : splitOf s ≡ Frame
+  pub payload-is : payloadOf s ≡ payload
+
+-- a payload's frame alone, and with more bytes behind it
+pub record SplitsBack (payload : List ℕ) : Type 0 where
+  pub alone : Holds (string payload) payload
+  pub followed : (rest : List ℕ) → Holds (string payload ++ rest) payload
+
+abbrev pub Splits : Type 0
+Splits = (payload : List ℕ) → length payload ≤ 262144 → SplitsBack payload
+
+-- ## Writers
+
+-- the first n bytes are the payload's frame, which the splitter finds; the output behind them stays
+pub record Sent (payload out left : List ℕ) (n : ℕ) : Type 0 where
+  pub bytes : take n left ≡ string payload
+  pub behind : drop n left ≡ drop n out
+  pub splits : Holds (take n left) payload
+
+-- a writer sends its payload, or leaves the output as it was
+pub record Writes (payload out : List ℕ) (answer : Wrote) (left : List ℕ) : Type 0 where
+  pub sent : (n : ℕ) → answer ≡ Written n → Sent payload out left n
+  pub untouched : (r : Refusal) → answer ≡ Refused r → left ≡ out
+
+abbrev pub WriterRule : Type 0
+WriterRule = (payload out : List ℕ) → Writes payload out (answered payload out) (filled payload out)
+
+abbrev pub RemoveSmartcardRule : Type 0
+RemoveSmartcardRule = (id pin out : List ℕ) → Writes (removeSmartcard id pin) out (removeSmartcardAnswer id pin out) (removeSmartcardLeft id pin out)
+
+abbrev pub AddSmartcardRule : Type 0
+AddSmartcardRule =
+    (id pin : List ℕ) (cs : List Constraint) (count : ℕ) (out : List ℕ)
+    → Writes (addSmartcard id pin cs count) out (addSmartcardAnswer id pin cs count out) (addSmartcardLeft id pin cs count out)
+
+-- ## Refusals
+
+-- a refusal without the place of its fault
+abbrev pub placeless : Refusal → Refusal
+placeless OutputTooShort = OutputTooShort
+placeless (Malformed at) = Malformed 0
+placeless UnfitType = UnfitType
+placeless AgentFailure = AgentFailure
+placeless OtherReply = OtherReply
+placeless NoSuchItem = NoSuchItem
+placeless PayloadTooLong = PayloadTooLong
+placeless TooManyConstraints = TooManyConstraints
+
+-- a number tells its refusal from every other, up to the place of a fault
+abbrev pub RefusalsApart : Type 0
+RefusalsApart = (a b : Refusal) → refusalNumber a ≡ refusalNumber b → placeless a ≡ placeless b
+
+-- ## What the gateway's rule reads from a request is what was given
+
+abbrev pub ListRead : Type 0
+ListRead = Begins 11 requestIdentities
+
+abbrev pub LockRead : Type 0
+LockRead = (v : List ℕ) → Bytes v → length v < 2 ^ 32 → Begins 22 (lockRequest v) × Carries v (lockRequest v)
+
+abbrev pub UnlockRead : Type 0
+UnlockRead = (v : List ℕ) → Bytes v → length v < 2 ^ 32 → Begins 23 (unlockRequest v) × Carries v (unlockRequest v)
+
+-- behind the blob stand the data and the flags
+pub record SignReads (payload blob bytes : List ℕ) (flags : ℕ) : Type 0 where
+  pub byte : Begins 13 payload
+  pub key : Carries blob payload
+  pub from : ℕ
+  pub to : ℕ
+  pub next : Cursor
+  pub end : Cursor
+  pub data-read : stringAt payload (key .next .at) ≡ Whole from to next
+  pub data-is : cutOf payload from to ≡ bytes
+  pub flags-read : numberAt payload (next .at) ≡ Number.Value flags end
+  pub form : SignRequest payload blob bytes flags
+
+abbrev pub SignRead : Type 0
+SignRead =
+    (blob bytes : List ℕ) (flags : ℕ) → Bytes blob → Bytes bytes → length blob < 2 ^ 32 → length bytes < 2 ^ 32 → flags < 2 ^ 32
+    → SignReads (signRequest blob bytes flags) blob bytes flags
