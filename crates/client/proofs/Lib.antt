@@ -3,3 +3,9 @@ pub mod WriteLaws
 pub mod ConstraintLaws
 pub mod SmartcardLaws
 pub mod RoundTrips
+pub mod ReadSteps
+pub mod ItemLaws
+pub mod SignatureLaws
+pub mod FormLaws
+pub mod ReadRoundTrips
+pub mod SignatureRoundTrips

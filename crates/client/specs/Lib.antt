@@ -3,3 +3,4 @@ pub mod Requests
 pub mod Identities
 pub mod Signatures
 pub mod Promises
+pub mod ReadPromises

@@ -11,6 +11,8 @@ use wire::read::cut;
 use wire::read::is_same;
 use wire::write::put_string;
 ghost use mathlib.Core.Path.{_≡_};
+ghost use Prim.Native.Nat.{_<_, _^_};
+ghost use lib.ListN.{length};
 ghost use Rattle.client.specs.Signatures.{fits, startsIn, touchedEnd, signatureEnd, signatureAt, replyAt, stringAnswer, stringLeft, signatureAnswer, signatureLeft};
 
 // Where the signature of a reply lies: its type, its bytes, and what a touch key adds.
@@ -119,6 +121,7 @@ fn reply_at(payload: &[u8], hash: u32) -> Signature
 
 // Writes a signature as a string to the front of the output.
 fn put_signature(v: &[u8], out: &mut [u8]) -> Wrote
+    requires { ⌜ length (now v) < 2 ^ 32 ⌝ }
     ensures { λ r. ⌜ (r ≡ stringAnswer (now (v .entry)) (now (out .entry))) × (now (out .exit) ≡ stringLeft (now (v .entry)) (now (out .entry))) ⌝ }
 {
     if out.len() < 4 {
