@@ -83,8 +83,8 @@ walked-forms s small zero at end h = λ e.
     record { blobs = []; forms = []; as-many = refl; whole = ItemForms.none; lies = rw (← p) (lies-none at h) }
 walked-forms s small (suc n) at end h =
     let P : Run → Type 0 = λ r. r ≡ End end → Walked s (suc n) at end in
-    part-cases P (stringAt s at) (λ _. fault) λ f t k e.
-    part-cases P (textAt s (k .at)) (λ _. fault) λ g u l d q.
+    part-cases P (stringAt s at) (λ _ _. fault) λ f t k e.
+    part-cases P (textAt s (k .at)) (λ _ _. fault) λ g u l d q.
     let x = took small {at = at} (string-reads small) f t k e in
     let y = took small {at = k .at} (text-reads small) g u l d in
     let r = walked-forms s small n (l .at) end (omega (arith, y .lies .within)) q in
@@ -111,7 +111,7 @@ counted-lists p n small =
     let s : List ℕ = 12 ∷ p in
     let P : Listing → Type 0 = λ r. r ≡ Listing.Count n → (blobs : List (List ℕ)) × Lists p blobs × (length blobs ≡ n) in
     rw (some-there 12 p)
-    (number-cases P (numberAt s 1) (λ _. refused) λ m k e.
+    (number-cases P (numberAt s 1) (λ _ _. refused) λ m k e.
     run-cases P (itemsAt m s (k .at)) (λ _. refused) λ end d q.
     let w = number-read s 1 m k e in
     let r = walked-forms s (twelve p small) m 5 end (omega arith) (rw (w .place) at d) in
@@ -179,7 +179,7 @@ list-read es h few =
 pub mark-rule : MarkRule
 unfolding certificate part
 mark-rule blob small = (
-  part-cases (λ (b : Bool). b ≡ true → Marked blob) (textAt blob 0) (λ _ never. let z : _≡_ {A = ℕ} 0 1 = cc in absurd (omega arith)) (λ f t k e q.
+  part-cases (λ (b : Bool). b ≡ true → Marked blob) (textAt blob 0) (λ _ _ never. let z : _≡_ {A = ℕ} 0 1 = cc in absurd (omega arith)) (λ f t k e q.
       let x = took small (text-reads small) f t k e in
       let (w, is) = ends-rule (x .v) certificateEnd .0 (rw (x .part) at q) in
       record { front = w; rest = drop t blob; small = rw is at (x .small); text = rw is at (x .holds); shape = x .lies .shape ∙ ap (λ (v : List ℕ). string v ++ drop t blob) is }),

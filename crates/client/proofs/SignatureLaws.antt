@@ -100,7 +100,7 @@ unfolding touchedEnd
 touched-within s at end =
     let P : Run → Type 0 = λ r. r ≡ End end → end ≤ length s in
     byte-cases P (byteAt s at) (λ _. fault) λ flags k _.
-    number-cases P (numberAt s (k .at)) (λ _. fault) λ counter l e q.
+    number-cases P (numberAt s (k .at)) (λ _ _. fault) λ counter l e q.
     let w = number-read s (k .at) counter l e in
     let p : l .at ≡ end = cc in
     omega arith
@@ -109,7 +109,7 @@ end-within : (s : List ℕ) (at : ℕ) (touched : Bool) (end : ℕ) → signatur
 unfolding signatureEnd
 end-within s at touched end =
     let P : Run → Type 0 = λ r. r ≡ End end → end ≤ length s in
-    part-cases P (stringAt s at) (λ _. fault) λ f t k e.
+    part-cases P (stringAt s at) (λ _ _. fault) λ f t k e.
     so-cases P touched (λ _. touched-within s t end) λ _ q.
     let w = string-read s at f t k e in
     let p : t ≡ end = cc in
@@ -124,7 +124,7 @@ signature-within : (s : List ℕ) (at hash f t : ℕ) → signatureAt s at hash 
 unfolding signatureAt
 signature-within s at hash f t =
     let P : Signature → Type 0 = λ r. r ≡ Whole f t → Within s at f t in
-    part-cases P (textAt s at) (λ _. refused) λ g u k _.
+    part-cases P (textAt s at) (λ _ _. refused) λ g u k _.
     so-cases P (fits hash (cutOf s g u))
     (λ _. run-cases P (signatureEnd s (k .at) (startsIn (cutOf s g u) (bytes "sk-"))) (λ _. refused) λ end e q.
     let p : end ≡ t = cc in
@@ -145,7 +145,7 @@ reply-small payload hash f t small =
     so-cases P (ltb 0 (length payload))
     (λ _. so-cases P (eqb (getD payload 0 0) 5) (λ _. refused)
     (λ _. so-cases P (eqb (getD payload 0 0) 14)
-    (λ _. part-cases P (stringAt payload 1) (λ _. refused) λ g u k e q.
+    (λ _. part-cases P (stringAt payload 1) (λ _ _. refused) λ g u k e q.
     let w = string-read payload 1 g u k e in
     let n = be-small payload 1 small in
     let front = part-length payload 0 u (omega arith) (w .within) in

@@ -159,7 +159,7 @@ module _ (s : List ℕ) (small : Bytes s) where
   touched-taken at end =
       let P : Run → Type 0 = λ r. r ≡ End end → (flags : ℕ) × (counter : ℕ) × (counter < 2 ^ 32) × Lies s at (flags ∷ be32 counter) end in
       byte-cases P (byteAt s at) (λ _. fault) λ flags k e.
-      number-cases P (numberAt s (k .at)) (λ _. fault) λ counter l d q.
+      number-cases P (numberAt s (k .at)) (λ _ _. fault) λ counter l d q.
       let w = number-read s (k .at) counter l d in
       let p : end ≡ l .at = cc in
       let place = byte-place s at flags k e in
@@ -172,7 +172,7 @@ module _ (s : List ℕ) (small : Bytes s) where
   unfolding signatureEnd
   end-taken at m t end o x =
       let P : Run → Type 0 = λ r. r ≡ End end → Formed s at t end in
-      part-cases P (stringAt s m) (λ _. fault) λ f u k e.
+      part-cases P (stringAt s m) (λ _ _. fault) λ f u k e.
       let y = took small (string-reads small) f u k e in
       so-cases P (startsIn t (bytes "sk-"))
       (λ h q.
@@ -196,7 +196,7 @@ module _ (s : List ℕ) (small : Bytes s) where
   unfolding signatureAt
   signature-taken at hash f end =
       let P : Signature → Type 0 = λ r. r ≡ Whole f end → (t : List ℕ) × Fitting hash t × Formed s at t end in
-      part-cases P (textAt s at) (λ _. refused) λ g u k e.
+      part-cases P (textAt s at) (λ _ _. refused) λ g u k e.
       let x = took small (text-reads small) g u k e in
       so-cases P (fits hash (cutOf s g u))
       (λ h. run-cases P (signatureEnd s (k .at) (startsIn (cutOf s g u) (bytes "sk-"))) (λ _. refused) λ behind d q.
@@ -236,7 +236,7 @@ reply-taken (b ∷ p) hash f end small =
     so-cases P (ltb 0 (length (b ∷ p)))
     (λ _. so-cases P (eqb b 5) (λ _. refused)
     (λ _. so-cases P (eqb b 14)
-    (λ h. part-cases P (stringAt (b ∷ p) 1) (λ _. refused) λ g u k e.
+    (λ h. part-cases P (stringAt (b ∷ p) 1) (λ _ _. refused) λ g u k e.
     let y = took small {at = 1} (string-reads small) g u k e in
     string-taken b p (y .v) g u hash f end small (eqb-true b 14 h) (y .small) (y .lies) (y .from))
     (λ _. refused)))
