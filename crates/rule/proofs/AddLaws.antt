@@ -6,7 +6,8 @@ use mathlib.Core.Logic.{_≢_, _⊎_, inl, inr}
 use mathlib.Core.Bool.{Bool, true, false}
 use mathlib.Core.Option.{Option, none, some}
 use mathlib.Core.List.{List}
-use borrow.Author.Tests.{le-leb, lt-ltb}
+use borrow.Author.Tests.{le-leb, leb-true, lt-ltb}
+use lib.Dec.{leb}
 use lib.ListN.{length}
 use lib.Seq.{getD-set-same, getD-set-other}
 use Rattle.wire.specs.Numbers.{Bytes}
@@ -25,12 +26,13 @@ use Rattle.rule.specs.Soundness.{within}
 use Rattle.rule.specs.Rule.{Question, gate, check, Answer, SUCCESS, added, entryOf, storing, adding}
 use Rattle.rule.specs.Calls.{lent, Call, Outcome, asks, lands, Result, follow, call}
 use Rattle.rule.specs.Order.{Begins}
-use Rattle.rule.specs.Content.{HeldAt, FreeAt, atCall, payloadOf, PastGate, add, add-constrained, AddRequest, madeBy, Put, AddedOnly, AddedAlways, CheckAsks}
-use Rattle.rule.proofs.Cases.{true-not-false, both-true}
+use Rattle.rule.specs.Content.{HeldAt, FreeAt, atCall, payloadOf, PastGate, add, add-constrained, AddRequest, madeBy, Put, MayStore, AddedOnly, AddedAlways, CheckAsks}
+use Rattle.rule.proofs.Cases.{true-not-false, and-right, both-true}
 use Rattle.rule.proofs.Clock.{advance-next}
 use Rattle.rule.proofs.PlaceLaws.{every-at, seek-first, seek-none, found-at, absent-differs, Placed, replacing, anew, placed, no-place, place-inside}
 use Rattle.rule.proofs.Effects.{Storable}
 use Rattle.rule.proofs.RefusalLaws.{accepted}
+use Rattle.rule.proofs.AnswerLaws.{numbered-answers}
 use Rattle.rule.proofs.RowLaws.{past-gate, Beyond, success-beyond, through, failure-shows, same-landing}
 use Rattle.rule.proofs.Plans.{asks-not-lands}
 use Rattle.rule.proofs.RequestLaws.{addByte, add-in, add-out}
@@ -84,11 +86,31 @@ module _ (g : Gateway) (e : Entry) (i : ℕ) where
         place = where-put p;
       }
 
+-- a place that holds the blob, or a free one
+abbrev Room : Gateway → List ℕ → Type 0
+Room g blob = ((i : ℕ) × (old : Entry) × HeldAt g i old × (old .blob ≡ blob)) ⊎ ((i : ℕ) × FreeAt g i)
+
+room-of : (g : Gateway) (blob : List ℕ) (i : ℕ) → Placed blob (g .places) i → Room g blob
+room-of g blob i (replacing at) = let held = found-at blob (g .places) i at in inl (i, held .entry, held .there, held .is)
+room-of g blob i (anew absent at) = let first = seek-first isFree (g .places) i at in inr (i, (first .inside, free-place _ (first .passes)))
+
+within-high : (low high n : ℕ) → within low high n ≡ true → n ≤ high
+within-high low high n t = leb-true n high (and-right (leb low n) (leb n high) t)
+
+-- what may be stored, by its blob and fields
+may-store : (g : Gateway) (e : Entry) (i : ℕ) → Storable g e i → MayStore g (e .fields) (e .blob)
+may-store g e i s = record {
+  blob-fits = within-high 1 1024 (length (e .blob)) (s .blob);
+  fields-fit = within-high 1 3072 (length (e .fields)) (s .fields);
+  numbers-left = s .numbers-left;
+  room = room-of g (e .blob) i (placed (e .blob) (g .places) i (s .place));
+}
+
 -- a request in the draft's form was stored
 abbrev Added : Gateway → Call → Gateway → Type 0
 Added g c after =
     (fields : List ℕ) × (blob : List ℕ) × (lifetime : Lifetime) × (confirm : Bool) × (i : ℕ) × AddRequest (payloadOf c) fields blob lifetime confirm
-    × Put (atCall g c) after i (madeBy g c fields blob lifetime confirm)
+    × Put (atCall g c) after i (madeBy g c fields blob lifetime confirm) × MayStore (atCall g c) fields blob × (c .answers .check ≡ some true)
 
 add-success : (constrained : Bool) (g : Gateway) (c : Call) → Bytes (payloadOf c) → Begins (addByte constrained) (payloadOf c) → call g c .outcome ≡ lands SUCCESS
     → Added g c (call g c .gateway)
@@ -100,11 +122,11 @@ add-success constrained g c bytes begins e =
     (λ never. failure-shows (same-landing never))
     constrained
     (λ p l confirm i read storable never. absurd (asks-not-lands _ SUCCESS never))
-    (λ p l confirm i read storable _.
+    (λ p l confirm i read storable checked _.
     let (fields, blob, request, r) = add-in (payloadOf c) bytes constrained p l confirm begins read in
     let made = read-made g c p fields blob l confirm (r .cut) (r .public) in
     let entry = entryOf now (payloadOf c) p l confirm in
-    (fields, blob, l, confirm, i, request, subst (Put now (withEntry i entry now) i) made (put now entry i storable)))
+    (fields, blob, l, confirm, i, request, subst (Put now (withEntry i entry now) i) made (put now entry i storable), rw (r .cut, r .public) at (may-store now entry i storable), sym (numbered-answers (c .answers) .checks 1 (p .end)) ∙ checked))
     (rw result at e))
 
 pub added-only : AddedOnly
@@ -124,10 +146,6 @@ some-bytes (as-nistp256 (ecdsa-key q d n _ _ _ _)) = record { fields-some = omeg
 some-bytes (as-nistp384 (ecdsa-key q d n _ _ _ _)) = record { fields-some = omega arith; blob-some = omega arith }
 some-bytes (as-nistp521 (ecdsa-key q d n _ _ _ _)) = record { fields-some = omega arith; blob-some = omega arith }
 some-bytes (as-rsa (rsa-key n e d iqmp p q _ _ _ _ _ _)) = record { fields-some = omega arith; blob-some = omega arith }
-
--- a place that holds the blob, or a free one
-abbrev Room : Gateway → List ℕ → Type 0
-Room g blob = ((i : ℕ) × (old : Entry) × HeldAt g i old × (old .blob ≡ blob)) ⊎ ((i : ℕ) × FreeAt g i)
 
 room-place : (g : Gateway) (blob : List ℕ) → Room g blob → (i : ℕ) × (placeFor blob (g .places) ≡ At i)
 room-place g blob room = by-place (placeFor blob (g .places)) refl
@@ -175,7 +193,7 @@ check-asks g c from to bytes e = by-row (asks-in g c (check from to) (λ class n
     Seen : Type 0
     Seen =
         (fields : List ℕ) × (blob : List ℕ) × (lifetime : Lifetime) × (confirm : Bool) × AddRequest (payloadOf c) fields blob lifetime confirm
-        × (cutOf (payloadOf c) from to ≡ fields)
+        × (cutOf (payloadOf c) from to ≡ fields) × MayStore (atCall g c) fields blob
 
     check-not-gate : {class : ℕ} → check from to ≡ gate class → ⊥
     check-not-gate never = let z : _≡_ {A = ℕ} 0 1 = cc in omega arith
@@ -183,23 +201,23 @@ check-asks g c from to bytes e = by-row (asks-in g c (check from to) (λ class n
     Asks : Result → Type 0
     Asks r = r .outcome ≡ asks (check from to) → Seen
 
-    asked : (constrained : Bool) (p : Places) (l : Lifetime) (confirm : Bool) → Begins (addByte constrained) (payloadOf c)
-        → additionAt (payloadOf c) 1 constrained ≡ Addition.Whole p l confirm → asks (check 1 (p .end)) ≡ asks (check from to) → Seen
-    asked constrained p l confirm begins read is =
+    asked : (constrained : Bool) (p : Places) (l : Lifetime) (confirm : Bool) (i : ℕ) → Begins (addByte constrained) (payloadOf c)
+        → additionAt (payloadOf c) 1 constrained ≡ Addition.Whole p l confirm → Storable (atCall g c) (entryOf (atCall g c) (payloadOf c) p l confirm) i → asks (check 1 (p .end)) ≡ asks (check from to) → Seen
+    asked constrained p l confirm i begins read storable is =
         let (fields, blob, request, r) = add-in (payloadOf c) bytes constrained p l confirm begins read in
         let same-from : 1 ≡ from = cc in
         let same-to : p .end ≡ to = cc in
-        (fields, blob, l, confirm, request, rw (← same-from, ← same-to) (r .cut))
+        (fields, blob, l, confirm, request, rw (← same-from, ← same-to) (r .cut), rw (r .cut, r .public) at (may-store (atCall g c) (entryOf (atCall g c) (payloadOf c) p l confirm) i storable))
 
     by-row : AsksIn g c (check from to) → Seen
     by-row (in-add constrained begins is) =
         adding-cases (lent (c .answers)) (atCall g c) (payloadOf c) Asks silent constrained
-        (λ p l confirm i read _. asked constrained p l confirm begins read)
-        (λ p l confirm i _ _. silent)
+        (λ p l confirm i read storable. asked constrained p l confirm i begins read storable)
+        (λ p l confirm i _ _ _. silent)
         is
     by-row (in-sign begins is) =
         signing-cases (lent (c .answers)) (atCall g c) (payloadOf c) Asks (λ _. silent) (λ _. silent)
-        (λ i x _ never. let z : _≡_ {A = ℕ} 0 1 = cc in absurd (omega arith))
+        (λ i x _ _ never. let z : _≡_ {A = ℕ} 0 1 = cc in absurd (omega arith))
         (λ i x from to flags _ _ _ never. let z : _≡_ {A = ℕ} 0 1 = cc in absurd (omega arith))
         (λ i x from to flags blob _ _ _ _. silent)
         is

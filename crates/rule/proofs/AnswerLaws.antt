@@ -18,6 +18,8 @@ counts-for given n = record {
 pub numbered-answers : NumberedAnswers
 unfolding lent
 numbered-answers answers = record {
+  gates = λ class. refl;
+  checks = λ from to. refl;
   confirmations = counts-for (answers .confirmation);
   signatures = λ n from to hash. counts-for (answers .signature) n;
 }

@@ -107,7 +107,7 @@ module _ (answer : (q : Question) → Option (Answer q)) (g : Gateway) (payload 
     pub adding-cases : (constrained : Bool)
         → ((p : Places) (l : Lifetime) (c : Bool) (i : ℕ) → additionAt payload 1 constrained ≡ Addition.Whole p l c → Storable g (entryOf g payload p l c) i → Asks (check 1 (p .end)))
         → ((p : Places) (l : Lifetime) (c : Bool) (i : ℕ) → additionAt payload 1 constrained ≡ Addition.Whole p l c → Storable g (entryOf g payload p l c) i
-        → Lands SUCCESS (withEntry i (entryOf g payload p l c) g))
+        → answer (check 1 (p .end)) ≡ some true → Lands SUCCESS (withEntry i (entryOf g payload p l c) g))
         → Follows (adding constrained g payload)
     unfolding adding storing
     adding-cases constrained asking stored =
@@ -120,10 +120,10 @@ module _ (answer : (q : Question) → Option (Answer q)) (g : Gateway) (payload 
         let storable : Storable g e i = record { blob = blob; fields = fields; numbers-left = ltb-true _ _ left; place = place; number = refl; reading = refl } in
         ask-gives answer g P (check 1 (p .end)) _
         (λ _. asking p l c i read storable)
-        (λ granted _. so-gives answer g P granted _ failing λ _. success _ (stored p l c i read storable))
+        (λ granted says. so-gives answer g P granted _ failing λ agreed. success _ (stored p l c i read storable (says ∙ ap some agreed)))
 
   pub signing-cases : (Failing answer g payload → Lands FAILURE g) → (Closing answer g payload → Lands close g)
-      → ((i : ℕ) (e : Entry) → Chosen g payload i e → Asks (confirmation (e .number)))
+      → ((i : ℕ) (e : Entry) → Chosen g payload i e → e .confirm ≡ true → Asks (confirmation (e .number)))
       → ((i : ℕ) (e : Entry) (from to flags : ℕ) (k : Chosen g payload i e) → Ordered payload (k .carries .next .at) from to flags → Allowed answer e
       → Asks (signature (e .number) from to (hashOf flags)))
       → ((i : ℕ) (e : Entry) (from to flags : ℕ) (blob : List ℕ) (k : Chosen g payload i e) → Ordered payload (k .carries .next .at) from to flags → Allowed answer e
@@ -141,7 +141,7 @@ module _ (answer : (q : Question) → Option (Answer q)) (g : Gateway) (payload 
       (so-cases Follows (e .confirm)
       (λ confirm.
       ask-gives answer g P (confirmation (e .number)) _
-      (λ _. confirms i e key)
+      (λ _. confirms i e key confirm)
       (λ granted says.
       so-cases Follows granted
       (λ agreed. by-data i e key (λ _. says ∙ ap some agreed))

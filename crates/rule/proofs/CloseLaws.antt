@@ -48,7 +48,7 @@ success-or-failure g c l no-list no-sign =
     by-add constrained =
         adding-cases (lent (c .answers)) (atCall g c) (payloadOf c) Either failed constrained
         (λ p lifetime confirm i _ _ never. absurd (asks-not-lands _ l never))
-        (λ p lifetime confirm i _ _. succeeded)
+        (λ p lifetime confirm i _ _ _. succeeded)
 
     by-row : {byte : ℕ} {needs : Bool} {class : ℕ} (r : Row byte needs class) → Begins byte (payloadOf c) → Either (bodyResult r g c)
     by-row list begins = absurd (no-list begins)
@@ -131,7 +131,7 @@ close-rule g c is-bytes = (
         signing-cases (lent (c .answers)) (atCall g c) (payloadOf c) (λ r. r .outcome ≡ lands close → Closes g c)
             (λ _ never. absurd (close-not-reply (sym (same-landing never))))
             (λ why _. closing-closes g c (t .past) begins is-bytes why)
-            (λ i x _ never. absurd (asks-not-lands _ close never))
+            (λ i x _ _ never. absurd (asks-not-lands _ close never))
             (λ i x f to flags _ _ _ never. absurd (asks-not-lands _ close never))
             (λ i x f to flags blob _ _ _ _ never. absurd (close-not-reply (sym (same-landing never))))
             (rw (t .result) at e),
@@ -169,7 +169,7 @@ sign-fail-rule g c past state begins = (
       signing-cases (lent (c .answers)) (atCall g c) (payloadOf c) (λ r. r .outcome ≡ lands FAILURE → SignFails g c)
       (λ why _. failing-fails g c why)
       (λ _ never. absurd (close-not-reply (same-landing never)))
-      (λ i x _ never. absurd (asks-not-lands _ FAILURE never))
+      (λ i x _ _ never. absurd (asks-not-lands _ FAILURE never))
       (λ i x f to flags _ _ _ never. absurd (asks-not-lands _ FAILURE never))
       (λ i x f to flags blob _ _ _ _ never. absurd (signature-not-failure blob never))
       (rw (past-gate sign g c past state begins) at e)),

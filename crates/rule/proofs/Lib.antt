@@ -9,6 +9,7 @@ pub mod Leavings
 pub mod Demands
 pub mod LockedRuns
 pub mod SoundLaws
+pub mod RefusalTable
 pub mod ReplyLaws
 pub mod QuestionLaws
 pub mod RowLaws

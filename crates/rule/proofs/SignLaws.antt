@@ -15,7 +15,7 @@ use Rattle.rule.specs.Gateway.{Entry, Gateway, locked, found}
 use Rattle.rule.specs.Rule.{Question, gate, confirmation, signature, Answer, reply, hashOf, signatureReply, signed, signingData, confirming, signing}
 use Rattle.rule.specs.Calls.{Numbered, forNumber, lent, Call, asks, lands, Result, follow, call}
 use Rattle.rule.specs.Order.{Begins, Carries}
-use Rattle.rule.specs.Content.{HeldAt, atCall, payloadOf, PastGate, sign, SignRequest, HashTable, Confirmed, SignatureAsks, SignsOnly, SignsAlways}
+use Rattle.rule.specs.Content.{HeldAt, atCall, payloadOf, PastGate, sign, SignRequest, HashTable, Confirmed, SignatureAsks, ConfirmationAsks, SignsOnly, SignsAlways}
 use Rattle.rule.proofs.Cases.{so-cases}
 use Rattle.rule.proofs.PlaceLaws.{some-not-none, held-found}
 use Rattle.rule.proofs.RefusalLaws.{accepted}
@@ -69,11 +69,11 @@ signature-asks g c n from to hash bytes e = by-row (asks-in g c (signature n fro
     by-row (in-add constrained begins is) =
         adding-cases (lent (c .answers)) (atCall g c) (payloadOf c) Asks silent constrained
         (λ p l confirm i _ _ never. let z : _≡_ {A = ℕ} 0 1 = cc in absurd (omega arith))
-        (λ p l confirm i _ _. silent)
+        (λ p l confirm i _ _ _. silent)
         is
     by-row (in-sign begins is) =
         signing-cases (lent (c .answers)) (atCall g c) (payloadOf c) Asks (λ _. silent) (λ _. silent)
-        (λ i x _ never. let z : _≡_ {A = ℕ} 0 1 = cc in absurd (omega arith))
+        (λ i x _ _ never. let z : _≡_ {A = ℕ} 0 1 = cc in absurd (omega arith))
         (λ i x f t flags key order allowed same.
         let same-part : cutOf (payloadOf c) f t ≡ cutOf (payloadOf c) from to = cc in
         let same-hash : hashOf flags ≡ hash = cc in
@@ -90,7 +90,7 @@ signs-only g c bytes begins e other =
     signing-cases (lent (c .answers)) (atCall g c) (payloadOf c) Out
     (λ _ is. absurd (other (sym (same-landing is))))
     (λ _ never. let z : _≡_ {A = ℕ} 0 1 = cc in absurd (omega arith))
-    (λ i x _ never. absurd (asks-not-lands _ _ never))
+    (λ i x _ _ never. absurd (asks-not-lands _ _ never))
     (λ i x f t flags _ _ _ never. absurd (asks-not-lands _ _ never))
     (λ i x f t flags blob key order allowed says is.
     (i, x, blob, key .there, key .carries, own-number (x .number) (c .answers .signature) (some blob) says, same-bytes is, allowed-confirmed c x allowed))
@@ -147,3 +147,30 @@ pub signs-always : SignsAlways
 unfolding signed signatureReply follow
 signs-always g c i e bytes blob flags is-bytes past state held request confirmed says =
     rw (comes-to-signer g c past state i e held (some blob) is-bytes request confirmed says)
+
+-- ## What is confirmed
+
+pub confirmation-asks : ConfirmationAsks
+confirmation-asks g c n e = by-row (asks-in g c (confirmation n) (λ class never. confirmation-not-gate never) e)
+  where
+    Asked : Type 0
+    Asked = (i : ℕ) × (e : Entry) × HeldAt (atCall g c) i e × (e .number ≡ n) × (e .confirm ≡ true) × Carries (e .blob) (payloadOf c)
+
+    confirmation-not-gate : {class : ℕ} → confirmation n ≡ gate class → ⊥
+    confirmation-not-gate never = let z : _≡_ {A = ℕ} 0 1 = cc in omega arith
+
+    Asks : Result → Type 0
+    Asks r = r .outcome ≡ asks (confirmation n) → Asked
+
+    by-row : AsksIn g c (confirmation n) → Asked
+    by-row (in-add constrained begins is) =
+        adding-cases (lent (c .answers)) (atCall g c) (payloadOf c) Asks silent constrained
+        (λ p l confirm i _ _ never. let z : _≡_ {A = ℕ} 0 1 = cc in absurd (omega arith))
+        (λ p l confirm i _ _ _. silent)
+        is
+    by-row (in-sign begins is) =
+        signing-cases (lent (c .answers)) (atCall g c) (payloadOf c) Asks (λ _. silent) (λ _. silent)
+        (λ i x key confirm same. (i, x, key .there, (cc), confirm, key .carries))
+        (λ i x f t flags _ _ _ never. let z : _≡_ {A = ℕ} 0 1 = cc in absurd (omega arith))
+        (λ i x f t flags blob _ _ _ _. silent)
+        is

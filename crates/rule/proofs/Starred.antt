@@ -1,4 +1,4 @@
--- 01's starred examples, by computation.
+-- 01's starred examples, and soundness at its limits, by computation.
 use mathlib.Core.Path.{refl}
 use native.Mathlib.Omega.{arith}
 use Rattle.wire.specs.Numbers.{beAt}
@@ -10,7 +10,7 @@ use Rattle.rule.specs.Soundness.{everyEntry, distinct, sound}
 use Rattle.rule.specs.Rule.{live, items, listed, listing, removing, removingAll, locking, unlocking, hashOf, signed, signingData, confirming, signing, gated, row, table, rule}
 use Rattle.rule.specs.Calls.{forNumber, lent, lentLength, refusalOf, follow, served, refusal, call}
 use Rattle.rule.specs.Runs.{heard, heardIn, turn, turnsFrom, endOf}
-use Rattle.rule.specs.Examples.{StarredExamples, lockedAb, oneKey}
+use Rattle.rule.specs.Examples.{StarredExamples, lockedAb, oneKey, SoundnessLimits}
 use Rattle.rule.proofs.SoundLaws.{fresh-sound, sound-rule}
 
 pub starred-examples : StarredExamples
@@ -23,6 +23,7 @@ starred-examples = record {
   fresh-list = refl;
   lock-empty = refl;
   lock-ab = refl;
+  success = refl;
   then-list = refl;
   then-unlock-ac = refl;
   then-unlock-ab = refl;
@@ -38,4 +39,26 @@ starred-examples = record {
   first-holds = refl;
   more-needed = refl;
   too-long = refl;
+}
+
+pub soundness-limits : SoundnessLimits
+unfolding same everyEntry distinct sound
+soundness-limits = record {
+  greatest = refl;
+  least = refl;
+  blob-none = refl;
+  blob-over = refl;
+  fields-none = refl;
+  fields-over = refl;
+  number-none = refl;
+  number-not-taken = refl;
+  reading-ahead = refl;
+  lock-full = refl;
+  lock-over = refl;
+  next-none = refl;
+  next-last = refl;
+  two-keys = refl;
+  numbers-alike = refl;
+  blobs-alike = refl;
+  nine-places = refl;
 }

@@ -67,7 +67,7 @@ module _ (g : Gateway) (c : Call) (bytes : Bytes (payloadOf c)) (i : ℕ) (e : E
 
   add-keeps : (constrained : Bool) → Begins (addByte constrained) (payloadOf c) → Keeps (addResult constrained g c)
   add-keeps constrained begins =
-      adding-cases (lent (c .answers)) (atCall g c) (payloadOf c) Keeps stays constrained (λ p l confirm j _ _. stays) λ p l confirm j read storable success.
+      adding-cases (lent (c .answers)) (atCall g c) (payloadOf c) Keeps stays constrained (λ p l confirm j _ _. stays) λ p l confirm j read storable _ success.
       set-elsewhere (atCall g c .places) i j _ e held λ there.
       let (fields, blob, request, r) = add-in (payloadOf c) bytes constrained p l confirm begins read in
       let same-blob = stored-over (blobOf (payloadOf c) 1 p) j (placed _ _ j (storable .place)) there in
@@ -85,7 +85,7 @@ module _ (g : Gateway) (c : Call) (bytes : Bytes (payloadOf c)) (i : ℕ) (e : E
   row-keeps remove-all begins = λ success. inr (cleared begins (sym success))
   row-keeps sign begins =
       signing-cases (lent (c .answers)) (atCall g c) (payloadOf c) Keeps (λ _. stays) (λ _. stays)
-      (λ j x _. stays)
+      (λ j x _ _. stays)
       (λ j x f t flags _ _ _. stays)
       (λ j x f t flags blob _ _ _ _. stays)
   row-keeps lock begins = locking-cases (lent (c .answers)) (atCall g c) (payloadOf c) Keeps stays (λ passphrase. stays)

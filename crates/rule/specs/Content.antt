@@ -18,7 +18,7 @@ use Rattle.keys.specs.Forms.{KeyFields, constraintForms, Adds}
 use Rattle.rule.specs.declared.Hash.{Hash}
 use Rattle.rule.specs.declared.Hash.the-variants.{Plain, Sha256, Sha512}
 use Rattle.rule.specs.Gateway.{Entry, Place, Gateway, locked, advance}
-use Rattle.rule.specs.Soundness.{lastNumber, Sound}
+use Rattle.rule.specs.Soundness.{Sound}
 use Rattle.rule.specs.Rule.{Question, gate, check, confirmation, signature, Answer, Landing, reply, close, FAILURE, SUCCESS, Plan, land, ask, hashOf, rule}
 use Rattle.rule.specs.Calls.{Numbered, Answers, lent, Call, refusal, asks, lands, call}
 use Rattle.rule.specs.Order.{Begins, Carries}
@@ -86,11 +86,32 @@ pub record CountsFor {A : Type 0} (given : Option (Numbered A)) (n : ℕ) (count
   pub missing : given ≡ none → counts ≡ none
 
 pub record AnswersCount (answers : Answers) : Type 0 where
+  pub gates : (class : ℕ) → lent answers (gate class) ≡ answers .gate
+  pub checks : (from to : ℕ) → lent answers (check from to) ≡ answers .check
   pub confirmations : (n : ℕ) → CountsFor (answers .confirmation) n (lent answers (confirmation n))
   pub signatures : (n from to : ℕ) (hash : Hash) → CountsFor (answers .signature) n (lent answers (signature n from to hash))
 
 abbrev pub NumberedAnswers : Type 0
 NumberedAnswers = (answers : Answers) → AnswersCount answers
+
+-- ## Refusals
+
+-- no lent signature is over 2,048 bytes; "none given" has no length
+abbrev pub LentFits : Call → Type 0
+LentFits c = (n : ℕ) (blob : List ℕ) → c .answers .signature ≡ some (record { number = n; answer = some blob }) → length blob ≤ 2048
+
+-- "Call refusals, first that applies"
+pub record RefusalTable (g : Gateway) (c : Call) : Type 0 where
+  pub first : c .buffer < 8265 → refusal g c ≡ some 1
+  pub second : 8265 ≤ c .buffer → c .store ≢ 32768 → refusal g c ≡ some 2
+  pub third : 8265 ≤ c .buffer → c .store ≡ 32768 → (Sound g → ⊥) → refusal g c ≡ some 3
+  pub fourth : 8265 ≤ c .buffer → c .store ≡ 32768 → Sound g → 262144 < length (payloadOf c) → refusal g c ≡ some 4
+  pub fifth : 8265 ≤ c .buffer → c .store ≡ 32768 → Sound g → length (payloadOf c) ≤ 262144
+      → (n : ℕ) (blob : List ℕ) → c .answers .signature ≡ some (record { number = n; answer = some blob }) → 2048 < length blob → refusal g c ≡ some 5
+  pub accepted : 8265 ≤ c .buffer → c .store ≡ 32768 → Sound g → length (payloadOf c) ≤ 262144 → LentFits c → refusal g c ≡ none
+
+abbrev pub RefusalRule : Type 0
+RefusalRule = (g : Gateway) (c : Call) → RefusalTable g c
 
 -- ## Gone on time, and usable until the job ends
 
@@ -202,27 +223,35 @@ pub record Put (before after : Gateway) (i : ℕ) (e : Entry) : Type 0 where
   pub place : ((old : Entry) × HeldAt before i old × (old .blob ≡ e .blob))
       ⊎ (FreeAt before i × ((j : ℕ) → j < i → FreeAt before j → ⊥) × ((j : ℕ) (old : Entry) → HeldAt before j old → old .blob ≢ e .blob))
 
--- what an add's SUCCESS did
+-- what is decided before the key check is asked: the limits, the numbers that are left, and a place
+pub record MayStore (before : Gateway) (fields blob : List ℕ) : Type 0 where
+  pub blob-fits : length blob ≤ 1024
+  pub fields-fit : length fields ≤ 3072
+  pub numbers-left : before .next < 2 ^ 64 - 1
+  pub room : ((i : ℕ) × (old : Entry) × HeldAt before i old × (old .blob ≡ blob)) ⊎ ((i : ℕ) × FreeAt before i)
+
+-- what an add's SUCCESS did, and that the key check said yes
 abbrev pub AddedOnly : Type 0
 AddedOnly =
     (g : Gateway) (c : Call) → Bytes (payloadOf c) → Begins 17 (payloadOf c) ⊎ Begins 25 (payloadOf c) → call g c .outcome ≡ lands SUCCESS
     → (fields blob : List ℕ) × (lifetime : Lifetime) × (confirm : Bool) × (i : ℕ) × AddRequest (payloadOf c) fields blob lifetime confirm
-    × Put (atCall g c) (call g c .gateway) i (madeBy g c fields blob lifetime confirm)
+    × Put (atCall g c) (call g c .gateway) i (madeBy g c fields blob lifetime confirm) × MayStore (atCall g c) fields blob × (c .answers .check ≡ some true)
 
 -- a well-formed add request within the limits, past gate and key check, is stored where the blob is held or a place is free
 abbrev pub AddedAlways : Type 0
 AddedAlways =
     (g : Gateway) (c : Call) (fields blob : List ℕ) (lifetime : Lifetime) (confirm : Bool) → Bytes (payloadOf c) → PastGate g c → locked g ≡ false
-    → AddRequest (payloadOf c) fields blob lifetime confirm → length blob ≤ 1024 → length fields ≤ 3072 → g .next < lastNumber
+    → AddRequest (payloadOf c) fields blob lifetime confirm → length blob ≤ 1024 → length fields ≤ 3072 → g .next < 2 ^ 64 - 1
     → ((i : ℕ) × (old : Entry) × HeldAt (atCall g c) i old × (old .blob ≡ blob)) ⊎ ((i : ℕ) × FreeAt (atCall g c) i)
     → c .answers .check ≡ some true
     → call g c .outcome ≡ lands SUCCESS
 
--- the key check is asked of the fields alone, comment left out
+-- the key check is asked of the fields alone, comment left out, and only where its yes would store the key
 abbrev pub CheckAsks : Type 0
 CheckAsks =
     (g : Gateway) (c : Call) (from to : ℕ) → Bytes (payloadOf c) → call g c .outcome ≡ asks (check from to)
     → (fields blob : List ℕ) × (lifetime : Lifetime) × (confirm : Bool) × AddRequest (payloadOf c) fields blob lifetime confirm × (cutOf (payloadOf c) from to ≡ fields)
+    × MayStore (atCall g c) fields blob
 
 -- ## Removing
 
@@ -272,6 +301,12 @@ SignatureAsks =
     (g : Gateway) (c : Call) (n from to : ℕ) (hash : Hash) → Bytes (payloadOf c) → call g c .outcome ≡ asks (signature n from to hash)
     → (i : ℕ) × (e : Entry) × (flags : ℕ) × HeldAt (atCall g c) i e × (e .number ≡ n) × SignRequest (payloadOf c) (e .blob) (cutOf (payloadOf c) from to) flags
     × HashTable flags hash × Confirmed c e
+
+-- a confirmation is asked for a held key with Confirm, and for no other
+abbrev pub ConfirmationAsks : Type 0
+ConfirmationAsks =
+    (g : Gateway) (c : Call) (n : ℕ) → call g c .outcome ≡ asks (confirmation n)
+    → (i : ℕ) × (e : Entry) × HeldAt (atCall g c) i e × (e .number ≡ n) × (e .confirm ≡ true) × Carries (e .blob) (payloadOf c)
 
 -- a signature goes out only for a held key, with the signer's own bytes for that key's number, and only after a Confirm key's yes
 abbrev pub SignsOnly : Type 0

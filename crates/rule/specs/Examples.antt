@@ -11,7 +11,7 @@ use Rattle.keys.specs.declared.constraints.Lifetime.the-variants.{Forever}
 use Rattle.rule.specs.declared.Hash.{Hash}
 use Rattle.rule.specs.declared.Hash.the-variants.{Plain, Sha256, Sha512}
 use Rattle.rule.specs.Gateway.{Gateway, fresh}
-use Rattle.rule.specs.Soundness.{Sound}
+use Rattle.rule.specs.Soundness.{Sound, sound}
 use Rattle.rule.specs.Rule.{gate, signature, reply, close, FAILURE, SUCCESS}
 use Rattle.rule.specs.Calls.{Answers, nothingLent, Call, Outcome, asks, lands, call}
 use Rattle.rule.specs.Runs.{turns, endOf, landings}
@@ -66,6 +66,7 @@ pub record StarredExamples : Type 0 where
   pub fresh-list : call fresh (pastGate (0x0B ∷ [])) ≡ record { outcome = lands (reply (0 ∷ 0 ∷ 0 ∷ 5 ∷ 0x0C ∷ 0 ∷ 0 ∷ 0 ∷ 0 ∷ [])); gateway = fresh }
   pub lock-empty : call fresh (pastGate (0x16 ∷ 0 ∷ 0 ∷ 0 ∷ 0 ∷ [])) ≡ record { outcome = lands SUCCESS; gateway = fresh }
   pub lock-ab : call fresh (pastGate lockAb) ≡ record { outcome = lands SUCCESS; gateway = lockedAb }
+  pub success : SUCCESS ≡ reply (0 ∷ 0 ∷ 0 ∷ 1 ∷ 6 ∷ [])
   pub then-list : call lockedAb (unasked (0x0B ∷ [])) ≡ record { outcome = lands FAILURE; gateway = lockedAb }
   pub then-unlock-ac : call lockedAb (pastGate (0x17 ∷ 0 ∷ 0 ∷ 0 ∷ 2 ∷ 0x61 ∷ 0x63 ∷ [])) ≡ record { outcome = lands FAILURE; gateway = lockedAb }
   pub then-unlock-ab : call lockedAb (pastGate (0x17 ∷ 0 ∷ 0 ∷ 0 ∷ 2 ∷ 0x61 ∷ 0x62 ∷ 0xFF ∷ [])) ≡ record { outcome = lands SUCCESS; gateway = fresh }
@@ -81,3 +82,44 @@ pub record StarredExamples : Type 0 where
   pub first-holds : endOf fresh bothLand ≡ lockedAb
   pub more-needed : splitOf (0 ∷ 4 ∷ 0 ∷ 0 ∷ []) ≡ MoreNeeded
   pub too-long : splitOf (0 ∷ 4 ∷ 0 ∷ 1 ∷ []) ≡ TooLong
+
+-- 01's soundness at its limits, on one held key
+abbrev pub keyWith : ℕ → ℕ → ℕ → ℕ → Gateway
+keyWith number reading blob fields = record {
+  places = some (record { number = number; reading = reading; lifetime = Forever; confirm = false; blob = replicate blob 1; fields = replicate fields 1 }) ∷ replicate 7 none;
+  lock = [];
+  clock = 5;
+  next = 3;
+}
+
+abbrev pub lockOfLength : ℕ → ℕ → Gateway
+lockOfLength n next = record { places = replicate 8 none; lock = replicate n 1; clock = 0; next = next }
+
+-- a second key beside one of number 1 and blob 61
+abbrev pub besides : ℕ → ℕ → Gateway
+besides number byte = record {
+  places = some (record { number = 1; reading = 0; lifetime = Forever; confirm = false; blob = 0x61 ∷ []; fields = 0 ∷ [] })
+      ∷ some (record { number = number; reading = 0; lifetime = Forever; confirm = false; blob = byte ∷ []; fields = 0 ∷ [] }) ∷ replicate 6 none;
+  lock = [];
+  clock = 0;
+  next = 3;
+}
+
+pub record SoundnessLimits : Type 0 where
+  pub greatest : sound (keyWith 2 5 1024 3072) ≡ true
+  pub least : sound (keyWith 1 0 1 1) ≡ true
+  pub blob-none : sound (keyWith 1 0 0 1) ≡ false
+  pub blob-over : sound (keyWith 1 0 1025 1) ≡ false
+  pub fields-none : sound (keyWith 1 0 1 0) ≡ false
+  pub fields-over : sound (keyWith 1 0 1 3073) ≡ false
+  pub number-none : sound (keyWith 0 0 1 1) ≡ false
+  pub number-not-taken : sound (keyWith 3 0 1 1) ≡ false
+  pub reading-ahead : sound (keyWith 1 6 1 1) ≡ false
+  pub lock-full : sound (lockOfLength 1024 1) ≡ true
+  pub lock-over : sound (lockOfLength 1025 1) ≡ false
+  pub next-none : sound (lockOfLength 0 0) ≡ false
+  pub next-last : sound (lockOfLength 0 0xFFFF_FFFF_FFFF_FFFF) ≡ true
+  pub two-keys : sound (besides 2 0x62) ≡ true
+  pub numbers-alike : sound (besides 1 0x62) ≡ false
+  pub blobs-alike : sound (besides 2 0x61) ≡ false
+  pub nine-places : sound (record { places = replicate 9 none; lock = []; clock = 0; next = 1 }) ≡ false
