@@ -26,23 +26,23 @@ use Rattle.rule.proofs.PlaceLaws.{Holds, every-at, every-imp, fewer-eve
 -- ## The test
 
 -- a test that is passed exactly where the fact holds
-abbrev Says : Bool → Type 0 → Type 0
+abbrev pub Says : Bool → Type 0 → Type 0
 Says b P = (b ≡ true) ↔ P
 
 -- two tests say two facts
-both-say : (a b : Bool) (P Q : Type 0) → Says a P → Says b Q → Says (a && b) (P × Q)
+pub both-say : (a b : Bool) (P Q : Type 0) → Says a P → Says b Q → Says (a && b) (P × Q)
 both-say a b P Q p q = ((λ t. (p .0 (and-left a b t), q .0 (and-right a b t))), (λ (x, y). both-true a b (p .1 x) (q .1 y)))
 
-le-says : (m n : ℕ) → Says (leb m n) (m ≤ n)
+pub le-says : (m n : ℕ) → Says (leb m n) (m ≤ n)
 le-says m n = (leb-true m n, le-leb m n)
 
-lt-says : (m n : ℕ) → Says (ltb m n) (m < n)
+pub lt-says : (m n : ℕ) → Says (ltb m n) (m < n)
 lt-says m n = (ltb-true m n, lt-ltb m n)
 
-eq-says : (m n : ℕ) → Says (eqb m n) (m ≡ n)
+pub eq-says : (m n : ℕ) → Says (eqb m n) (m ≡ n)
 eq-says m n = (eqb-true m n, eq-eqb m n)
 
-within-says : (low high n : ℕ) → Says (within low high n) ((low ≤ n) × (n ≤ high))
+pub within-says : (low high n : ℕ) → Says (within low high n) ((low ≤ n) × (n ≤ high))
 within-says low high n = both-say _ _ _ _ (le-says low n) (le-says n high)
 
 every-says : (test : Entry → Bool) (P : Entry → Type 0) → ((e : Entry) → Says (test e) (P e)) → (ps : List Place) → Says (everyEntry test ps) (EveryEntry P ps)
@@ -62,7 +62,7 @@ apart-says e x =
     let all = both-say _ _ _ _ (same-says (e .blob) (x .blob)) (number-says (e .number) (x .number)) in
     ((λ t. record { blobs = all .0 t .0; numbers = all .0 t .1 }), (λ a. all .1 (a .blobs, a .numbers)))
 
-distinct-says : (ps : List Place) → Says (distinct ps) (Distinct ps)
+pub distinct-says : (ps : List Place) → Says (distinct ps) (Distinct ps)
 unfolding distinct
 distinct-says [] = ((λ _. tt), (λ _. refl))
 distinct-says (none ∷ ps) = distinct-says ps
@@ -112,7 +112,7 @@ fresh-sound = record { eight-places = refl; entries = tt; distinct = tt; lock-fi
 -- ## What keeps it
 
 -- fewer entries, a later clock
-sound-fewer : (g after : Gateway) → length (after .places) ≡ length (g .places) → Fewer (g .places) (after .places)
+pub sound-fewer : (g after : Gateway) → length (after .places) ≡ length (g .places) → Fewer (g .places) (after .places)
     → after .lock ≡ g .lock → g .clock ≤ after .clock → after .next ≡ g .next → Sound g → Sound after
 sound-fewer g after l f lock clock next s = record {
   eight-places = l ∙ s .eight-places;
@@ -129,7 +129,7 @@ sound-advance r g s =
     let later : g .clock ≤ max (g .clock) r = omega arith in
     sound-fewer g (advance r g) (length-map (g .places) _) (freed-fewer (lasting (max (g .clock) r)) (lasting-frees (max (g .clock) r)) (g .places)) refl later refl s
 
-sound-lock : (passphrase : List ℕ) (g : Gateway) → length passphrase ≤ 1024 → Sound g → Sound (withLock passphrase g)
+pub sound-lock : (passphrase : List ℕ) (g : Gateway) → length passphrase ≤ 1024 → Sound g → Sound (withLock passphrase g)
 sound-lock passphrase g h s = record {
   eight-places = s .eight-places;
   entries = s .entries;

@@ -1,0 +1,127 @@
+-- Laws of zeros and padding, and one law for each turn and end of the loops over a part.
+use Prim.Native.Nat.{ℕ, zero, suc, _+_, _-_, _≤_, _<_, max}
+use mathlib.Core.Path.{_≡_, refl, sym, ap, _∙_}
+use mathlib.Core.Bool.{Bool, true, false, _&&_}
+use mathlib.Core.List.{List, [], _∷_, _++_, append-nil}
+use mathlib.Core.Logic.{_↔_}
+use native.Mathlib.Omega.{arith}
+use native.Mathlib.Numerals.{add-one}
+use native.Mathlib.Nat.{not-suc-le-zero, le-of-suc-le-suc}
+use borrow.Author.Tests.{eqb-true, eqb-false, eq-eqb, ne-eqb}
+use borrow.Rule.Slice.PartMut.{midOf, putMid}
+use lib.Dec.{eqb}
+use lib.ListN.{length, take, drop, getD, set, replicate, length-append, length-drop, length-replicate, drop-of-length-le, take-append-drop, replicate-append-replicate}
+use lib.Seq.{drop-cons, take-all, take-at, drop-at, length-take-le, take-append-seam, drop-append-seam}
+use Rattle.rule.proofs.Cases.{and-left, and-right, both-true}
+use Rattle.table.specs.Bytes.{allZero, Zeros, greatest, padded}
+
+-- ## Zeros
+
+pub zeros-zero : (n : ℕ) → allZero (replicate n 0) ≡ true
+unfolding allZero
+zeros-zero zero = refl
+zeros-zero (suc n) = zeros-zero n
+
+pub all-zeros : (bs : List ℕ) → allZero bs ≡ true → Zeros bs
+unfolding allZero
+all-zeros [] h = refl
+all-zeros (b ∷ bs) h =
+    let first : b ≡ 0 = eqb-true b 0 (and-left (eqb b 0) (allZero bs) h) in
+    let rest : Zeros bs = all-zeros bs (and-right (eqb b 0) (allZero bs) h) in
+    λ j. first j ∷ rest j
+
+pub zeros-say : (bs : List ℕ) → (allZero bs ≡ true) ↔ Zeros bs
+zeros-say bs = (all-zeros bs, (λ z. ap allZero z ∙ zeros-zero (length bs)))
+
+-- ## The greatest byte
+
+pub greatest-step : (bs : List ℕ) (i most : ℕ) → i < length bs → max most (greatest (drop i bs)) ≡ max (max most (getD bs i 0)) (greatest (drop (i + 1) bs))
+unfolding greatest
+greatest-step bs i most h = rw (add-one, drop-cons bs i 0) (omega arith)
+
+pub greatest-end : (bs : List ℕ) (i most : ℕ) → length bs ≤ i → max most (greatest (drop i bs)) ≡ most
+unfolding greatest
+greatest-end bs i most h = rw (drop-of-length-le bs h) (omega arith)
+
+-- all bytes are zero exactly where the greatest is
+pub zero-greatest : (bs : List ℕ) → eqb (greatest bs) 0 ≡ allZero bs
+unfolding greatest allZero
+zero-greatest [] = refl
+zero-greatest (b ∷ bs) = both (eqb b 0) (eqb (greatest bs) 0) refl refl ∙ ap (λ (t : Bool). eqb b 0 && t) (zero-greatest bs)
+  where
+    both : (t u : Bool) → eqb b 0 ≡ t → eqb (greatest bs) 0 ≡ u → eqb (max b (greatest bs)) 0 ≡ t && u
+    both true true p q =
+        let x = eqb-true b 0 p in
+        let y = eqb-true (greatest bs) 0 q in
+        eq-eqb (max b (greatest bs)) 0 (omega arith)
+    both true false p q = let y = eqb-false (greatest bs) 0 q in ne-eqb (max b (greatest bs)) 0 (λ (e : max b (greatest bs) ≡ 0). y (omega arith))
+    both false u p q = let x = eqb-false b 0 p in ne-eqb (max b (greatest bs)) 0 (λ (e : max b (greatest bs) ≡ 0). x (omega arith))
+
+-- ## The loops that fill and copy
+
+pub fill-end : (d : List ℕ) (i : ℕ) → i ≤ length d → length d ≤ i → replicate i 0 ++ drop i d ≡ replicate (length d) 0
+fill-end d i h k = let e : i ≡ length d = omega arith in rw (drop-of-length-le d k, append-nil, e)
+
+copy-suc : (s d : List ℕ) (i : ℕ) → i < length s → i < length d → set (take i s ++ drop i d) i (getD s i 0) ≡ take (suc i) s ++ drop (suc i) d
+copy-suc [] d i h k = absurd (not-suc-le-zero h)
+copy-suc (x ∷ s) [] i h k = absurd (not-suc-le-zero k)
+copy-suc (x ∷ s) (y ∷ d) zero h k = refl
+copy-suc (x ∷ s) (y ∷ d) (suc i) h k = ap (λ (l : List ℕ). x ∷ l) (copy-suc s d i (le-of-suc-le-suc h) (le-of-suc-le-suc k))
+
+pub copy-more : (s d : List ℕ) (i : ℕ) → i < length s → i < length d → set (take i s ++ drop i d) i (getD s i 0) ≡ take (i + 1) s ++ drop (i + 1) d
+copy-more s d i h k = rw add-one (copy-suc s d i h k)
+
+pub copy-end : (s d : List ℕ) (i : ℕ) → length s ≤ i → length d ≤ i → take i s ++ drop i d ≡ s
+copy-end s d i h k = rw (take-all i s h, drop-of-length-le d k, append-nil)
+
+-- ## A part in two halves: the first n bytes become x, all behind them y
+
+module _ (n : ℕ) (d x : List ℕ) (l : length x ≡ n) where
+  rest-behind : drop n (x ++ drop n d) ≡ drop n d
+  rest-behind = drop-at x (drop n d) n l
+
+  rest-size : length (x ++ drop n d) - n ≡ length d - n
+  rest-size = simp (length-append, length-drop) (omega arith)
+
+  pub halves : (y : List ℕ) → putMid n (length (x ++ drop n d) - n) (x ++ drop n d) y ≡ x ++ y
+  halves y =
+      let h : length (drop n d) ≤ length d - n = rw length-drop (omega arith) in
+      rw (rest-size, take-at x (drop n d) n l, rest-behind, drop-of-length-le (drop n d) h, append-nil)
+
+  pub half-size : length (midOf n (length (x ++ drop n d) - n) (x ++ drop n d)) ≡ length d - n
+  half-size =
+      let h : length (drop n d) ≤ length d - n = rw length-drop (omega arith) in
+      rw (rest-size, rest-behind, take-all (length d - n) (drop n d) h) (length-drop n d)
+
+-- ## Padding
+
+module _ (n : ℕ) (bs : List ℕ) where
+  pub padded-size : length bs ≤ n → length (padded n bs) ≡ n
+  unfolding padded
+  padded-size h = simp (length-append, length-replicate) (omega arith)
+
+  pub padded-front : take (length bs) (padded n bs) ≡ bs
+  unfolding padded
+  padded-front = take-append-seam bs (replicate (n - length bs) 0)
+
+  pub padded-rest : Zeros (drop (length bs) (padded n bs))
+  unfolding padded
+  padded-rest = all-zeros _ (ap allZero (drop-append-seam bs (replicate (n - length bs) 0)) ∙ zeros-zero (n - length bs))
+
+-- a list that is zero from m on is its front, padded
+pub zeros-padded : (n m : ℕ) (bs : List ℕ) → length bs ≡ n → m ≤ n → Zeros (drop m bs) → bs ≡ padded n (take m bs)
+unfolding padded
+zeros-padded n m bs l h z =
+    let front : length (take m bs) ≡ m = length-take-le m bs (omega arith) in
+    let rest : length (drop m bs) ≡ n - m = rw (length-drop, l) in
+    sym (take-append-drop m bs) ∙ rw (front, ← rest) (ap (λ (r : List ℕ). take m bs ++ r) z)
+
+-- zeros with a list in front of them
+pub front-padded : (n : ℕ) (bs zs front : List ℕ) → length bs ≤ n → zs ≡ replicate n 0 → front ≡ bs → front ++ drop (length bs) zs ≡ padded n bs
+unfolding padded
+front-padded n bs zs front h z e =
+    let all : length bs + (n - length bs) ≡ n = omega arith in
+    let split : _≡_ {A = List ℕ} (replicate (length bs) 0 ++ replicate (n - length bs) 0) (replicate n 0) =
+    replicate-append-replicate (length bs) (n - length bs) 0 ∙ ap (λ (m : ℕ). replicate m 0) all in
+    let rest = drop-at {A = ℕ} (replicate (length bs) 0) (replicate (n - length bs) 0) (length bs) (length-replicate {A = ℕ} (length bs) 0) in
+    rw (e, z, ← split) (ap (λ (r : List ℕ). bs ++ r) rest)

@@ -1,0 +1,10 @@
+pub mod ArrayLaws
+pub mod ByteLaws
+pub mod EachLaws
+pub mod LayoutLaws
+pub mod TestLaws
+pub mod WritingLaws
+pub mod ChangeLaws
+pub mod ReadLaws
+pub mod LoopLaws
+pub mod SoundnessLaws

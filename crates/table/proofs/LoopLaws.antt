@@ -1,0 +1,28 @@
+-- The loops over places: one law for a turn, for a turn that leaves, and for the end.
+use Prim.Native.Nat.{ℕ, suc, _+_, _≤_, _<_}
+use mathlib.Core.Path.{_≡_, refl, sym, ap, _∙_}
+use mathlib.Core.Bool.{Bool, true, false, _&&_, and-true}
+use mathlib.Core.Option.{none, some}
+use mathlib.Core.List.{List, [], _∷_}
+use native.Mathlib.Numerals.{add-one}
+use lib.ListN.{length, drop, getD, drop-of-length-le}
+use lib.Seq.{drop-cons}
+use Rattle.wire.specs.Steps.{so}
+use Rattle.rule.specs.declared.Found.the-variants.{At, Nothing}
+use Rattle.rule.specs.Gateway.{Place, seek}
+use Rattle.rule.specs.Soundness.{everyEntry, apart, distinct}
+use Rattle.table.specs.Soundness.{all, unlike}
+
+-- ## Searching
+
+module _ (test : Place → Bool) (ps : List Place) (i : ℕ) where
+  pub seek-step : i < length ps → test (getD ps i none) ≡ false → seek test i (drop i ps) ≡ seek test (i + 1) (drop (i + 1) ps)
+  unfolding so
+  seek-step h t = rw (add-one, drop-cons ps i none, t)
+
+  pub seek-stop : i < length ps → test (getD ps i none) ≡ true → seek test i (drop i ps) ≡ At i
+  unfolding so
+  seek-stop h t = rw (drop-cons ps i none, t)
+
+  pub seek-end : length ps ≤ i → seek test i (drop i ps) ≡ Nothing
+  seek-end h = rw (drop-of-length-le ps h)

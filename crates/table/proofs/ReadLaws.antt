@@ -1,0 +1,141 @@
+-- What is read of one place: its entry and its part of the store are the place that the meaning has there.
+use Prim.Native.Nat.{ℕ, zero, suc, _+_, _*_, _-_, _≤_, _<_}
+use mathlib.Core.Path.{_≡_, refl, sym, ap, _∙_}
+use mathlib.Core.Bool.{Bool, true, false, not, and-true, and-false}
+use mathlib.Core.Option.{none, some}
+use mathlib.Core.List.{List, [], _∷_}
+use native.Mathlib.Omega.{arith}
+use borrow.Author.Tests.{lt-ltb, eq-eqb, ne-eqb, eqb-true, eqb-false}
+use lib.Dec.{eqb, ltb}
+use lib.ListN.{length, take, drop, getD, length-drop}
+use lib.Seq.{length-take-le}
+use Rattle.wire.specs.Read.{same}
+use Rattle.wire.specs.Steps.{so}
+use Rattle.rule.specs.Gateway.{Place, isFree}
+use Rattle.rule.specs.Soundness.{everyEntry, apart}
+use Rattle.rule.specs.Rule.{numberIn, confirmIn}
+use Rattle.rule.proofs.Cases.{so-cases}
+use Rattle.table.specs.declared.Entry.{Entry}
+use Rattle.table.specs.declared.State.{State}
+use Rattle.table.specs.Each.{each, Each, offset}
+use Rattle.table.specs.Meaning.{size, keyOf, placeOf, blobIn, view, freeEntry, entryFor}
+use Rattle.table.specs.Soundness.{soundPlace, soundPlaces, unlike, SoundPlace, free, held, Housed, Sound}
+use Rattle.table.proofs.EachLaws.{offset-even, each-length, each-at, every-at, each-says}
+use Rattle.table.proofs.TestLaws.{place-says}
+use Rattle.table.proofs.WritingLaws.{Seen, seen-free, seen-held, seen}
+
+-- the bytes of place i
+abbrev pub partAt : List ℕ → ℕ → List ℕ
+partAt x i = take 4096 (drop (i * 4096) x)
+
+pub part-size : (x : List ℕ) (i : ℕ) → length x ≡ 32768 → i < 8 → length (partAt x i) ≡ 4096
+part-size x i l h = let room : 4096 ≤ length (drop (i * 4096) x) = rw length-drop (omega arith) in length-take-le 4096 (drop (i * 4096) x) room
+
+module _ (es : List Entry) (x : List ℕ) (eight : length es ≡ 8) where
+  pub view-length : length (view es x) ≡ 8
+  view-length = each-length size placeOf es x ∙ eight
+
+  start : (i : ℕ) → i < 8 → offset size es i ≡ i * 4096
+  start i h = offset-even size 4096 (λ e. refl) es i (omega arith)
+
+  pub view-at : (i : ℕ) → i < 8 → getD (view es x) i none ≡ placeOf (getD es i freeEntry) (partAt x i)
+  view-at i h = each-at size placeOf es x i freeEntry none (omega arith) ∙ rw (start i h)
+
+  pub said-at : (test : Entry → List ℕ → Bool) (i : ℕ) → i < 8 → getD (each test size es x) i true ≡ test (getD es i freeEntry) (partAt x i)
+  said-at test i h = each-at size test es x i freeEntry true (omega arith) ∙ rw (start i h)
+
+  pub sound-at : (clock next i : ℕ) → i < 8 → Each (SoundPlace clock next) size es x → SoundPlace clock next (getD es i freeEntry) (partAt x i)
+  sound-at clock next i h all = rw (start i h) at (every-at size (SoundPlace clock next) es x i freeEntry (omega arith) all)
+
+-- ## What an entry says of its place
+
+module _ (e : Entry) (p : List ℕ) where
+  pub place-free : e .number ≡ 0 → placeOf e p ≡ none
+  unfolding placeOf so
+  place-free h = rw (eq-eqb (e .number) 0 h)
+
+  pub place-held : (e .number ≡ 0 → ⊥) → placeOf e p ≡ some (keyOf e p)
+  unfolding placeOf so
+  place-held h = rw (ne-eqb (e .number) 0 h)
+
+  pub place-number : e .number ≡ numberIn (placeOf e p)
+  unfolding placeOf
+  place-number = so-cases (λ q. e .number ≡ numberIn q) (eqb (e .number) 0) (eqb-true (e .number) 0) (λ _. refl)
+
+  pub place-tested : not (eqb (e .number) 0) ≡ not (isFree (placeOf e p))
+  unfolding placeOf
+  place-tested = so-cases (λ q. not (eqb (e .number) 0) ≡ not (isFree q)) (eqb (e .number) 0) (ap not) (ap not)
+
+-- ## What soundness adds
+
+module _ (clock next : ℕ) (e : Entry) (p : List ℕ) (whole : length p ≡ 4096) where
+  pub sound-confirm : SoundPlace clock next e p → e .confirm ≡ confirmIn (placeOf e p)
+  unfolding entryFor
+  sound-confirm S = by-seen (seen clock next e p whole S)
+    where
+      by-seen : Seen clock next e p → e .confirm ≡ confirmIn (placeOf e p)
+      by-seen (seen-free is entry _) = ap (λ (x : Entry). x .confirm) entry ∙ rw is
+      by-seen (seen-held is _ _ _) = rw is
+
+  pub sound-blob : SoundPlace clock next e p → take (e .«blob_len») p ≡ blobIn (placeOf e p)
+  unfolding entryFor
+  sound-blob S = by-seen (seen clock next e p whole S)
+    where
+      by-seen : Seen clock next e p → take (e .«blob_len») p ≡ blobIn (placeOf e p)
+      by-seen (seen-free is entry _) = ap (λ (x : Entry). take (x .«blob_len») p) entry ∙ rw is
+      by-seen (seen-held is _ _ _) = rw is
+
+pub sound-blob-fits : (clock next : ℕ) (e : Entry) (p : List ℕ) → SoundPlace clock next e p → e .«blob_len» ≤ 1024
+sound-blob-fits clock next e p (free f _) = let h : e .«blob_len» ≡ 0 = ap (λ (x : Entry). x .«blob_len») f in omega arith
+sound-blob-fits clock next e p (held s) = s .blob-fits
+
+-- ## Of all places
+
+pub housed-by : (clock next : ℕ) (es : List Entry) (x : List ℕ) → length es ≡ 8 → length x ≡ 32768 → soundPlaces clock next es x ≡ true → Housed es x
+unfolding soundPlaces
+housed-by clock next es x eight size-x t =
+    let every = each-says size (SoundPlace clock next) (soundPlace clock next) (place-says clock next) es x .0 t in
+    record { eight-entries = eight; store-size = size-x; blobs-fit = λ i h. sound-blob-fits _ _ _ _ (sound-at es x eight clock next i h every) }
+
+-- ## Of a sound state and store
+
+module _ (s : State) (x : List ℕ) (S : Sound s x) (i : ℕ) (h : i < 8) where
+  pub state-sound-at : SoundPlace (s .clock .count) (s .next) (getD (s .entries) i freeEntry) (partAt x i)
+  state-sound-at = sound-at (s .entries) x (S .eight-entries) (s .clock .count) (s .next) i h (S .places)
+
+  pub state-blob-fits : getD (s .entries) i freeEntry .«blob_len» ≤ 1024
+  state-blob-fits = sound-blob-fits _ _ _ _ state-sound-at
+
+-- as many elements as are asked for are there, so there are some exactly where some are asked for
+pub some-taken : (n : ℕ) (bs : List ℕ) (m : ℕ) → length bs ≡ suc m → ltb 0 n ≡ ltb 0 (length (take n bs))
+some-taken zero bs m l = refl
+some-taken (suc n) [] m l = absurd (omega arith)
+some-taken (suc n) (b ∷ bs) m l = lt-ltb 0 (suc n) (omega arith) ∙ sym (lt-ltb 0 (suc (length (take n bs))) (omega arith))
+
+-- ## Two places
+
+module _ (e : Entry) (p : List ℕ) where
+  pub unlike-free : (q : Place) → e .number ≡ 0 → true ≡ unlike (placeOf e p) (q ∷ [])
+  unfolding unlike
+  unlike-free q h = rw (place-free e p h)
+
+  module _ (f : Entry) (q : List ℕ) where
+    pub unlike-of-free : f .number ≡ 0 → true ≡ unlike (placeOf e p) (placeOf f q ∷ [])
+    unfolding unlike everyEntry
+    unlike-of-free h = rw (place-free f q h) (by-place (placeOf e p))
+      where
+        by-place : (r : Place) → true ≡ unlike r (none ∷ [])
+        by-place none = refl
+        by-place (some k) = refl
+
+    module _ (held-e : e .number ≡ 0 → ⊥) (held-f : f .number ≡ 0 → ⊥) where
+      keys-unlike : unlike (placeOf e p) (placeOf f q ∷ []) ≡ apart (keyOf e p) (keyOf f q)
+      unfolding unlike everyEntry
+      keys-unlike = rw (place-held e p held-e, place-held f q held-f) (and-true (apart (keyOf e p) (keyOf f q)))
+
+      pub unlike-number : e .number ≡ f .number → false ≡ unlike (placeOf e p) (placeOf f q ∷ [])
+      unlike-number h = rw (keys-unlike, eq-eqb (e .number) (f .number) h) (sym (and-false (not (same (take (e .«blob_len») p) (take (f .«blob_len») q)))))
+
+      pub unlike-blob : (e .number ≡ f .number → ⊥) → (r : Bool) → r ≡ same (take (e .«blob_len») p) (take (f .«blob_len») q)
+          → not r ≡ unlike (placeOf e p) (placeOf f q ∷ [])
+      unlike-blob h r g = rw (keys-unlike, ne-eqb (e .number) (f .number) h, g) (sym (and-true (not (same (take (e .«blob_len») p) (take (f .«blob_len») q)))))

@@ -1,0 +1,155 @@
+-- Each test of soundness is passed exactly where its fact holds; so the whole test says soundness.
+use Prim.Native.Nat.{ℕ, _≤_, _<_}
+use mathlib.Core.Path.{_≡_, refl, sym, ap, _∙_}
+use mathlib.Core.Logic.{_↔_}
+use mathlib.Core.Bool.{Bool, true, false, _&&_, _||_, not}
+use mathlib.Core.List.{List, []}
+use native.Mathlib.Omega.{arith}
+use borrow.Author.Tests.{eqb-true, eqb-false, eq-eqb, ne-eqb}
+use lib.Dec.{eqb}
+use lib.ListN.{length, take, drop}
+use Rattle.wire.specs.Steps.{so}
+use Rattle.rule.proofs.Cases.{not-true}
+use Rattle.rule.proofs.SoundLaws.{Says, both-say, le-says, lt-says, eq-says, within-says, distinct-says}
+use Rattle.rule.specs.Soundness.{lastNumber, within}
+use Rattle.table.specs.declared.Entry.{Entry}
+use Rattle.table.specs.declared.LockRecord.{LockRecord}
+use Rattle.table.specs.Bytes.{allZero, Zeros}
+use Rattle.table.specs.Meaning.{size, view, freeEntry}
+use Rattle.table.specs.Soundness.{soundFree, soundLifetime, soundHeld, soundPlace, soundPlaces, soundLock, soundState, SoundHeld, SoundPlace, free, held, SoundLock, Sound}
+use Rattle.table.specs.Promises.{SoundStateRule}
+use Rattle.table.proofs.ByteLaws.{zeros-say}
+use Rattle.table.proofs.EachLaws.{each-says}
+
+not-says : (b : Bool) → Says (not b) (b ≡ false)
+not-says b = (not-true b, ap not)
+
+lifetime-says : (e : Entry) → Says (soundLifetime e) (e .limited ≡ false → e .seconds .count ≡ 0)
+unfolding soundLifetime
+lifetime-says e = by-limit (e .limited)
+  where
+    by-limit : (limited : Bool) → Says (limited || eqb (e .seconds .count) 0) (limited ≡ false → e .seconds .count ≡ 0)
+    by-limit true = ((λ _ never. let z : _≡_ {A = ℕ} 0 1 = cc in absurd (omega arith)), (λ _. refl))
+    by-limit false = ((λ t _. eqb-true (e .seconds .count) 0 t), (λ f. eq-eqb (e .seconds .count) 0 (f refl)))
+
+free-says : (e : Entry) (p : List ℕ) → e .number ≡ 0 → Says (soundFree e p) ((e ≡ freeEntry) × Zeros p)
+unfolding soundFree
+free-says e p number =
+    let tests =
+    both-say _ _ _ _ (eq-says (e .reading .count) 0)
+    (both-say _ _ _ _ (not-says (e .limited))
+    (both-say _ _ _ _ (eq-says (e .seconds .count) 0)
+    (both-say _ _ _ _ (not-says (e .confirm))
+    (both-say _ _ _ _ (eq-says (e .«blob_len») 0)
+    (both-say _ _ _ _ (eq-says (e .«fields_len») 0) (zeros-say p)))))) in (
+      (λ t.
+          let (reading, (limited, (seconds, (confirm, (blob, (fields, zeros)))))) = tests .0 t in (
+            (λ j. record {
+              number = number j;
+              reading = record { count = reading j };
+              limited = limited j;
+              seconds = record { count = seconds j };
+              confirm = confirm j;
+              «blob_len» = blob j;
+              «fields_len» = fields j;
+            }),
+            zeros,
+          )),
+      (λ (f, zeros).
+          tests .1 (
+            ap (λ (x : Entry). x .reading .count) f,
+            (
+              ap (λ (x : Entry). x .limited) f,
+              (
+                ap (λ (x : Entry). x .seconds .count) f,
+                (
+                  ap (λ (x : Entry). x .confirm) f,
+                  (
+                    ap (λ (x : Entry). x .«blob_len») f,
+                    (ap (λ (x : Entry). x .«fields_len») f, zeros),
+                  ),
+                ),
+              ),
+            ),
+          )),
+    )
+
+held-says : (clock next : ℕ) (e : Entry) (p : List ℕ) → (e .number ≡ 0 → ⊥) → Says (soundHeld clock next e p) (SoundHeld clock next e p)
+unfolding soundHeld
+held-says clock next e p number =
+    let tests =
+    both-say _ _ _ _ (lt-says (e .number) next)
+    (both-say _ _ _ _ (le-says (e .reading .count) clock)
+    (both-say _ _ _ _ (lifetime-says e)
+    (both-say _ _ _ _ (within-says 1 1024 (e .«blob_len»))
+    (both-say _ _ _ _ (within-says 1 3072 (e .«fields_len»))
+    (both-say _ _ _ _ (zeros-say (drop (e .«blob_len») (take 1024 p))) (zeros-say (drop (e .«fields_len») (drop 1024 p)))))))) in (
+      (λ t.
+          let (taken, (reading, (seconds, (blob, (fields, (blob-rest, fields-rest)))))) = tests .0 t in
+          record {
+            number-first = omega arith;
+            number-taken = taken;
+            reading-past = reading;
+            no-seconds = seconds;
+            blob-some = blob .0;
+            blob-fits = blob .1;
+            fields-some = fields .0;
+            fields-fit = fields .1;
+            blob-rest = blob-rest;
+            fields-rest = fields-rest;
+          }),
+      (λ s. tests .1 (s .number-taken, (s .reading-past, (s .no-seconds, ((s .blob-some, s .blob-fits), ((s .fields-some, s .fields-fit), (s .blob-rest, s .fields-rest))))))),
+    )
+
+pub place-says : (clock next : ℕ) (e : Entry) (p : List ℕ) → Says (soundPlace clock next e p) (SoundPlace clock next e p)
+unfolding soundPlace so
+place-says clock next e p = by-number (eqb (e .number) 0) refl
+  where
+    number-of : e ≡ freeEntry → e .number ≡ 0
+    number-of f = ap (λ (x : Entry). x .number) f
+
+    by-number : (b : Bool) → eqb (e .number) 0 ≡ b → Says (so (soundHeld clock next e p) b (soundFree e p)) (SoundPlace clock next e p)
+    by-number true b =
+        let says = free-says e p (eqb-true (e .number) 0 b) in
+        ((λ t. let (f, z) = says .0 t in free f z), says-free says)
+      where
+        says-free : Says (soundFree e p) ((e ≡ freeEntry) × Zeros p) → SoundPlace clock next e p → soundFree e p ≡ true
+        says-free says (free f z) = says .1 (f, z)
+        says-free says (held s) = let h = s .number-first in let g = eqb-true (e .number) 0 b in absurd (omega arith)
+    by-number false b =
+        let says = held-says clock next e p (eqb-false (e .number) 0 b) in
+        ((λ t. held (says .0 t)), says-held says)
+      where
+        says-held : Says (soundHeld clock next e p) (SoundHeld clock next e p) → SoundPlace clock next e p → soundHeld clock next e p ≡ true
+        says-held says (free f z) = absurd (eqb-false (e .number) 0 b (number-of f))
+        says-held says (held s) = says .1 s
+
+lock-says : (l : LockRecord) → length (l .bytes) ≡ 1024 → Says (soundLock l) (SoundLock l)
+unfolding soundLock
+lock-says l long =
+    let tests = both-say _ _ _ _ (le-says (l .len) 1024) (zeros-say (drop (l .len) (l .bytes))) in (
+      (λ t. let (fits, rest) = tests .0 t in record { record-size = long; lock-fits = fits; lock-rest = rest }),
+      (λ s. tests .1 (s .lock-fits, s .lock-rest)),
+    )
+
+pub sound-state-rule : SoundStateRule
+unfolding soundState soundPlaces
+sound-state-rule s x eight long =
+    let tests =
+    both-say _ _ _ _ (eq-says (length x) 32768)
+    (both-say _ _ _ _ (within-says 1 lastNumber (s .next))
+    (both-say _ _ _ _ (lock-says (s .lock) long)
+    (both-say _ _ _ _ (each-says size _ _ (place-says (s .clock .count) (s .next)) (s .entries) x) (distinct-says (view (s .entries) x))))) in (
+      (λ t.
+          let (store, (next, (lock, (places, distinct)))) = tests .0 t in
+          record {
+            eight-entries = eight;
+            store-size = store;
+            next-first = next .0;
+            next-last = next .1;
+            lock = lock;
+            places = places;
+            distinct = distinct;
+          }),
+      (λ s. tests .1 (s .store-size, ((s .next-first, s .next-last), (s .lock, (s .places, s .distinct))))),
+    )

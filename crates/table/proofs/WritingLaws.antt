@@ -1,0 +1,267 @@
+-- A sound state and store are written in one way: place by place, entry and bytes are those of what they mean, and a sound gateway written
+-- so is sound and means itself.
+use Prim.Native.Nat.{ℕ, zero, suc, _+_, _*_, _-_, _≤_, _<_}
+use mathlib.Core.Path.{_≡_, refl, sym, ap, _∙_}
+use mathlib.Core.Bool.{Bool, true, false}
+use mathlib.Core.Option.{none, some}
+use mathlib.Core.List.{List, [], _∷_, _++_, map}
+use native.Mathlib.Omega.{arith}
+use native.Mathlib.Nat.{zero-mul, suc-mul}
+use borrow.Author.Tests.{ne-eqb}
+use lib.Dec.{eqb}
+use lib.ListN.{length, take, drop, replicate, length-drop, length-map, length-take, length-replicate, take-append-drop}
+use lib.Seq.{length-take-le, take-take, take-at, drop-at, take-append-le, take-length}
+use Rattle.wire.specs.declared.Seconds.{Seconds}
+use Rattle.wire.specs.Steps.{so}
+use Rattle.keys.specs.declared.constraints.Lifetime.{Lifetime}
+use Rattle.keys.specs.declared.constraints.Lifetime.the-variants.{Forever, For}
+use Rattle.rule.specs.Gateway.{Entry as Key, Place, Gateway, fresh}
+use Rattle.rule.specs.Soundness.{EveryEntry, SoundEntry}
+use Rattle.rule.specs.Soundness as rule
+use Rattle.rule.proofs.PlaceLaws.{every-imp}
+use Rattle.rule.proofs.SoundLaws.{fresh-sound}
+use Rattle.table.specs.declared.Entry.{Entry}
+use Rattle.table.specs.declared.LockRecord.{LockRecord}
+use Rattle.table.specs.declared.State.{State}
+use Rattle.table.specs.Bytes.{Zeros, padded}
+use Rattle.table.specs.Each.{each, Each}
+use Rattle.table.specs.Meaning.{size, lifetimeOf, keyOf, placeOf, view, passphrase, gatewayOf, freeEntry, isLimited, secondsIn, heldEntry, heldBytes, entryFor, bytesFor, laid, lockOf, stateOf, layout}
+use Rattle.table.specs.Soundness.{SoundHeld, SoundPlace, free, held, SoundLock, Sound, Means}
+use Rattle.table.specs.Promises.{SoundMeaning, Canonical, SoundCanonical, OneWriting, EveryGateway, FreshMeans}
+use Rattle.table.proofs.ByteLaws.{padded-size, padded-front, padded-rest, zeros-padded}
+use Rattle.table.proofs.EachLaws.{each-length}
+use Rattle.table.proofs.LayoutLaws.{Fits, free-size, key-size, laid-size, laid-free}
+
+-- ## One place
+
+-- a lifetime is kept as a flag and seconds
+lifetime-kept : (e : Entry) → (e .limited ≡ false → e .seconds .count ≡ 0) → (e .limited ≡ isLimited (lifetimeOf e)) × (e .seconds ≡ secondsIn (lifetimeOf e))
+unfolding so
+lifetime-kept e none-without = by-limit (e .limited) refl
+  where
+    by-limit : (b : Bool) → e .limited ≡ b → (b ≡ isLimited (so Forever b (For (e .seconds)))) × (e .seconds ≡ secondsIn (so Forever b (For (e .seconds))))
+    by-limit true _ = (refl, refl)
+    by-limit false b = let zero-seconds : e .seconds .count ≡ 0 = none-without b in (refl, (λ j. record { count = zero-seconds j }))
+
+-- what a sound place is: free and written as free places are, or a sound key, written as that key is
+pub data Seen (clock next : ℕ) (e : Entry) (p : List ℕ) : Type 0 where
+  seen-free : placeOf e p ≡ none → e ≡ entryFor none → p ≡ bytesFor none → Seen clock next e p
+  seen-held : placeOf e p ≡ some (keyOf e p) → e ≡ entryFor (some (keyOf e p)) → p ≡ bytesFor (some (keyOf e p)) → SoundEntry clock next (keyOf e p) → Seen clock next e p
+
+module _ (clock next : ℕ) (e : Entry) (p : List ℕ) (whole : length p ≡ 4096) where
+  pub seen : SoundPlace clock next e p → Seen clock next e p
+  unfolding placeOf entryFor bytesFor heldEntry heldBytes so
+  seen (free f z) = seen-free (rw f) f (z ∙ ap (λ (n : ℕ). replicate n 0) whole)
+  seen (held s) =
+      let number : e .number ≡ 0 → ⊥ = λ (n : e .number ≡ 0). let h = s .number-first in omega arith in
+      let blob-size : length (take (e .«blob_len») p) ≡ e .«blob_len» = let h = s .blob-fits in length-take-le _ p (omega arith) in
+      let front : length (take 1024 p) ≡ 1024 = length-take-le 1024 p (omega arith) in
+      let back : length (drop 1024 p) ≡ 3072 = rw (length-drop, whole) in
+      let fields-size : length (take (e .«fields_len») (drop 1024 p)) ≡ e .«fields_len» = let h = s .fields-fit in length-take-le _ (drop 1024 p) (omega arith) in
+      let lifetime = lifetime-kept e (s .no-seconds) in
+      let blob : take 1024 p ≡ padded 1024 (take (e .«blob_len») p) =
+      zeros-padded 1024 (e .«blob_len») (take 1024 p) front (s .blob-fits) (s .blob-rest) ∙ ap (padded 1024) (take-take (e .«blob_len») 1024 p (s .blob-fits)) in
+      let fields : drop 1024 p ≡ padded 3072 (take (e .«fields_len») (drop 1024 p)) = zeros-padded 3072 (e .«fields_len») (drop 1024 p) back (s .fields-fit) (s .fields-rest) in
+      seen-held
+      (rw (ne-eqb (e .number) 0 number))
+      (λ j. record {
+        number = e .number;
+        reading = e .reading;
+        limited = lifetime .0 j;
+        seconds = lifetime .1 j;
+        confirm = e .confirm;
+        «blob_len» = sym blob-size j;
+        «fields_len» = sym fields-size j;
+      })
+      (sym (take-append-drop 1024 p) ∙ (λ j. blob j ++ fields j))
+      (record {
+        blob-some = rw blob-size (s .blob-some);
+        blob-fits = rw blob-size (s .blob-fits);
+        fields-some = rw fields-size (s .fields-some);
+        fields-fit = rw fields-size (s .fields-fit);
+        number-first = s .number-first;
+        number-taken = s .number-taken;
+        reading-past = s .reading-past;
+      })
+
+-- ## From what is written to what is meant
+
+pub record Writing (clock next : ℕ) (es : List Entry) (x : List ℕ) (ps : List Place) : Type 0 where
+  pub entries : es ≡ map entryFor ps
+  pub store : x ≡ laid ps
+  pub keys : EveryEntry (SoundEntry clock next) ps
+
+module _ (clock next : ℕ) where
+  writing-first : (e : Entry) (p : List ℕ) (es : List Entry) (x : List ℕ) (ps : List Place) → Seen clock next e p → Writing clock next es x ps
+      → Writing clock next (e ∷ es) (p ++ x) (placeOf e p ∷ ps)
+  unfolding laid
+  writing-first e p es x ps (seen-free is entry bytes) w =
+      rw is (record { entries = (λ j. entry j ∷ w .entries j); store = (λ j. bytes j ++ w .store j); keys = w .keys })
+  writing-first e p es x ps (seen-held is entry bytes key) w =
+      rw is (record { entries = (λ j. entry j ∷ w .entries j); store = (λ j. bytes j ++ w .store j); keys = (key, w .keys) })
+
+  pub writing : (es : List Entry) (x : List ℕ) → length es * 4096 ≡ length x → Each (SoundPlace clock next) size es x → Writing clock next es x (view es x)
+  unfolding each laid
+  writing [] [] l all = record { entries = refl; store = refl; keys = tt }
+  writing [] (b ∷ x) l all = absurd (omega (arith, zero-mul 4096))
+  writing (e ∷ es) x l all =
+      let n : length es * 4096 + 4096 ≡ length x = sym (suc-mul (length es) 4096) ∙ l in
+      let whole : length (take 4096 x) ≡ 4096 = length-take-le 4096 x (omega arith) in
+      let rest : length es * 4096 ≡ length (drop 4096 x) = rw length-drop (omega arith) in
+      let first = seen clock next e (take 4096 x) whole (all .0) in
+      let w = writing-first e (take 4096 x) es (drop 4096 x) (view es (drop 4096 x)) first (writing es (drop 4096 x) rest (all .1)) in
+      rw take-append-drop at w
+
+pub sound-writing : (s : State) (x : List ℕ) → Sound s x → Writing (s .clock .count) (s .next) (s .entries) x (view (s .entries) x)
+sound-writing s x S = writing (s .clock .count) (s .next) (s .entries) x (let a = S .eight-entries in let b = S .store-size in omega arith) (S .places)
+
+pub view-eight : (s : State) (x : List ℕ) → Sound s x → length (view (s .entries) x) ≡ 8
+view-eight s x S = each-length size placeOf (s .entries) x ∙ S .eight-entries
+
+pub sound-meaning : SoundMeaning
+unfolding gatewayOf
+sound-meaning s x S = record {
+  eight-places = view-eight s x S;
+  entries = sound-writing s x S .keys;
+  distinct = S .distinct;
+  lock-fits = let h = S .lock .lock-fits in let l = S .lock .record-size in rw length-take (omega arith);
+  next-first = S .next-first;
+  next-last = S .next-last;
+}
+
+pub lock-written : (l : LockRecord) → SoundLock l → l ≡ lockOf (passphrase l)
+unfolding lockOf
+lock-written l L =
+    let n : length (take (l .len) (l .bytes)) ≡ l .len = let h = L .lock-fits in let g = L .record-size in length-take-le (l .len) (l .bytes) (omega arith) in
+    let bytes = zeros-padded 1024 (l .len) (l .bytes) (L .record-size) (L .lock-fits) (L .lock-rest) in
+    λ j. record { bytes = bytes j; len = sym n j }
+
+pub sound-canonical : SoundCanonical
+unfolding gatewayOf stateOf layout
+sound-canonical s x S =
+    let w = sound-writing s x S in
+    let lock = lock-written (s .lock) (S .lock) in
+    record { state = λ j. record { entries = w .entries j; lock = lock j; clock = s .clock; next = s .next }; store = w .store }
+
+pub one-writing : OneWriting
+one-writing s t x y S T e =
+    let a = sound-canonical s x S in
+    let b = sound-canonical t y T in
+    (a .state ∙ ap stateOf e ∙ sym (b .state), a .store ∙ ap layout e ∙ sym (b .store))
+
+-- ## From what is meant to what is written
+
+lifetime-back : (l : Lifetime) → so Forever (isLimited l) (For (secondsIn l)) ≡ l
+unfolding so
+lifetime-back Forever = refl
+lifetime-back (For seconds) = refl
+
+pub key-fits : (clock next : ℕ) (k : Key) → SoundEntry clock next k → Fits k
+key-fits clock next k s = record { blob-fits = s .blob-fits; fields-fit = s .fields-fit }
+
+module _ (clock next : ℕ) (k : Key) (s : SoundEntry clock next k) where
+  blob-padded : length (padded 1024 (k .blob)) ≡ 1024
+  blob-padded = padded-size 1024 (k .blob) (s .blob-fits)
+
+  blob-part : take 1024 (heldBytes (k .blob) (k .fields)) ≡ padded 1024 (k .blob)
+  unfolding heldBytes
+  blob-part = take-at (padded 1024 (k .blob)) (padded 3072 (k .fields)) 1024 blob-padded
+
+  fields-part : drop 1024 (heldBytes (k .blob) (k .fields)) ≡ padded 3072 (k .fields)
+  unfolding heldBytes
+  fields-part = drop-at (padded 1024 (k .blob)) (padded 3072 (k .fields)) 1024 blob-padded
+
+  blob-back : take (length (k .blob)) (heldBytes (k .blob) (k .fields)) ≡ k .blob
+  unfolding heldBytes
+  blob-back =
+      let h : length (k .blob) ≤ length (padded 1024 (k .blob)) = rw blob-padded (s .blob-fits) in
+      take-append-le (length (k .blob)) (padded 1024 (k .blob)) (padded 3072 (k .fields)) h ∙ padded-front 1024 (k .blob)
+
+  fields-back : take (length (k .fields)) (drop 1024 (heldBytes (k .blob) (k .fields))) ≡ k .fields
+  fields-back = rw fields-part (padded-front 3072 (k .fields))
+
+  pub key-back : placeOf (entryFor (some k)) (bytesFor (some k)) ≡ some k
+  unfolding placeOf entryFor bytesFor heldEntry so
+  key-back =
+      let number : k .number ≡ 0 → ⊥ = λ (n : k .number ≡ 0). let h = s .number-first in omega arith in
+      rw (ne-eqb (k .number) 0 number, blob-back, fields-back, lifetime-back)
+
+  pub key-sound : SoundPlace clock next (entryFor (some k)) (bytesFor (some k))
+  unfolding entryFor bytesFor heldEntry
+  key-sound = held (record {
+    number-first = s .number-first;
+    number-taken = s .number-taken;
+    reading-past = s .reading-past;
+    no-seconds = no-seconds (k .lifetime);
+    blob-some = s .blob-some;
+    blob-fits = s .blob-fits;
+    fields-some = s .fields-some;
+    fields-fit = s .fields-fit;
+    blob-rest = rw blob-part (padded-rest 1024 (k .blob));
+    fields-rest = rw fields-part (padded-rest 3072 (k .fields));
+  })
+    where
+      no-seconds : (l : Lifetime) → isLimited l ≡ false → secondsIn l .count ≡ 0
+      no-seconds Forever _ = refl
+      no-seconds (For seconds) never = let z : _≡_ {A = ℕ} 0 1 = cc in absurd (omega arith)
+
+pub free-back : placeOf (entryFor none) (bytesFor none) ≡ none
+unfolding placeOf entryFor so
+free-back = refl
+
+free-sound : (clock next : ℕ) → SoundPlace clock next (entryFor none) (bytesFor none)
+unfolding entryFor bytesFor
+free-sound clock next = free refl (ap (λ (n : ℕ). replicate n 0) (sym (length-replicate {A = ℕ} 4096 0)))
+
+module _ (clock next : ℕ) where
+  pub view-back : (ps : List Place) → EveryEntry (SoundEntry clock next) ps → view (map entryFor ps) (laid ps) ≡ ps
+  unfolding each laid
+  view-back [] all = refl
+  view-back (none ∷ ps) all = rw (take-at (bytesFor none) (laid ps) 4096 free-size, drop-at (bytesFor none) (laid ps) 4096 free-size, view-back ps all, free-back)
+  view-back (some k ∷ ps) all =
+      let l = key-size k (key-fits clock next k (all .0)) in
+      rw (take-at (bytesFor (some k)) (laid ps) 4096 l, drop-at (bytesFor (some k)) (laid ps) 4096 l, view-back ps (all .1), key-back clock next k (all .0))
+
+  pub each-back : (ps : List Place) → EveryEntry (SoundEntry clock next) ps → Each (SoundPlace clock next) size (map entryFor ps) (laid ps)
+  unfolding laid
+  each-back [] all = tt
+  each-back (none ∷ ps) all = rw (take-at (bytesFor none) (laid ps) 4096 free-size, drop-at (bytesFor none) (laid ps) 4096 free-size) (free-sound clock next, each-back ps all)
+  each-back (some k ∷ ps) all =
+      let l = key-size k (key-fits clock next k (all .0)) in
+      rw (take-at (bytesFor (some k)) (laid ps) 4096 l, drop-at (bytesFor (some k)) (laid ps) 4096 l) (key-sound clock next k (all .0), each-back ps (all .1))
+
+pub keys-fit : (g : Gateway) → rule.Sound g → EveryEntry Fits (g .places)
+keys-fit g G = every-imp (SoundEntry (g .clock) (g .next)) Fits (key-fits (g .clock) (g .next)) (g .places) (G .entries)
+
+lock-sound : (p : List ℕ) → length p ≤ 1024 → SoundLock (lockOf p)
+unfolding lockOf
+lock-sound p h = record { record-size = padded-size 1024 p h; lock-fits = h; lock-rest = padded-rest 1024 p }
+
+lock-back : (p : List ℕ) → passphrase (lockOf p) ≡ p
+unfolding lockOf
+lock-back p = padded-front 1024 p
+
+pub every-gateway : EveryGateway
+unfolding gatewayOf stateOf layout
+every-gateway g G =
+    let view-is = view-back (g .clock) (g .next) (g .places) (G .entries) in
+    record {
+      gateway = λ j. record { places = view-is j; lock = lock-back (g .lock) j; clock = g .clock; next = g .next };
+      sound = record {
+        eight-entries = length-map (g .places) entryFor ∙ G .eight-places;
+        store-size = laid-size (g .places) (keys-fit g G) ∙ ap (λ (n : ℕ). n * 4096) (G .eight-places);
+        next-first = G .next-first;
+        next-last = G .next-last;
+        lock = lock-sound (g .lock) (G .lock-fits);
+        places = each-back (g .clock) (g .next) (g .places) (G .entries);
+        distinct = rw view-is (G .distinct);
+      };
+    }
+
+-- what is written as a sound gateway is means it
+pub means-of : (s : State) (x : List ℕ) (g : Gateway) → rule.Sound g → s ≡ stateOf g → x ≡ layout g → Means s x g
+means-of s x g G a b = rw (a, b) (every-gateway g G)
+
+pub fresh-means : FreshMeans
+unfolding layout
+fresh-means = means-of (stateOf fresh) (replicate 32768 0) fresh fresh-sound refl (sym (laid-free (replicate 8 none)))

@@ -1,0 +1,90 @@
+-- After i turns the first i places are as they are at the clock, entries and store written so. Assumes nothing.
+use native.Mathlib.Omega.{arith}
+use borrow.Author.Needs.{needs}
+use Prim.Native.Nat.{_≤_, _-_}
+use mathlib.Core.Path.{_≡_, sym, _∙_}
+use lib.ListN.{length}
+use Rattle.table.specs.Meaning.{view, freeEntry}
+use Rattle.table.proofs.WritingLaws.{Writing, view-eight}
+use Rattle.table.proofs.ChangeLaws.{swept, swept-length, writing-size, sweep-keys, sweep-start, sweep-stands, sweep-step, sweep-end}
+use Rattle.table.proofs.changes.advance.Statement.{statement}
+use Rattle.table.proofs.changes.advance.Tie as tie
+
+abbrev Inv-loop : tie.InvT-loop
+Inv-loop state store₀ clock es₀ i₀ store es i =
+    (i ≤ 8) × (length store ≡ 32768) × Writing (clock .count) (state .next) es store (swept (clock .count) i (view (state .entries) store₀))
+
+abbrev μ-loop : tie.MeasureT-loop
+μ-loop state store₀ clock es₀ i₀ store es i = 8 - i
+
+loop-holds : tie.Need-loop-holds Inv-loop μ-loop
+loop-holds c =
+    let st = c .before .before .before .before in
+    let l = c .before .later in
+    (search needs, st .pre .store-size, sweep-start (st .args .state) (st .args .store .now) (st .pre) (st .args .reading .count) (l .result) (l .ensures))
+
+last-requires : tie.Need-last-requires Inv-loop μ-loop
+last-requires c κs =
+    let to = c .before .before .start-of2 in
+    let from = c .before .before .before .start-of in
+    let loop = c .before .before .before .before .before .loop in
+    let l = c .before .before .before .before .before .before .before .later in
+    let st = c .before .before .before .before .before .before .before .before .before .before in
+    let s = st .args .state in
+    let x = st .args .store .now in
+    let n : length (view (s .entries) x) ≡ 8 = view-eight s x (st .pre) in
+    let keys = sweep-keys s x (st .pre) (st .args .reading .count) (l .result) (l .ensures) in
+    sweep-stands (l .result .count) (s .next) (view (s .entries) x) (loop .i) (from .result) (to .result) (loop .es) (loop .store) freeEntry keys (loop .inv .2) (omega arith)
+    (record { start = from .ensures; span = omega (arith, from .ensures, to .ensures) }) .standing
+
+loop-again : tie.Need-loop-again Inv-loop μ-loop
+loop-again c =
+    let last = c .before .before .last in
+    let to = c .before .before .before .before .before .start-of2 in
+    let from = c .before .before .before .before .before .before .start-of in
+    let more = c .before .before .before .before .before .before .before .loop-test .taken in
+    let loop = c .before .before .before .before .before .before .before .before .loop in
+    let l = c .before .before .before .before .before .before .before .before .before .before .later in
+    let st = c .before .before .before .before .before .before .before .before .before .before .before .before .before in
+    let s = st .args .state in
+    let x = st .args .store .now in
+    let n : length (view (s .entries) x) ≡ 8 = view-eight s x (st .pre) in
+    let keys = sweep-keys s x (st .pre) (st .args .reading .count) (l .result) (l .ensures) in
+    let w = sweep-step (l .result .count) (s .next) (view (s .entries) x) (loop .i) (from .result) (to .result) (loop .es) (loop .store) freeEntry keys (loop .inv .2) (omega arith)
+    (record { start = from .ensures; span = omega (arith, from .ensures, to .ensures) }) (last .result) (last .last .1 .0) (last .ensures) in
+    (omega arith, writing-size _ _ _ _ _ w (swept-length _ _ _ ∙ n), w)
+
+same-length : tie.Need-same-length Inv-loop μ-loop
+same-length c = c .before .before .loop .inv .1 ∙ sym (c .before .before .before .before .before .before .before .pre .store-size)
+
+returns : tie.Need-returns Inv-loop μ-loop
+returns c =
+    let st = c .before .before .before .before .before .before .before in
+    let l = c .before .before .before .before .later in
+    let loop = c .before .before .loop in
+    sweep-end (st .args .state) (st .args .store .now) (st .pre) (st .args .reading .count) (l .result) (l .ensures) (loop .i) (loop .es) (loop .store) (omega arith) (loop .inv .2)
+
+pub advance-spec : {M : Type 1} → statement M
+advance-spec =
+    tie.close
+    (tie.spec
+    Inv-loop
+    μ-loop
+    (λ c κs. search needs)
+    loop-holds
+    (λ c κs. search needs)
+    (λ c. search needs)
+    (λ c κs. search needs)
+    (λ c. search needs)
+    (λ c. search needs)
+    (λ c. search needs)
+    (λ c. search needs)
+    (λ c. search needs)
+    last-requires
+    (λ c. search needs)
+    (λ c. search needs)
+    (λ c. search needs)
+    (λ c. search needs)
+    loop-again
+    same-length
+    returns)

@@ -1,0 +1,42 @@
+-- The blob is padded into the first 1,024 bytes, the fields into the others. Assumes nothing.
+use native.Mathlib.Omega.{arith}
+use borrow.Author.Needs.{needs}
+use Prim.Native.Nat.{_≤_}
+use mathlib.Core.Path.{_≡_, sym, _∙_}
+use lib.ListN.{length, take}
+use lib.Seq.{length-take-le}
+use Rattle.table.specs.Meaning.{heldBytes}
+use Rattle.table.proofs.ByteLaws.{halves, half-size}
+use Rattle.table.proofs.changes.fill_place.Statement.{statement}
+use Rattle.table.proofs.changes.fill_place.Tie as tie
+
+front : tie.Need-slice-aggregate-pad
+front c = sym (length-take-le 1024 (c .before .before .before .before .args .p .now) (omega arith))
+
+room : tie.Need-pad-requires
+room c κs = rw (length-take-le 1024 (c .before .before .before .before .args .p .now) (omega arith)) (search needs)
+
+returns : tie.Need-returns
+unfolding heldBytes
+returns c =
+    let st = c .before .before .before .before .before .before .before .before .before .before .before in
+    let p = st .args .p .now in
+    let x = c .before .before .before .before .before .before .pad in
+    let y = c .before .before .pad2 in
+    let h : length (take 1024 p) ≡ 1024 = length-take-le 1024 p (omega arith) in
+    let l : length (x .last .0) ≡ 1024 = x .kept .0 ∙ h in
+    halves 1024 p (x .last .0) l (y .last .0) ∙ rw (x .ensures, y .ensures, half-size 1024 p (x .last .0) l, h, st .pre .0)
+
+pub fill-place-spec : {M : Type 1} → statement M
+fill-place-spec =
+    tie.close
+    (tie.spec
+    (λ c. search needs)
+    front
+    room
+    (λ c. search needs)
+    (λ c. search needs)
+    (λ c. search needs)
+    (λ c κs. search needs)
+    (λ c. search needs)
+    returns)

@@ -1,0 +1,13 @@
+-- The record is that of the passphrase; all else stays. Assumes nothing.
+use borrow.Author.Needs.{needs}
+use Rattle.table.proofs.ChangeLaws.{relocked}
+use Rattle.table.proofs.locks.with_lock.Statement.{statement}
+use Rattle.table.proofs.locks.with_lock.Tie as tie
+
+returns : tie.Need-returns
+returns c x S =
+    let st = c .before .before .before .before in
+    relocked (st .args .state) x (st .args .p .now) (c .locked-by .result) S (st .pre) (c .locked-by .ensures)
+
+pub with-lock-spec : {M : Type 1} → statement M
+with-lock-spec = tie.close (tie.spec (λ c κs. search needs) returns)

@@ -1,0 +1,19 @@
+-- The part from one place's start up to the next one's. Assumes nothing.
+use native.Mathlib.Omega.{arith}
+use borrow.Author.Needs.{needs}
+use Prim.Native.Nat.{_-_, _*_}
+use mathlib.Core.Path.{_≡_}
+use Rattle.table.proofs.places.bytes_at.Statement.{statement}
+use Rattle.table.proofs.places.bytes_at.Tie as tie
+
+returns : tie.Need-returns
+returns c =
+    let to = c .before .start-of2 in
+    let from = c .before .before .start-of in
+    let span : to .result - from .result ≡ 4096 = omega (arith, to .ensures, from .ensures) in
+    rw (span, from .ensures)
+
+pub bytes-at-spec : {M : Type 1} → statement M
+bytes-at-spec =
+    tie.close
+    (tie.spec (λ c κs. search needs) (λ c. search needs) (λ c κs. search needs) (λ c. search needs) (λ c. search needs) (λ c. search needs) returns)

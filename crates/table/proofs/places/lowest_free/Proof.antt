@@ -1,0 +1,69 @@
+-- What is left of the search finds what the whole one finds. Assumes nothing.
+use native.Mathlib.Omega.{arith}
+use borrow.Author.Needs.{needs}
+use Prim.Native.Nat.{ℕ, _≤_, _-_}
+use mathlib.Core.Path.{_≡_, refl, sym, ap, _∙_}
+use mathlib.Core.List.{List}
+use lib.ListN.{drop}
+use Rattle.rule.specs.Gateway.{seek, isFree}
+use Rattle.table.specs.Meaning.{view, gatewayOf}
+use Rattle.table.proofs.ArrayLaws.{eight-of}
+use Rattle.table.proofs.ReadLaws.{view-length, view-at, place-free, place-held}
+use Rattle.table.proofs.LoopLaws.{seek-step, seek-stop, seek-end}
+use Rattle.table.proofs.places.lowest_free.Statement.{statement}
+use Rattle.table.proofs.places.lowest_free.Tie as tie
+
+abbrev Inv-loop : tie.InvT-loop
+Inv-loop es i₀ i = (i ≤ 8) × ((x : List ℕ) → seek isFree 0 (view es x) ≡ seek isFree i (drop i (view es x)))
+
+abbrev μ-loop : tie.MeasureT-loop
+μ-loop es i₀ i = 8 - i
+
+returns : tie.Need-returns Inv-loop μ-loop
+unfolding gatewayOf
+returns c x =
+    let loop = c .before .before .before .before .loop in
+    let st = c .before .before .before .before .before .before in
+    let es = st .args .state .entries in
+    let eight = eight-of (st .args .state) _ (st .good .0) in
+    let long = view-length es x eight in
+    let here = ap isFree (view-at es x eight (loop .i) (omega arith) ∙ place-free _ _ (c .if1 .taken)) in
+    sym (loop .inv .1 x ∙ seek-stop isFree (view es x) (loop .i) (omega arith) here)
+
+loop-again : tie.Need-loop-again Inv-loop μ-loop
+loop-again c = (
+  search needs,
+  λ x.
+      let loop = c .before .before .before .before .loop in
+      let st = c .before .before .before .before .before .before in
+      let es = st .args .state .entries in
+      let eight = eight-of (st .args .state) _ (st .good .0) in
+      let long = view-length es x eight in
+      let here = ap isFree (view-at es x eight (loop .i) (omega arith) ∙ place-held _ _ (c .if1 .left)) in
+      loop .inv .1 x ∙ seek-step isFree (view es x) (loop .i) (omega arith) here,
+)
+
+returns-2 : tie.Need-returns-2 Inv-loop μ-loop
+unfolding gatewayOf
+returns-2 c x =
+    let loop = c .before .loop in
+    let st = c .before .before .before in
+    let es = st .args .state .entries in
+    let eight = eight-of (st .args .state) _ (st .good .0) in
+    let long = view-length es x eight in
+    sym (loop .inv .1 x ∙ seek-end isFree (view es x) (loop .i) (omega arith))
+
+pub lowest-free-spec : {M : Type 1} → statement M
+lowest-free-spec =
+    tie.close
+    (tie.spec
+    Inv-loop
+    μ-loop
+    (λ c. (search needs, λ x. refl))
+    (λ c. search needs)
+    (λ c. search needs)
+    returns
+    (λ c. search needs)
+    (λ c. search needs)
+    loop-again
+    returns-2)

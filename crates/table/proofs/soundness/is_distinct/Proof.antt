@@ -1,0 +1,41 @@
+-- The places left are distinct where all are. The measure is how many are left. Assumes nothing.
+use borrow.Author.Needs.{needs}
+use native.Mathlib.Omega.{arith}
+use Prim.Native.Nat.{_≤_, _-_}
+use mathlib.Core.Path.{refl}
+use Rattle.table.proofs.SoundnessLaws.{DistinctLeft, distinct-on, distinct-out, distinct-end}
+use Rattle.table.proofs.soundness.is_distinct.Statement.{statement}
+use Rattle.table.proofs.soundness.is_distinct.Tie as tie
+
+abbrev Inv-loop : tie.InvT-loop
+Inv-loop es store i₀ i = (i ≤ 8) × DistinctLeft es store i
+
+abbrev μ-loop : tie.MeasureT-loop
+μ-loop es store i₀ i = 8 - i
+
+returns : tie.Need-returns Inv-loop μ-loop
+returns c =
+    let l = c .before .before .before .loop in
+    distinct-out _ _ (c .before .before .before .before .before .pre) (l .i) _ (omega arith) (c .before .is-unlike .ensures) (c .if1 .taken) (l .inv .1)
+
+loop-again : tie.Need-loop-again Inv-loop μ-loop
+loop-again c =
+    let l = c .before .before .before .loop in
+    (omega arith, distinct-on _ _ (c .before .before .before .before .before .pre) (l .i) _ (omega arith) (c .before .is-unlike .ensures) (c .if1 .left) (l .inv .1))
+
+returns-2 : tie.Need-returns-2 Inv-loop μ-loop
+returns-2 c = let l = c .before .loop in distinct-end _ _ (c .before .before .before .pre) (l .i) (omega arith) (l .inv .1)
+
+pub is-distinct-spec : {M : Type 1} → statement M
+is-distinct-spec =
+    tie.close
+    (tie.spec
+    Inv-loop
+    μ-loop
+    (λ c. (omega arith, refl))
+    (λ c κs. (omega arith, c .before .before .before .pre))
+    returns
+    (λ c. search needs)
+    (λ c. search needs)
+    loop-again
+    returns-2)

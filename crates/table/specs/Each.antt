@@ -1,0 +1,20 @@
+-- How entries share a store: each has a size, and its bytes lie behind those of the entries before it.
+use Prim.Native.Nat.{ℕ, zero, suc, _+_}
+use mathlib.Core.List.{List, [], _∷_}
+use lib.ListN.{take, drop}
+
+-- what f says of each entry and its bytes
+unfoldable pub each : {E A : Type 0} → (E → List ℕ → A) → (E → ℕ) → List E → List ℕ → List A
+each f size [] s = []
+each f size (e ∷ es) s = f e (take (size e) s) ∷ each f size es (drop (size e) s)
+
+-- P holds of each entry and its bytes
+abbrev pub Each : {E : Type 0} → (E → List ℕ → Type 0) → (E → ℕ) → List E → List ℕ → Type 0
+Each P size [] s = Unit {0}
+Each P size (e ∷ es) s = P e (take (size e) s) × Each P size es (drop (size e) s)
+
+-- where the bytes of entry i begin
+unfoldable pub offset : {E : Type 0} → (E → ℕ) → List E → ℕ → ℕ
+offset size es zero = 0
+offset size [] (suc i) = 0
+offset size (e ∷ es) (suc i) = size e + offset size es i

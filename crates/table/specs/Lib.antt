@@ -1,0 +1,6 @@
+pub mod Bytes
+pub mod Each
+pub mod Meaning
+pub mod Soundness
+pub mod Changes
+pub mod Promises

@@ -1,0 +1,123 @@
+-- What a state and its store mean, and the one way in which a gateway is written.
+use Prim.Native.Nat.{ℕ}
+use mathlib.Core.Path.{_≡_}
+use mathlib.Core.Bool.{Bool, true, false}
+use mathlib.Core.Option.{none, some}
+use mathlib.Core.List.{List, [], _∷_, _++_, map}
+use lib.ListN.{length, take, drop, replicate}
+use lib.Dec.{eqb}
+use Rattle.wire.specs.declared.Seconds.{Seconds}
+use Rattle.wire.specs.Steps.{so}
+use Rattle.keys.specs.declared.constraints.Lifetime.{Lifetime}
+use Rattle.keys.specs.declared.constraints.Lifetime.the-variants.{Forever, For}
+use Rattle.rule.specs.declared.Millis.{Millis}
+use Rattle.rule.specs.Gateway.{Entry as Key, Place, Gateway}
+use Rattle.table.specs.declared.Entry.{Entry}
+use Rattle.table.specs.declared.LockRecord.{LockRecord}
+use Rattle.table.specs.declared.State.{State}
+use Rattle.table.specs.Bytes.{padded}
+use Rattle.table.specs.Each.{each}
+
+-- "Eight places, 4,096 bytes each in the store"
+abbrev pub size : Entry → ℕ
+size e = 4096
+
+-- ## What is meant
+
+-- "perhaps a lifetime"
+abbrev pub lifetimeOf : Entry → Lifetime
+lifetimeOf e = so Forever (e .limited) (For (e .seconds))
+
+-- "public blob (1 to 1,024 bytes) and key fields (1 to 3,072, in the last 3,072)"
+abbrev pub keyOf : Entry → List ℕ → Key
+keyOf e p = record {
+  number = e .number;
+  reading = e .reading .count;
+  lifetime = lifetimeOf e;
+  confirm = e .confirm;
+  blob = take (e .«blob_len») p;
+  fields = take (e .«fields_len») (drop 1024 p);
+}
+
+-- an entry and the bytes of its place; the number 0 is no key's
+unfoldable pub placeOf : Entry → List ℕ → Place
+placeOf e p = so (some (keyOf e p)) (eqb (e .number) 0) none
+
+-- what a free place has for a blob
+abbrev pub blobIn : Place → List ℕ
+blobIn none = []
+blobIn (some k) = k .blob
+
+abbrev pub view : List Entry → List ℕ → List Place
+view es x = each placeOf size es x
+
+-- "The passphrase is kept with its length"
+abbrev pub passphrase : LockRecord → List ℕ
+passphrase l = take (l .len) (l .bytes)
+
+unfoldable pub gatewayOf : State → List ℕ → Gateway
+gatewayOf s x = record { places = view (s .entries) x; lock = passphrase (s .lock); clock = s .clock .count; next = s .next }
+
+-- ## How it is written
+
+-- all zero
+abbrev pub freeEntry : Entry
+freeEntry = record {
+  number = 0;
+  reading = record { count = 0 };
+  limited = false;
+  seconds = record { count = 0 };
+  confirm = false;
+  «blob_len» = 0;
+  «fields_len» = 0;
+}
+
+abbrev pub isLimited : Lifetime → Bool
+isLimited Forever = false
+isLimited (For seconds) = true
+
+abbrev pub secondsIn : Lifetime → Seconds
+secondsIn Forever = record { count = 0 }
+secondsIn (For seconds) = seconds
+
+unfoldable pub heldEntry : ℕ → Millis → Lifetime → Bool → ℕ → ℕ → Entry
+heldEntry number reading lifetime confirm blobLen fieldsLen = record {
+  number = number;
+  reading = reading;
+  limited = isLimited lifetime;
+  seconds = secondsIn lifetime;
+  confirm = confirm;
+  «blob_len» = blobLen;
+  «fields_len» = fieldsLen;
+}
+
+-- "unused bytes are zero"
+unfoldable pub heldBytes : List ℕ → List ℕ → List ℕ
+heldBytes blob fields = padded 1024 blob ++ padded 3072 fields
+
+unfoldable pub entryFor : Place → Entry
+entryFor none = freeEntry
+entryFor (some k) = heldEntry (k .number) (record { count = k .reading }) (k .lifetime) (k .confirm) (length (k .blob)) (length (k .fields))
+
+unfoldable pub bytesFor : Place → List ℕ
+bytesFor none = replicate 4096 0
+bytesFor (some k) = heldBytes (k .blob) (k .fields)
+
+-- an entry and its bytes, written as this place is
+pub record Written (e : Entry) (p : List ℕ) (place : Place) : Type 0 where
+  pub entry : e ≡ entryFor place
+  pub bytes : p ≡ bytesFor place
+
+unfoldable pub laid : List Place → List ℕ
+laid [] = []
+laid (p ∷ ps) = bytesFor p ++ laid ps
+
+-- "at most 1,024 bytes, the rest zero"
+unfoldable pub lockOf : List ℕ → LockRecord
+lockOf p = record { bytes = padded 1024 p; len = length p }
+
+unfoldable pub stateOf : Gateway → State
+stateOf g = record { entries = map entryFor (g .places); lock = lockOf (g .lock); clock = record { count = g .clock }; next = g .next }
+
+unfoldable pub layout : Gateway → List ℕ
+layout g = laid (g .places)

@@ -1,0 +1,51 @@
+-- What the table promises, as statements; the proofs are in proofs/.
+use Prim.Native.Nat.{ℕ, _≤_, _<_}
+use mathlib.Core.Path.{_≡_}
+use mathlib.Core.Bool.{true}
+use mathlib.Core.List.{List}
+use mathlib.Core.Logic.{_↔_}
+use lib.ListN.{length, replicate}
+use lib.Dec.{ltb}
+use Rattle.rule.specs.declared.Found.the-variants.{At}
+use Rattle.rule.specs.Gateway.{Gateway, fresh, placeFor}
+use Rattle.rule.specs.Soundness as rule
+use Rattle.rule.specs.Soundness.{lastNumber}
+use Rattle.table.specs.declared.State.{State}
+use Rattle.table.specs.Meaning.{gatewayOf, stateOf, layout}
+use Rattle.table.specs.Soundness.{soundState, Sound, Means}
+use Rattle.table.specs.Changes.{MayPut}
+
+-- the test says the facts; the two lengths are the arrays'
+abbrev pub SoundStateRule : Type 0
+SoundStateRule = (s : State) (x : List ℕ) → length (s .entries) ≡ 8 → length (s .lock .bytes) ≡ 1024 → (soundState s x ≡ true) ↔ Sound s x
+
+-- what is sound here means what is sound in the rule
+abbrev pub SoundMeaning : Type 0
+SoundMeaning = (s : State) (x : List ℕ) → Sound s x → rule.Sound (gatewayOf s x)
+
+-- what is sound is written in the one way that its meaning has
+pub record Canonical (s : State) (x : List ℕ) : Type 0 where
+  pub state : s ≡ stateOf (gatewayOf s x)
+  pub store : x ≡ layout (gatewayOf s x)
+
+abbrev pub SoundCanonical : Type 0
+SoundCanonical = (s : State) (x : List ℕ) → Sound s x → Canonical s x
+
+-- so no second state and store mean the same
+abbrev pub OneWriting : Type 0
+OneWriting = (s t : State) (x y : List ℕ) → Sound s x → Sound t y → gatewayOf s x ≡ gatewayOf t y → (s ≡ t) × (x ≡ y)
+
+-- and every sound gateway of the rule is meant by one
+abbrev pub EveryGateway : Type 0
+EveryGateway = (g : Gateway) → rule.Sound g → Means (stateOf g) (layout g) g
+
+-- "Fresh: all zero, next insertion number 1."
+abbrev pub FreshMeans : Type 0
+FreshMeans = Means (stateOf fresh) (replicate 32768 0) fresh
+
+-- the place for a blob may take it
+abbrev pub PlaceForPut : Type 0
+PlaceForPut =
+    (s : State) (x : List ℕ) (i : ℕ) (blob fields : List ℕ) → Sound s x → placeFor blob (gatewayOf s x .places) ≡ At i
+    → 1 ≤ length blob → length blob ≤ 1024 → 1 ≤ length fields → length fields ≤ 3072 → gatewayOf s x .next < lastNumber
+    → MayPut s x i blob fields

@@ -1,0 +1,115 @@
+-- 01's soundness of a state and its store, test by test, and the facts that the tests say.
+use Prim.Native.Nat.{ℕ, _≤_, _<_}
+use mathlib.Core.Path.{_≡_}
+use mathlib.Core.Bool.{Bool, true, false, _&&_, _||_, not}
+use mathlib.Core.Option.{none, some}
+use mathlib.Core.List.{List, [], _∷_}
+use lib.ListN.{length, getD, take, drop}
+use lib.Dec.{leb, ltb, eqb}
+use Rattle.wire.specs.Steps.{so}
+use Rattle.rule.specs.Gateway.{Place, Gateway}
+use Rattle.rule.specs.Soundness.{lastNumber, within, everyEntry, apart, distinct, Distinct}
+use Rattle.table.specs.declared.Entry.{Entry}
+use Rattle.table.specs.declared.LockRecord.{LockRecord}
+use Rattle.table.specs.declared.State.{State}
+use Rattle.table.specs.Bytes.{allZero, Zeros}
+use Rattle.table.specs.Each.{each, Each}
+use Rattle.table.specs.Meaning.{size, view, gatewayOf, freeEntry}
+
+-- ## The tests
+
+-- "free places zero"
+unfoldable pub soundFree : Entry → List ℕ → Bool
+soundFree e p =
+    eqb (e .reading .count) 0
+    && (not (e .limited)
+    && (eqb (e .seconds .count) 0
+    && (not (e .confirm)
+    && (eqb (e .«blob_len») 0
+    && (eqb (e .«fields_len») 0
+    && allZero p)))))
+
+-- no seconds without a lifetime
+unfoldable pub soundLifetime : Entry → Bool
+soundLifetime e = e .limited || eqb (e .seconds .count) 0
+
+-- "lengths within limits, unused bytes .. zero, .. insertion numbers .. below the next one, .. insertion readings not above the kept clock"
+unfoldable pub soundHeld : ℕ → ℕ → Entry → List ℕ → Bool
+soundHeld clock next e p =
+    ltb (e .number) next
+    && (leb (e .reading .count) clock
+    && (soundLifetime e
+    && (within 1 1024 (e .«blob_len»)
+    && (within 1 3072 (e .«fields_len»)
+    && (allZero (drop (e .«blob_len») (take 1024 p))
+    && allZero (drop (e .«fields_len») (drop 1024 p)))))))
+
+unfoldable pub soundPlace : ℕ → ℕ → Entry → List ℕ → Bool
+soundPlace clock next e p = so (soundHeld clock next e p) (eqb (e .number) 0) (soundFree e p)
+
+unfoldable pub all : List Bool → Bool
+all [] = true
+all (b ∷ bs) = b && all bs
+
+unfoldable pub soundPlaces : ℕ → ℕ → List Entry → List ℕ → Bool
+soundPlaces clock next es x = all (each (soundPlace clock next) size es x)
+
+-- "The passphrase is kept with its length, at most 1,024 bytes, the rest zero."
+unfoldable pub soundLock : LockRecord → Bool
+soundLock l = leb (l .len) 1024 && allZero (drop (l .len) (l .bytes))
+
+-- the blob and the number of a place are no other's
+unfoldable pub unlike : Place → List Place → Bool
+unlike none ps = true
+unlike (some e) ps = everyEntry (apart e) ps
+
+unfoldable pub soundState : State → List ℕ → Bool
+soundState s x =
+    eqb (length x) 32768
+    && (within 1 lastNumber (s .next)
+    && (soundLock (s .lock)
+    && (soundPlaces (s .clock .count) (s .next) (s .entries) x
+    && distinct (view (s .entries) x))))
+
+-- ## The facts
+
+pub record SoundHeld (clock next : ℕ) (e : Entry) (p : List ℕ) : Type 0 where
+  pub number-first : 1 ≤ e .number
+  pub number-taken : e .number < next
+  pub reading-past : e .reading .count ≤ clock
+  pub no-seconds : e .limited ≡ false → e .seconds .count ≡ 0
+  pub blob-some : 1 ≤ e .«blob_len»
+  pub blob-fits : e .«blob_len» ≤ 1024
+  pub fields-some : 1 ≤ e .«fields_len»
+  pub fields-fit : e .«fields_len» ≤ 3072
+  pub blob-rest : Zeros (drop (e .«blob_len») (take 1024 p))
+  pub fields-rest : Zeros (drop (e .«fields_len») (drop 1024 p))
+
+pub data SoundPlace (clock next : ℕ) (e : Entry) (p : List ℕ) : Type 0 where
+  free : e ≡ freeEntry → Zeros p → SoundPlace clock next e p
+  held : SoundHeld clock next e p → SoundPlace clock next e p
+
+pub record SoundLock (l : LockRecord) : Type 0 where
+  pub record-size : length (l .bytes) ≡ 1024
+  pub lock-fits : l .len ≤ 1024
+  pub lock-rest : Zeros (drop (l .len) (l .bytes))
+
+pub record Sound (s : State) (x : List ℕ) : Type 0 where
+  pub eight-entries : length (s .entries) ≡ 8
+  pub store-size : length x ≡ 32768
+  pub next-first : 1 ≤ s .next
+  pub next-last : s .next ≤ lastNumber
+  pub lock : SoundLock (s .lock)
+  pub places : Each (SoundPlace (s .clock .count) (s .next)) size (s .entries) x
+  pub distinct : Distinct (view (s .entries) x)
+
+-- entries whose blobs lie within their places
+pub record Housed (es : List Entry) (x : List ℕ) : Type 0 where
+  pub eight-entries : length es ≡ 8
+  pub store-size : length x ≡ 32768
+  pub blobs-fit : (i : ℕ) → i < 8 → getD es i freeEntry .«blob_len» ≤ 1024
+
+-- a state and store that mean this gateway, and are sound
+pub record Means (s : State) (x : List ℕ) (g : Gateway) : Type 0 where
+  pub gateway : gatewayOf s x ≡ g
+  pub sound : Sound s x

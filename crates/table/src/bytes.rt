@@ -1,0 +1,66 @@
+// Whole parts: zeroed, copied, padded, tested for zero.
+ghost use mathlib.Core.Path.{_≡_};
+ghost use Prim.Native.Nat.{_≤_, max};
+ghost use lib.ListN.{length, replicate};
+ghost use Rattle.table.specs.Bytes.{allZero, greatest, padded};
+
+// All bytes of the part become zero.
+pub fn wipe(p: &mut [u8])
+    ensures { λ r. ⌜ now (p .exit) ≡ replicate (length (now (p .entry))) 0 ⌝ }
+{
+    let mut i = 0;
+    while i < p.len() {
+        p[i] = 0;
+        i += 1;
+    }
+}
+
+// The bytes of `src` go into a part of the same length; whoever cuts the part cuts it so.
+pub fn copy_in(p: &mut [u8], src: &[u8])
+    requires { ⌜ length (now p) ≡ length (now src) ⌝ }
+    ensures { λ r. ⌜ now (p .exit) ≡ now (src .entry) ⌝ }
+{
+    let mut i = 0;
+    while i < src.len() {
+        p[i] = src[i];
+        i += 1;
+    }
+}
+
+// The bytes of `src`, and zeros behind them; whoever cuts the part cuts it long enough.
+pub fn pad(p: &mut [u8], src: &[u8])
+    requires { ⌜ length (now src) ≤ length (now p) ⌝ }
+    ensures { λ r. ⌜ now (p .exit) ≡ padded (length (now (p .entry))) (now (src .entry)) ⌝ }
+{
+    let n = src.len();
+    copy_in(&mut p[..n], src);
+    wipe(&mut p[n..]);
+}
+
+fn greater(a: u8, b: u8) -> u8
+    ensures { λ r. ⌜ r ≡ max a b ⌝ }
+{
+    if a < b {
+        return b;
+    }
+    a
+}
+
+// Goes over all bytes with no early exit, so that it is compiled to vector code.
+fn greatest_byte(p: &[u8]) -> u8
+    ensures { λ r. ⌜ r ≡ greatest (now (p .entry)) ⌝ }
+{
+    let mut most = 0;
+    let mut i = 0;
+    while i < p.len() {
+        most = greater(most, p[i]);
+        i += 1;
+    }
+    most
+}
+
+pub fn is_zero(p: &[u8]) -> bool
+    ensures { λ r. ⌜ r ≡ allZero (now (p .entry)) ⌝ }
+{
+    greatest_byte(p) == 0
+}

@@ -1,0 +1,201 @@
+// Changing the places of a sound state: keys go on time or on request, and new ones come. Only a call that has tested soundness comes here.
+use crate::Entry;
+use crate::State;
+use crate::bytes::pad;
+use crate::bytes::wipe;
+use crate::free_entry;
+use crate::places::start_of;
+use keys::constraints::Lifetime;
+use rule::Millis;
+use wire::Seconds;
+ghost use mathlib.Core.Path.{_≡_};
+ghost use mathlib.Core.Option.{some};
+ghost use Prim.Native.Nat.{_≤_, _<_, max};
+ghost use lib.ListN.{length};
+ghost use Rattle.rule.specs.Gateway.{millisOf, dueAt, lasting, advance, without, withoutAll, withEntry};
+ghost use Rattle.table.specs.Meaning.{lifetimeOf, gatewayOf, placeOf, heldEntry, heldBytes, Written};
+ghost use Rattle.table.specs.Soundness.{Sound, Means};
+ghost use Rattle.table.specs.Changes.{Standing, newKey, MayPut};
+
+// Lifetimes count seconds and the clock counts milliseconds.
+pub fn millis_of(seconds: Seconds) -> Millis
+    ensures { λ r. ⌜ r .count ≡ millisOf seconds ⌝ }
+{
+    Millis {
+        count: (seconds.count as u64) * 1000,
+    }
+}
+
+// Is this entry due at a clock that its reading is not above?
+fn is_due(e: Entry, clock: Millis) -> bool
+    requires { ⌜ e .reading .count ≤ clock .count ⌝ }
+    ensures { λ r. ⌜ r ≡ dueAt (clock .count) (e .reading .count) (lifetimeOf e) ⌝ }
+{
+    if !e.limited {
+        return false;
+    }
+    let seconds = e.seconds;
+    let lifetime = millis_of(seconds);
+    lifetime.count <= clock.count - e.reading.count
+}
+
+// What is left at the clock of one place, its entry and its bytes: nothing if it is due.
+fn last(e: Entry, p: &mut [u8], clock: Millis) -> Entry
+    requires { ⌜ Standing (clock .count) e (now p) ⌝ }
+    ensures { λ r. ⌜ Written r (now (p .exit)) (lasting (clock .count) (placeOf e (now (p .entry)))) ⌝ }
+{
+    if is_due(e, clock) {
+        wipe(p);
+        return free_entry();
+    }
+    e
+}
+
+// The later of two readings.
+fn later(a: Millis, b: Millis) -> Millis
+    ensures { λ r. ⌜ r .count ≡ max (a .count) (b .count) ⌝ }
+{
+    if a.count < b.count {
+        return b;
+    }
+    a
+}
+
+// The kept clock is raised to the reading, and what is due goes.
+pub fn advance(state: State, store: &mut [u8], reading: Millis) -> State
+    requires { ⌜ Sound state (now store) ⌝ }
+    ensures { λ r. ⌜ Means r (now (store .exit)) (advance (reading .count) (gatewayOf state (now (store .entry)))) ⌝ }
+{
+    let kept = state.clock;
+    let clock = later(kept, reading);
+    let mut es = state.entries;
+    let mut i = 0;
+    while i < 8 {
+        let from = start_of(i);
+        let to = start_of(i + 1);
+        let e = es[i];
+        es[i] = last(e, &mut store[from..to], clock);
+        i += 1;
+    }
+    let lock = state.lock;
+    State {
+        entries: es,
+        lock,
+        clock,
+        next: state.next,
+    }
+}
+
+// Place i is free, and its bytes are zero.
+pub fn remove(state: State, store: &mut [u8], i: usize) -> State
+    requires { ⌜ (i < 8) × Sound state (now store) ⌝ }
+    ensures { λ r. ⌜ Means r (now (store .exit)) (without i (gatewayOf state (now (store .entry)))) ⌝ }
+{
+    let from = start_of(i);
+    let to = start_of(i + 1);
+    wipe(&mut store[from..to]);
+    let mut es = state.entries;
+    es[i] = free_entry();
+    let lock = state.lock;
+    let clock = state.clock;
+    State {
+        entries: es,
+        lock,
+        clock,
+        next: state.next,
+    }
+}
+
+// All places are free, and the store is zero.
+pub fn remove_all(state: State, store: &mut [u8]) -> State
+    requires { ⌜ Sound state (now store) ⌝ }
+    ensures { λ r. ⌜ Means r (now (store .exit)) (withoutAll (gatewayOf state (now (store .entry)))) ⌝ }
+{
+    wipe(store);
+    let e = free_entry();
+    let lock = state.lock;
+    let clock = state.clock;
+    State {
+        entries: [e; 8],
+        lock,
+        clock,
+        next: state.next,
+    }
+}
+
+// The entry of a key; what it keeps of its lifetime is a flag and seconds.
+fn entry_for(
+    number: u64,
+    reading: Millis,
+    lifetime: Lifetime,
+    confirm: bool,
+    blob_len: usize,
+    fields_len: usize,
+) -> Entry
+    ensures { λ r. ⌜ r ≡ heldEntry number reading lifetime confirm «blob_len» «fields_len» ⌝ }
+{
+    match lifetime {
+        Lifetime::Forever => Entry {
+            number,
+            reading,
+            limited: false,
+            seconds: Seconds { count: 0 },
+            confirm,
+            blob_len,
+            fields_len,
+        },
+        Lifetime::For(seconds) => Entry {
+            number,
+            reading,
+            limited: true,
+            seconds,
+            confirm,
+            blob_len,
+            fields_len,
+        },
+    }
+}
+
+// The bytes of a key's place: the blob and zeros up to 1,024, the fields and zeros up to the end.
+fn fill_place(p: &mut [u8], blob: &[u8], fields: &[u8])
+    requires { ⌜ (length (now p) ≡ 4096) × (length (now blob) ≤ 1024) × (length (now fields) ≤ 3072) ⌝ }
+    ensures { λ r. ⌜ now (p .exit) ≡ heldBytes (now (blob .entry)) (now (fields .entry)) ⌝ }
+{
+    pad(&mut p[..1024], blob);
+    pad(&mut p[1024..], fields);
+}
+
+// Place i takes a key, with the next number and the kept clock.
+pub fn put(
+    state: State,
+    store: &mut [u8],
+    i: usize,
+    lifetime: Lifetime,
+    confirm: bool,
+    blob: &[u8],
+    fields: &[u8],
+) -> State
+    requires { ⌜ MayPut state (now store) i (now blob) (now fields) ⌝ }
+    ensures { λ r. ⌜ Means r (now (store .exit)) (withEntry i (newKey (gatewayOf state (now (store .entry))) lifetime confirm (now (blob .entry)) (now (fields .entry))) (gatewayOf state (now (store .entry)))) ⌝ }
+{
+    let from = start_of(i);
+    let to = start_of(i + 1);
+    fill_place(&mut store[from..to], blob, fields);
+    let clock = state.clock;
+    let mut es = state.entries;
+    es[i] = entry_for(
+        state.next,
+        clock,
+        lifetime,
+        confirm,
+        blob.len(),
+        fields.len(),
+    );
+    let lock = state.lock;
+    State {
+        entries: es,
+        lock,
+        clock,
+        next: state.next + 1,
+    }
+}

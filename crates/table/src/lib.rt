@@ -1,0 +1,70 @@
+// The gateway's state by value and its key store lent: eight places of 4,096 bytes, the lock record, the kept clock, the next number.
+// Nobody above this crate names an offset or a size of it.
+pub mod bytes;
+pub mod changes;
+pub mod locks;
+pub mod places;
+pub mod soundness;
+
+use rule::Millis;
+use wire::Seconds;
+ghost use mathlib.Core.Path.{_≡_};
+ghost use mathlib.Core.List.{[]};
+ghost use mathlib.Core.Option.{none};
+ghost use Rattle.rule.specs.Gateway.{fresh as freshGateway};
+ghost use Rattle.table.specs.Meaning.{entryFor, lockOf, stateOf};
+
+// What is kept of a place beside its bytes. A free place is all zero.
+#[repr(C)]
+pub struct Entry {
+    pub number: u64,
+    pub reading: Millis,
+    pub limited: bool,
+    pub seconds: Seconds,
+    pub confirm: bool,
+    pub blob_len: usize,
+    pub fields_len: usize,
+}
+
+// The passphrase and its length; the rest is zero. A length of 0 is open.
+#[repr(C)]
+pub struct LockRecord {
+    pub bytes: [u8; 1024],
+    pub len: usize,
+}
+
+#[repr(C)]
+pub struct State {
+    pub entries: [Entry; 8],
+    pub lock: LockRecord,
+    pub clock: Millis,
+    pub next: u64,
+}
+
+// The entry of a free place.
+fn free_entry() -> Entry
+    ensures { λ r. ⌜ r ≡ entryFor none ⌝ }
+{
+    Entry {
+        number: 0,
+        reading: Millis { count: 0 },
+        limited: false,
+        seconds: Seconds { count: 0 },
+        confirm: false,
+        blob_len: 0,
+        fields_len: 0,
+    }
+}
+
+// All zero, next insertion number 1.
+pub fn fresh() -> State
+    ensures { λ r. ⌜ r ≡ stateOf freshGateway ⌝ }
+{
+    let e = free_entry();
+    State {
+        entries: [e; 8],
+        lock: locks::locked_by(&[]),
+        clock: Millis { count: 0 },
+        next: 1,
+    }
+}
