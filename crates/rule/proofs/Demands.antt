@@ -1,16 +1,19 @@
 -- Demand 3 in its forms: as lent, by request, without refused calls, at the calls' own readings.
 use Prim.Native.Nat.{ℕ, _≤_, max}
 use native.Mathlib.Omega.{arith}
-use mathlib.Core.Path.{_≡_, refl}
+use mathlib.Core.Path.{_≡_, refl, ap}
 use mathlib.Core.Option.{none, some}
 use mathlib.Core.List.{List, [], _∷_, _++_}
 use Rattle.rule.specs.Gateway.{Gateway, advance}
-use Rattle.rule.specs.Calls.{Call, refusal, call}
-use Rattle.rule.specs.Runs.{heard, heardIn, Turn, turn, turnsFrom, endOf}
-use Rattle.rule.specs.Order.{EveryAccepted, EveryTurn, Keeps, ownFrame, ownAnswers, AsLent, Demand3, acceptedOf, RefusedDropOut, NeverFall, OwnReadings}
+use Rattle.rule.specs.Rule.{Landing}
+use Rattle.rule.specs.Calls.{Call, refusal, lands, call}
+use Rattle.rule.specs.Runs.{heard, heardIn, Turn, turn, turnsFrom, endOf, alone, servedAlone, oneAtATime}
+use Rattle.rule.specs.Order.{EveryAccepted, EveryTurn, Keeps, ownFrame, ownAnswers, AsLent, AloneFinds, Demand3, acceptedOf, RefusedDropOut, NeverFall, OwnReadings}
 use Rattle.rule.proofs.Cases.{given-cases}
-use Rattle.rule.proofs.Crossing.{heardBy, own-cases, own-agrees, any-order}
+use Rattle.rule.proofs.Plans.{asks-not-lands, refused-not-lands}
+use Rattle.rule.proofs.Crossing.{heardBy, planOf, own-cases, own-agrees, any-order}
 use Rattle.rule.proofs.Leavings.{refusal-leaves}
+use Rattle.rule.proofs.RowLaws.{same-landing}
 
 -- ## The run as the one-at-a-time rule
 
@@ -73,3 +76,13 @@ own-from (c ∷ cs) m g (low, rest) =
 
 pub own-readings : OwnReadings
 own-readings g cs = own-from cs 0 g
+
+pub alone-finds : AloneFinds
+unfolding oneAtATime servedAlone
+alone-finds g c l other e =
+    ap (λ (x : Landing). x ∷ [])
+    (own-cases g c (λ o r. r .outcome ≡ lands l → alone (ownAnswers c) (planOf g c) .landing ≡ l)
+    (λ n never. absurd (refused-not-lands n l never))
+    (λ q _ never. absurd (asks-not-lands q l never))
+    (λ same. same-landing same)
+    e)

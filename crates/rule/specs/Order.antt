@@ -78,6 +78,12 @@ ownAnswers c = lentOr (lent (c .answers)) refusing
 abbrev pub AsLent : Type 0
 AsLent = (g : Gateway) (cs : List Call) → AsOneAtATime ownFrame ownAnswers g cs
 
+-- a call that lands lands as its request does alone, whatever landing its turn is said to have
+abbrev pub AloneFinds : Type 0
+AloneFinds =
+    (g : Gateway) (c : Call) (l other : Landing) → call g c .outcome ≡ lands l
+    → oneAtATime ownFrame ownAnswers g (record { by = c; reading = c .reading; landing = other } ∷ []) ≡ l ∷ []
+
 -- "each request keeps its frame, and a question asked twice within it gets one answer": frame and oracle go by the request
 abbrev pub Demand3 : Type 0
 Demand3 =
@@ -214,6 +220,6 @@ NeverRefused3 = (g : Gateway) (cs : List Call) → Sound g → EveryOutcome (λ 
 abbrev pub NumbersOnlyRise : Type 0
 NumbersOnlyRise = (g : Gateway) (c : Call) → g .next ≤ call g c .gateway .next
 
--- every reply fits the buffer that refusal 1 asks for
+-- every reply fits 8,265 bytes, which refusal 1 asks for (`RefusalRule`)
 abbrev pub RepliesFit : Type 0
 RepliesFit = (g : Gateway) (c : Call) (bytes : List ℕ) → Sound g → call g c .outcome ≡ lands (reply bytes) → length bytes ≤ 8265
