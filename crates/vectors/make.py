@@ -16,8 +16,7 @@ Where the expectations come from:
 - made and damaged requests, and constraints: the reader below, written from document 01 and not from the Rattle code.
 Where a fault is expected, its place is not.
 
-The input is a sequence of sections: kind (byte), name (string), base (string), count (number), and that many records. A number
-has four bytes, highest first; a string is its length as a number, and its bytes; a flag is a byte, 0 or 1.
+The input has the form that ../report/sections.py says, with these records:
   1 mpint             contents (string), positive and shortest (flag)
   2 mpint string      bytes (string), place, from, to (numbers; from and to are 0 where a fault is expected)
   3 UTF-8             bytes (string), end (number)
@@ -27,29 +26,19 @@ has four bytes, highest first; a string is its length as a number, and its bytes
   7 damaged addition  CHANGE, constrained (flag), LIMITS
   8 constraints       bytes (string), place (number), LIMITS
 FIELDS: whole (flag), and if whole the end (number) and the blob (string). LIMITS: whole, limited (flags), seconds (number), confirm
-(flag), all 0 where a fault is expected. CHANGE: length, place (numbers), value (byte): the first `length` bytes of the section's
-base, with `value` at `place`.
+(flag), all 0 where a fault is expected.
 """
 import base64
 import itertools
 import os
 import sys
 
+sys.path.insert(0, os.path.join(os.path.dirname(os.path.abspath(__file__)), '../report'))
+from sections import Fault, change, flag, near, need, number, string, take_string, write
+
 ED25519 = b'ssh-ed25519'
 RSA = b'ssh-rsa'
 KEYS = ['ed25519', 'ecdsa-256', 'ecdsa-384', 'ecdsa-521', 'rsa-2048', 'rsa-3072', 'rsa-4096']
-
-
-def number(n):
-    return n.to_bytes(4, 'big')
-
-
-def string(b):
-    return number(len(b)) + b
-
-
-def flag(b):
-    return bytes([1 if b else 0])
 
 
 def mpint(value):
@@ -58,22 +47,6 @@ def mpint(value):
 
 
 # ---- the rules of document 01
-
-class Fault(Exception):
-    pass
-
-
-def need(test):
-    if not test:
-        raise Fault
-
-
-def take_string(b, at):
-    need(at + 4 <= len(b))
-    end = at + 4 + int.from_bytes(b[at:at + 4], 'big')
-    need(end <= len(b))
-    return b[at + 4:end], end
-
 
 def is_positive_and_shortest(v):
     value = int.from_bytes(v, 'big', signed=True)
@@ -187,13 +160,6 @@ def key_record(payload):
 
 def addition_record(payload, constrained):
     return string(payload) + flag(constrained) + limits(answer(read_addition, payload, 1, constrained))
-
-
-def change(base, length, place, value):
-    """The record's change, and what it makes of the base."""
-    changed = bytearray(base)
-    changed[place] = value
-    return number(length) + number(place) + bytes([value]), bytes(changed[:length])
 
 
 def damaged_key_record(base, *how):
@@ -399,10 +365,6 @@ def spans(base):
         at = behind
 
 
-def near(values, base, place):
-    return [(place, v % 256) for v in values if v % 256 != base[place]]
-
-
 def changes(base, is_large):
     """One up and one down: every byte of a length, of a text and of an Ed25519 key; of other contents the first two bytes, which are also
     set to the edges, and the last. Of the contents in a large key only the first byte."""
@@ -483,12 +445,4 @@ def sections(folder):
     yield 8, 'constraints', b'', [constraints_record(*one) for one in walks()]
 
 
-def main():
-    folder, target = sys.argv[1:]
-    with open(target, 'wb') as out:
-        for kind, name, base, records in sections(folder):
-            out.write(bytes([kind]) + string(name.encode()) + string(base) + number(len(records)) + b''.join(records))
-            print(name, len(records), 'of', len(records))
-
-
-main()
+write(sys.argv[2], sections(sys.argv[1]))

@@ -12,6 +12,7 @@ use Rattle.wire.proofs.Writing.{write-behind}
 use Rattle.keys.specs.declared.kinds.Places.{Places}
 use Rattle.keys.specs.declared.kinds.Blob.the-variants.{Length, TooLong}
 use Rattle.keys.specs.Kinds.{blobOf, blobAnswer, blobLeft}
+use Rattle.keys.specs.Promises.{BlobRule}
 
 module _ (s : List ℕ) (at : ℕ) (p : Places) (out a b c : List ℕ) (ea : a ≡ cutOf s at (p .front)) (eb : b ≡ cutOf s (p .swap) (p .back)) (ec : c ≡ cutOf s (p .front) (p .swap)) where
   blob-parts : blobOf s at p ≡ a ++ (b ++ c)
@@ -35,3 +36,10 @@ module _ (s : List ℕ) (at : ℕ) (p : Places) (out a b c : List ℕ) (ea : a �
       let w : z ≡ length (blobOf s at p) = omega (arith, blob-size) in
       rw (le-leb (length (blobOf s at p)) (length out) (omega (arith, blob-size)))
       (ap Length w, q₂ ∙ ap (write out 0) (append-assoc a b c ∙ sym blob-parts))
+
+pub blob-rule : BlobRule
+unfolding blobAnswer blobLeft so
+blob-rule s at p out = record {
+  fits = λ h. rw (le-leb (length (blobOf s at p)) (length out) h) (refl, refl);
+  too-long = λ h. rw (lt-leb (length (blobOf s at p)) (length out) h) (refl, refl);
+}

@@ -4,40 +4,22 @@ use crate::agree::has_constraints;
 use crate::agree::has_fields;
 use crate::agree::has_mpint;
 use crate::agree::has_no_fields;
-use crate::parts::Change;
 use crate::parts::Fields;
-use crate::parts::Flag;
 use crate::parts::Limited;
-use crate::parts::Place;
-use crate::parts::read_change;
 use crate::parts::read_fields;
-use crate::parts::read_flag;
 use crate::parts::read_limits;
-use crate::parts::read_place;
+use report::parts::Flag;
+use report::parts::Place;
+use report::parts::read_changed;
+use report::parts::read_flag;
+use report::parts::read_place;
+use report::sections::Ran;
+use report::sections::outcome;
 use wire::read::Cursor;
 use wire::read::Part;
 use wire::read::cut;
 use wire::read::is_mpint;
 use wire::utf8::utf8_end;
-ghost use mathlib.Core.Path.{_≡_};
-ghost use mathlib.Core.Bool.{cond};
-
-// What became of a record, with the place behind it.
-pub enum Ran {
-    Agrees(Cursor),
-    Differs(Cursor),
-    Malformed,
-}
-
-fn outcome(agrees: bool, next: Cursor) -> Ran
-    ensures { λ r. ⌜ r ≡ cond agrees (Ran.Agrees next) (Ran.Differs next) ⌝ }
-{
-    if agrees {
-        Ran::Agrees(next)
-    } else {
-        Ran::Differs(next)
-    }
-}
 
 // Contents, and whether they are a positive mpint in its shortest form.
 fn mpint(s: &[u8], c: Cursor) -> Ran {
@@ -124,30 +106,13 @@ fn given(s: &[u8], c: Cursor, is_key: bool) -> Ran {
     expected(s, next, cut(s, from, to), is_key)
 }
 
-// A change of the section's payload, and what is expected of it then. The change is taken back.
-fn changed(s: &[u8], c: Cursor, base: &mut [u8], is_key: bool) -> Ran
-    ensures { λ r. ⌜ now (base .exit) ≡ now (base .entry) ⌝ }
-{
-    let Change::Of {
-        length,
-        place,
-        value,
-        next,
-    } = read_change(s, c)
-    else {
+// A change of the section's payload, and what is expected of it then.
+fn changed(s: &[u8], c: Cursor, base: &[u8], is_key: bool) -> Ran {
+    let mut room = io::buffer();
+    let Place::Value(n, next) = read_changed(s, c, base, &mut room) else {
         return Ran::Malformed;
     };
-    if base.len() < length {
-        return Ran::Malformed;
-    }
-    if base.len() <= place {
-        return Ran::Malformed;
-    }
-    let old = base[place];
-    base[place] = value;
-    let ran = expected(s, next, cut(base, 0, length), is_key);
-    base[place] = old;
-    ran
+    expected(s, next, cut(&room, 0, n), is_key)
 }
 
 // Bytes, where in them the constraints start, and what is expected of these.
@@ -169,9 +134,7 @@ fn constraints(s: &[u8], c: Cursor) -> Ran {
     outcome(has_constraints(cut(s, bf, bt), from, want), next)
 }
 
-pub fn judge(s: &[u8], c: Cursor, kind: u8, base: &mut [u8]) -> Ran
-    ensures { λ r. ⌜ now (base .exit) ≡ now (base .entry) ⌝ }
-{
+pub fn judge(s: &[u8], c: Cursor, kind: u8, base: &[u8]) -> Ran {
     match kind {
         1 => mpint(s, c),
         2 => mpint_string(s, c),
