@@ -1,0 +1,5 @@
+pub mod OutcomeLaws
+pub mod EndSteps
+pub mod ListSteps
+pub mod SignSteps
+pub mod AddSteps

@@ -1,0 +1,48 @@
+-- The values of an outcome say it, since each can be read back from them.
+use Prim.Native.Nat.{ℕ}
+use mathlib.Core.Path.{_≡_, refl, sym, ap, _∙_}
+use mathlib.Core.List.{List}
+use lib.Dec.{eqb}
+use lib.ListN.{getD}
+use Rattle.wire.specs.Steps.{so}
+use Rattle.rule.specs.declared.Hash.{Hash}
+use Rattle.rule.specs.declared.Hash.the-variants.{Plain, Sha256, Sha512}
+use Rattle.server.specs.declared.Outcome.{Outcome}
+use Rattle.server.specs.declared.Outcome.the-variants.{Refused, Gate, Check, Confirm, Sign, Reply, Close}
+use Rattle.server.specs.Outcomes.{hashBits, outcomeValues, OutcomesApart}
+
+hashFor : ℕ → Hash
+hashFor bits = so (so Sha512 (eqb bits 256) Sha256) (eqb bits 0) Plain
+
+hash-for : (h : Hash) → hashFor (hashBits h) ≡ h
+unfolding so hashFor
+hash-for Plain = refl
+hash-for Sha256 = refl
+hash-for Sha512 = refl
+
+-- by the kind, and the values behind it
+outcomeFor : ℕ → (ℕ → ℕ) → Outcome
+outcomeFor kind value =
+    so (so (so (so (so (so Close
+    (eqb kind 5) (Reply (value 1)))
+    (eqb kind 4) (Sign (value 1) (value 2) (value 3) (hashFor (value 4))))
+    (eqb kind 3) (Confirm (value 1)))
+    (eqb kind 2) (Check (value 1) (value 2)))
+    (eqb kind 1) (Gate (value 1)))
+    (eqb kind 0) (Refused (value 1))
+
+outcomeIn : List ℕ → Outcome
+outcomeIn vs = outcomeFor (getD vs 0 0) (λ i. getD vs i 0)
+
+outcome-in : (o : Outcome) → outcomeIn (outcomeValues o) ≡ o
+unfolding so outcomeFor outcomeIn
+outcome-in (Refused n) = refl
+outcome-in (Gate class) = refl
+outcome-in (Check from to) = refl
+outcome-in (Confirm n) = refl
+outcome-in (Sign n from to hash) = ap (Sign n from to) (hash-for hash)
+outcome-in (Reply n) = refl
+outcome-in Close = refl
+
+pub outcomes-apart : OutcomesApart
+outcomes-apart a b e = sym (outcome-in a) ∙ ap outcomeIn e ∙ outcome-in b

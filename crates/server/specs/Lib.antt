@@ -1,0 +1,3 @@
+pub mod Outcomes
+pub mod Calls
+pub mod Lists

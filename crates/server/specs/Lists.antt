@@ -1,0 +1,14 @@
+-- What one place adds to a list.
+use Prim.Native.Nat.{ℕ}
+use mathlib.Core.Option.{none, some}
+use mathlib.Core.List.{List, []}
+use Rattle.rule.specs.Gateway.{Place}
+use Rattle.rule.specs.Rule.{item}
+
+abbrev pub itemIn : Place → List ℕ
+itemIn none = []
+itemIn (some e) = item e
+
+abbrev pub one : Place → ℕ
+one none = 0
+one (some e) = 1
