@@ -3,3 +3,5 @@ pub mod EndSteps
 pub mod ListSteps
 pub mod SignSteps
 pub mod AddSteps
+pub mod RowSteps
+pub mod CallLaws

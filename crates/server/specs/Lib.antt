@@ -1,3 +1,4 @@
 pub mod Outcomes
 pub mod Calls
 pub mod Lists
+pub mod Rows

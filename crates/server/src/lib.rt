@@ -1,6 +1,7 @@
 // What each request does once it is past the gate: an outcome and the new state come out, and store and reply buffer hold what the rule says.
 // Each function requires what the refusals of a call test first: room for the reply, a sound state and store, a signature that is not too long.
 pub mod add;
+pub mod call;
 pub mod list;
 pub mod replies;
 pub mod requests;

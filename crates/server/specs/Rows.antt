@@ -1,0 +1,31 @@
+-- What a request comes to by its first byte, the lock and the gate's answer: 01's table, row by row.
+use Prim.Native.Nat.{ℕ}
+use mathlib.Core.Bool.{Bool, true, false, not}
+use lib.Dec.{eqb}
+use Rattle.wire.specs.Steps.{so}
+use Rattle.server.specs.declared.Said.{Said}
+use Rattle.server.specs.declared.Said.the-variants as said
+use Rattle.server.specs.declared.call.Row.{Row}
+use Rattle.server.specs.declared.call.Row.the-variants as row
+
+-- "Then the gate; no means FAILURE."
+unfoldable pub bySaid : Said → Row → Row → Row
+bySaid said.Missing asking onwards = asking
+bySaid said.No asking onwards = row.Fails
+bySaid said.Yes asking onwards = onwards
+
+-- "wrong lock state: FAILURE, no question"
+unfoldable pub gatedRow : Row → ℕ → Bool → Said → Row
+gatedRow onwards class fit gate = so row.Fails fit (bySaid gate (row.Asks class) onwards)
+
+unfoldable pub rowOf : ℕ → Bool → Said → Row
+rowOf first locked gate =
+    so (so (so (so (so (so (so (so row.Fails
+    (eqb first 23) (gatedRow row.Unlock 7 locked gate))
+    (eqb first 22) (gatedRow row.Lock 6 (not locked) gate))
+    (eqb first 13) (gatedRow row.Sign 5 (not locked) gate))
+    (eqb first 19) (gatedRow row.RemoveAll 4 (not locked) gate))
+    (eqb first 18) (gatedRow row.Remove 3 (not locked) gate))
+    (eqb first 25) (gatedRow (row.Add true) 2 (not locked) gate))
+    (eqb first 17) (gatedRow (row.Add false) 2 (not locked) gate))
+    (eqb first 11) (gatedRow row.List 1 (not locked) gate)
