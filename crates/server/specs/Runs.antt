@@ -1,4 +1,5 @@
--- Runs of the code: what is a run of calls that meet the contract of `call`, and the promises of order, said of what the code gave back.
+-- Runs of the code: calls that meet the contract of `call`, each on what the one before it returned. The promises of order, said of what
+-- the code gave.
 use Prim.Native.Nat.{ℕ, max, _<_}
 use mathlib.Core.Path.{_≡_}
 use mathlib.Core.Logic.{_≢_}
@@ -30,10 +31,21 @@ module _ (state : State) (store payload : List ℕ) (reading : Millis) (answers 
     pub reply-is : done .reply ≡ replyOf state store payload reading answers signature buffer
 
 -- "no second answer satisfies the contract"
-abbrev pub OneAnswer : Type 0
-OneAnswer =
+abbrev pub NoSecondAnswer : Type 0
+NoSecondAnswer =
     (state : State) (store payload : List ℕ) (reading : Millis) (answers : Answers) (signature buffer : List ℕ) (a b : Done)
     → Meets state store payload reading answers signature buffer a → Meets state store payload reading answers signature buffer b → a ≡ b
+
+-- "state, clock and all buffers unchanged"
+pub record Unchanged (state : State) (store buffer : List ℕ) (done : Done) : Type 0 where
+  pub state-stays : done .called .state ≡ state
+  pub store-stays : done .store ≡ store
+  pub buffer-stays : done .reply ≡ buffer
+
+abbrev pub CodeRefusalLeaves : Type 0
+CodeRefusalLeaves =
+    (state : State) (store payload : List ℕ) (reading : Millis) (answers : Answers) (signature buffer : List ℕ) (done : Done) (n : ℕ)
+    → Meets state store payload reading answers signature buffer done → done .called .outcome ≡ Refused n → Unchanged state store buffer done
 
 -- ## Runs
 
@@ -53,11 +65,13 @@ stateAfter k = k .done .called .state
 abbrev pub storeAfter : Step → List ℕ
 storeAfter k = k .done .store
 
+abbrev pub MeetsCall : State → List ℕ → Step → Type 0
+MeetsCall state store k = Meets state store (k .payload) (k .reading) (k .answers) (k .signature) (k .buffer) (k .done)
+
 -- "each call gets the state and store that the call before it returned"
 abbrev pub CodeRun : State → List ℕ → List Step → Type 0
 CodeRun state store [] = Unit {0}
-CodeRun state store (k ∷ ks) =
-    Meets state store (k .payload) (k .reading) (k .answers) (k .signature) (k .buffer) (k .done) × CodeRun (stateAfter k) (storeAfter k) ks
+CodeRun state store (k ∷ ks) = MeetsCall state store k × CodeRun (stateAfter k) (storeAfter k) ks
 
 unfoldable pub endState : State → List Step → State
 endState state [] = state
@@ -143,7 +157,7 @@ acceptedOver before (k ∷ ks) = acceptedOver (so before (isAccepted (ended k)) 
 -- ## Demand 3
 
 module _ (frameOf : Call → Frame) (oracleOf : Call → Oracle) (state : State) (store : List ℕ) (ks : List Step) where
-  abbrev aloneEnd : Gateway
+  abbrev pub aloneEnd : Gateway
   aloneEnd = oneAtATimeEnd frameOf oracleOf (gatewayOf state store) (turnsOf ks)
 
   -- The code's landings are those of the one-at-a-time rule run in landing order. The end states are the same once the greatest reading
@@ -166,6 +180,22 @@ abbrev pub CodeAsLent : Type 0
 CodeAsLent =
     (state : State) (store : List ℕ) (ks : List Step) → Sound state store → CodeRun state store ks
     → CodeAsOneAtATime ownFrame ownAnswers state store ks
+
+-- the run without its refused steps
+unfoldable pub acceptedSteps : List Step → List Step
+acceptedSteps [] = []
+acceptedSteps (k ∷ ks) = so (acceptedSteps ks) (isAccepted (ended k)) (k ∷ acceptedSteps ks)
+
+pub record CodeDropsOut (state : State) (store : List ℕ) (ks : List Step) : Type 0 where
+  pub still-a-run : CodeRun state store (acceptedSteps ks)
+  pub landings-stay : turnsOf (acceptedSteps ks) ≡ turnsOf ks
+  pub greatest-stays : greatestOf (acceptedSteps ks) ≡ greatestOf ks
+  pub state-stays : endState state (acceptedSteps ks) ≡ endState state ks
+  pub store-stays : endStore store (acceptedSteps ks) ≡ endStore store ks
+
+-- "refused calls drop out"
+abbrev pub CodeRefusedDropOut : Type 0
+CodeRefusedDropOut = (state : State) (store : List ℕ) (ks : List Step) → CodeRun state store ks → CodeDropsOut state store ks
 
 -- ## Between a non-empty lock's success and the next unlock's success
 
@@ -202,10 +232,12 @@ CodeNeverRefused3 = (state : State) (store : List ℕ) (ks : List Step) → Soun
 -- ## All of them
 
 pub record CodePromises : Type 0 where
-  pub one-answer : OneAnswer
+  pub no-second-answer : NoSecondAnswer
+  pub refusal-leaves : CodeRefusalLeaves
   pub is-a-run : CodeIsARun
   pub demand-3 : CodeDemand3
   pub as-lent : CodeAsLent
+  pub refused-drop-out : CodeRefusedDropOut
   pub while-locked : CodeWhileLocked
   pub between-lock-and-unlock : CodeBetweenLockAndUnlock
   pub never-refused-3 : CodeNeverRefused3
