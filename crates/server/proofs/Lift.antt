@@ -31,7 +31,6 @@ use Rattle.rule.proofs.SoundLaws.{sound-rule, calls-keep-sound, never-refused-3
 use Rattle.table.specs.declared.State.{State}
 use Rattle.table.specs.Meaning.{gatewayOf}
 use Rattle.table.specs.Soundness.{soundState, Sound, Means}
-use Rattle.table.proofs.TestLaws.{sound-state-rule}
 use Rattle.table.proofs.WritingLaws.{sound-meaning, every-gateway}
 use Rattle.server.specs.declared.Answers.{Answers}
 use Rattle.server.specs.declared.Called.{Called}
@@ -44,6 +43,7 @@ use Rattle.server.specs.Runs.{Step, MeetsCall, stateAfter, storeAfter, C
 use Rattle.server.specs.Runs.{ended, isAccepted, Accepted, heardAt, heardOver, turnsOver, turnsOf, askedOver, acceptedOver, acceptedSteps}
 use Rattle.server.specs.Runs.{CodeAsOneAtATime, CodeDemand3, CodeAsLent, CodeRefusedDropOut, CodeOnlyExpiry, CodeWhileLocked, CodeBetweenLockAndUnlock, CodeNeverRefused3, CodePromises}
 use Rattle.server.proofs.OutcomeLaws.{outcomes-read}
+use Rattle.server.proofs.CallLaws.{sound-passed}
 
 -- ## One call
 
@@ -107,9 +107,8 @@ module _ (state : State) (store : List ℕ) (S : Sound state store) (k : Step) w
   same-refusal : refusalHere state store (k .payload) (k .answers) (k .signature) (k .buffer) ≡ refusal meant (asCall k)
   unfolding refusal
   same-refusal =
-      let tested = sound-state-rule state store (S .eight-entries) (S .lock .record-size) .1 S in
       let ruled = sound-rule meant .1 (sound-meaning state store S) in
-      rw (S .store-size, tested, ruled)
+      rw (S .store-size, sound-passed state store S, ruled)
 
   by-refusal : (o : Option ℕ) (r : Result) → rule.Sound (given o r (λ n. record { outcome = refused n; gateway = meant }) .gateway)
       → k .done ≡ given o (laidOut (k .buffer) r) (refusedDone state store (k .buffer)) → StepEnds k (given o r λ n. record { outcome = refused n; gateway = meant })
