@@ -5,3 +5,4 @@ pub mod SignSteps
 pub mod AddSteps
 pub mod RowSteps
 pub mod CallLaws
+pub mod Lift

@@ -1,15 +1,19 @@
--- The values of an outcome say it, since each can be read back from them.
+-- The values of an outcome say it, since each can be read back from them; so do the code's word and the reply buffer.
 use Prim.Native.Nat.{ℕ}
 use mathlib.Core.Path.{_≡_, refl, sym, ap, _∙_}
 use mathlib.Core.List.{List}
 use lib.Dec.{eqb}
-use lib.ListN.{getD}
+use lib.ListN.{getD, length, take}
+use lib.Seq.{take-at}
 use Rattle.wire.specs.Steps.{so}
+use Rattle.wire.specs.Write.{write}
 use Rattle.rule.specs.declared.Hash.{Hash}
 use Rattle.rule.specs.declared.Hash.the-variants.{Plain, Sha256, Sha512}
+use Rattle.rule.specs.Rule.{gate, check, confirmation, signature, reply, close}
+use Rattle.rule.specs.Calls.{refused, asks, lands}
 use Rattle.server.specs.declared.Outcome.{Outcome}
 use Rattle.server.specs.declared.Outcome.the-variants.{Refused, Gate, Check, Confirm, Sign, Reply, Close}
-use Rattle.server.specs.Outcomes.{hashBits, outcomeValues, OutcomesApart}
+use Rattle.server.specs.Outcomes.{hashBits, outcomeValues, OutcomesApart, code, written, outcomeOf, OutcomesRead}
 
 hashFor : ℕ → Hash
 hashFor bits = so (so Sha512 (eqb bits 256) Sha256) (eqb bits 0) Plain
@@ -46,3 +50,18 @@ outcome-in Close = refl
 
 pub outcomes-apart : OutcomesApart
 outcomes-apart a b e = sym (outcome-in a) ∙ ap outcomeIn e ∙ outcome-in b
+
+-- what is written at the front of a buffer is its first bytes
+front : (buffer bytes : List ℕ) → take (length bytes) (write buffer 0 bytes) ≡ bytes
+unfolding write
+front buffer bytes = take-at bytes _ (length bytes) refl
+
+pub outcomes-read : OutcomesRead
+unfolding code written outcomeOf
+outcomes-read (refused n) buffer = refl
+outcomes-read (asks (gate class)) buffer = refl
+outcomes-read (asks (check from to)) buffer = refl
+outcomes-read (asks (confirmation n)) buffer = refl
+outcomes-read (asks (signature n from to hash)) buffer = refl
+outcomes-read (lands (reply bytes)) buffer = ap (λ (b : List ℕ). lands (reply b)) (front buffer bytes)
+outcomes-read (lands close) buffer = refl

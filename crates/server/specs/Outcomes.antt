@@ -4,7 +4,7 @@ use mathlib.Core.Path.{_≡_}
 use mathlib.Core.Bool.{Bool, true, false}
 use mathlib.Core.Option.{Option, none, some}
 use mathlib.Core.List.{List, [], _∷_}
-use lib.ListN.{length}
+use lib.ListN.{length, take}
 use Rattle.wire.specs.Write.{write}
 use Rattle.rule.specs.declared.Hash.{Hash}
 use Rattle.rule.specs.declared.Hash.the-variants.{Plain, Sha256, Sha512}
@@ -64,6 +64,20 @@ written (refused n) buffer = buffer
 written (asks q) buffer = buffer
 written (lands (reply bytes)) buffer = write buffer 0 bytes
 written (lands close) buffer = buffer
+
+-- the rule's outcome, read off the code's word and the reply buffer
+unfoldable pub outcomeOf : Outcome → List ℕ → rule.Outcome
+outcomeOf (Refused n) buffer = refused n
+outcomeOf (Gate class) buffer = asks (gate class)
+outcomeOf (Check from to) buffer = asks (check from to)
+outcomeOf (Confirm n) buffer = asks (confirmation n)
+outcomeOf (Sign n from to hash) buffer = asks (signature n from to hash)
+outcomeOf (Reply n) buffer = lands (reply (take n buffer))
+outcomeOf Close buffer = lands close
+
+-- every outcome of the rule can be read off what the code says and writes for it
+abbrev pub OutcomesRead : Type 0
+OutcomesRead = (o : rule.Outcome) (buffer : List ℕ) → outcomeOf (code o) (written o buffer) ≡ o
 
 -- ## 01's numbers and values
 

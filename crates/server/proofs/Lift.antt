@@ -1,0 +1,377 @@
+-- A run of the code is a run of the rule: `call` refuses a sound state where the rule does, what the rule leaves is sound, and what is sound
+-- is meant by its layout. So the promises of order hold of what the code gave. Assumed: a sound state and store at the start, and steps that
+-- meet the contract of `call`.
+use Prim.Native.Nat.{ℕ, max}
+use mathlib.Core.Path.{_≡_, refl, sym, ap, _∙_, subst}
+use mathlib.Core.Logic.{_≢_}
+use mathlib.Core.Bool.{Bool, true, false}
+use mathlib.Core.Option.{Option, none, some}
+use mathlib.Core.List.{List, [], _∷_, map}
+use native.Mathlib.Omega.{arith}
+use borrow.Author.Tests.{lt-ltb}
+use lib.Dec.{leb}
+use lib.ListN.{length}
+use Rattle.wire.specs.Steps.{so}
+use Rattle.wire.proofs.Laws.{one-answer}
+use Rattle.rule.specs.declared.Millis.{Millis}
+use Rattle.rule.specs.Gateway.{Gateway, advance, locked}
+use Rattle.rule.specs.Soundness as rule
+use Rattle.rule.specs.Rule.{Question, gate, rule as plan}
+use Rattle.rule.specs.Calls as calls
+use Rattle.rule.specs.Calls.{given, lent, lentLength, refusalOf, Frame, Call, refused, asks, Result, served, refusal, call}
+use Rattle.rule.specs.Runs.{heard, heardIn, turn, turnsFrom, endOf, Oracle}
+use Rattle.rule.specs.Order.{EveryAccepted, Keeps, AsOneAtATime, asked, askedIn, ownFrame, ownAnswers, Begins, NoUnlocking, EveryQuestion, EveryOutcome, someAccepted, OnlyExpiry}
+use Rattle.rule.proofs.Cases.{so-cases, true-not-false}
+use Rattle.rule.proofs.PlaceLaws.{some-not-none}
+use Rattle.rule.proofs.RefusalLaws.{follow-not-refused, refused-by}
+use Rattle.rule.proofs.Crossing.{own-cases}
+use Rattle.rule.proofs.Demands as demands
+use Rattle.rule.proofs.LockedRuns as locks
+use Rattle.rule.proofs.SoundLaws.{sound-rule, calls-keep-sound, never-refused-3}
+use Rattle.table.specs.declared.State.{State}
+use Rattle.table.specs.Meaning.{gatewayOf}
+use Rattle.table.specs.Soundness.{soundState, Sound, Means}
+use Rattle.table.proofs.WritingLaws.{sound-meaning, every-gateway}
+use Rattle.server.specs.declared.Answers.{Answers}
+use Rattle.server.specs.declared.Called.{Called}
+use Rattle.server.specs.declared.Outcome.{Outcome}
+use Rattle.server.specs.declared.Outcome.the-variants.{Refused, Gate, Check, Confirm, Sign, Reply, Close}
+use Rattle.server.specs.Outcomes.{lentOf, code, written, outcomeOf}
+use Rattle.server.specs.Calls.{Done, laidOut, callOf, Ends}
+use Rattle.server.specs.Runs.{Meets, NoSecondAnswer, Unchanged, CodeRefusalLeaves}
+use Rattle.server.specs.Runs.{Step, MeetsCall, stateAfter, storeAfter, CodeRun, endState, endStore, EveryStep, asCall, RuleRun, IsARun, CodeIsARun}
+use Rattle.server.specs.Runs.{ended, isAccepted, Accepted, heardAt, heardOver, turnsOver, turnsOf, askedOver, acceptedOver, acceptedSteps}
+use Rattle.server.specs.Runs.{CodeAsOneAtATime, CodeDemand3, CodeAsLent, CodeRefusedDropOut, CodeOnlyExpiry, CodeWhileLocked, CodeBetweenLockAndUnlock, CodeNeverRefused3, CodePromises}
+use Rattle.server.proofs.OutcomeLaws.{outcomes-read}
+use Rattle.server.proofs.CallLaws.{sound-passed}
+
+-- ## One call
+
+pub no-second-answer : NoSecondAnswer
+no-second-answer state store payload reading answers signature buffer a b m n =
+    let called = one-answer Called _ _ _ (m .called-is) (n .called-is) in
+    let bytes = one-answer (List ℕ) _ _ _ (m .store-is) (n .store-is) in
+    let reply = one-answer (List ℕ) _ _ _ (m .reply-is) (n .reply-is) in
+    λ j. record { called = called j; store = bytes j; reply = reply j }
+
+-- the contract as one equation
+meets-is : (state : State) (store payload : List ℕ) (reading : Millis) (answers : Answers) (signature buffer : List ℕ) (done : Done)
+    → Meets state store payload reading answers signature buffer done → done ≡ callOf state store payload reading answers signature buffer
+meets-is state store payload reading answers signature buffer done m =
+    no-second-answer state store payload reading answers signature buffer _ _ m (record { called-is = refl; store-is = refl; reply-is = refl })
+
+-- a call that is served is not refused
+served-not-refused : (buffer : List ℕ) (done : Done) (g : Gateway) (frame : Frame) (answers : calls.Answers) (n : ℕ)
+    → done ≡ laidOut buffer (served g frame answers) → done .called .outcome ≢ Refused n
+unfolding served outcomeOf
+served-not-refused buffer done g frame answers n is e =
+    let r = served g frame answers in
+    let says : code (r .outcome) ≡ Refused n = ap (λ (d : Done). d .called .outcome) (sym is) ∙ e in
+    follow-not-refused (lent answers) g (plan g (frame .payload)) n
+    (sym (outcomes-read (r .outcome) buffer) ∙ ap (λ o. outcomeOf o (written (r .outcome) buffer)) says)
+
+-- a call's refusal, and what it gives then
+abbrev refusalHere : State → (store payload : List ℕ) → Answers → (signature buffer : List ℕ) → Option ℕ
+refusalHere state store payload answers signature buffer =
+    refusalOf (length buffer) (length store) (soundState state store) (length payload) (lentLength (lentOf answers signature .signature))
+
+abbrev refusedDone : State → (store buffer : List ℕ) → ℕ → Done
+refusedDone state store buffer n = record { called = record { outcome = Refused n; state = state }; store = store; reply = buffer }
+
+pub code-refusal-leaves : CodeRefusalLeaves
+unfolding callOf
+code-refusal-leaves state store payload reading answers signature buffer done n m e =
+    by (refusalHere state store payload answers signature buffer) _ _ _ (meets-is state store payload reading answers signature buffer done m)
+  where
+    by : (o : Option ℕ) (g : Gateway) (frame : Frame) (lent : calls.Answers)
+        → done ≡ given o (laidOut buffer (served g frame lent)) (refusedDone state store buffer) → Unchanged state store buffer done
+    by none g frame lent is = absurd (served-not-refused buffer done g frame lent n is e)
+    by (some number) g frame lent is = rw is (record { state-stays = refl; store-stays = refl; buffer-stays = refl })
+
+-- a step ended as the rule's result
+abbrev StepEnds : Step → Result → Type 0
+StepEnds k r = Ends (k .buffer) (k .done .called) (k .done .store) (k .done .reply) r
+
+-- what the rule leaves sound is meant by its layout
+laid-ends : (k : Step) (r : Result) → rule.Sound (r .gateway) → k .done ≡ laidOut (k .buffer) r → StepEnds k r
+laid-ends k r h e = rw e (record { outcome = refl; means = every-gateway (r .gateway) h; bytes = refl })
+
+module _ (state : State) (store : List ℕ) (S : Sound state store) (k : Step) where
+  abbrev meant : Gateway
+  meant = gatewayOf state store
+
+  refused-ends : (n : ℕ) → k .done ≡ refusedDone state store (k .buffer) n → StepEnds k (record { outcome = refused n; gateway = meant })
+  unfolding code written
+  refused-ends n e = rw e (record { outcome = refl; means = record { gateway = refl; sound = S }; bytes = refl })
+
+  same-refusal : refusalHere state store (k .payload) (k .answers) (k .signature) (k .buffer) ≡ refusal meant (asCall k)
+  unfolding refusal
+  same-refusal =
+      let ruled = sound-rule meant .1 (sound-meaning state store S) in
+      rw (S .store-size, sound-passed state store S, ruled)
+
+  by-refusal : (o : Option ℕ) (r : Result) → rule.Sound (given o r (λ n. record { outcome = refused n; gateway = meant }) .gateway)
+      → k .done ≡ given o (laidOut (k .buffer) r) (refusedDone state store (k .buffer)) → StepEnds k (given o r λ n. record { outcome = refused n; gateway = meant })
+  by-refusal none r h e = laid-ends k r h e
+  by-refusal (some n) r h e = refused-ends n e
+
+  step-ends : MeetsCall state store k → StepEnds k (call meant (asCall k))
+  unfolding call callOf
+  step-ends m =
+      let answers = lentOf (k .answers) (k .signature) in
+      let r = served (advance (k .reading .count) meant) (record { payload = k .payload }) answers in
+      let is = meets-is state store (k .payload) (k .reading) (k .answers) (k .signature) (k .buffer) (k .done) m in
+      by-refusal (refusal meant (asCall k)) r (calls-keep-sound meant (asCall k) (sound-meaning state store S))
+      (is ∙ ap (λ (o : Option ℕ). given o (laidOut (k .buffer) r) (refusedDone state store (k .buffer))) same-refusal)
+
+-- ## The run
+
+record Lifted (state : State) (store : List ℕ) (g : Gateway) (ks : List Step) : Type 0 where
+  calls : RuleRun g ks
+  end : Means (endState state ks) (endStore store ks) (endOf g (map asCall ks))
+
+lift : (ks : List Step) (state : State) (store : List ℕ) (g : Gateway) → Means state store g → CodeRun state store ks → Lifted state store g ks
+unfolding endState endStore endOf
+lift [] state store g m run = record { calls = tt; end = m }
+lift (k ∷ ks) state store g m run =
+    let e = subst (λ (g : Gateway). StepEnds k (call g (asCall k))) (m .gateway) (step-ends state store (m .sound) k (run .0)) in
+    let rest = lift ks (stateAfter k) (storeAfter k) (call g (asCall k) .gateway) (e .means) (run .1) in
+    record { calls = (e, rest .calls); end = rest .end }
+
+pub code-is-a-run : CodeIsARun
+code-is-a-run state store ks S run =
+    let l = lift ks state store (gatewayOf state store) (record { gateway = refl; sound = S }) run in
+    record { calls = l .calls; end = l .end }
+
+-- ## Read off the code's results
+
+-- a step's outcome and reply say how the rule's call ended
+ended-is : (k : Step) (r : Result) → StepEnds k r → ended k ≡ r .outcome
+ended-is k r e = rw (e .outcome, e .bytes) (outcomes-read (r .outcome) (k .buffer))
+
+-- the rule accepts what its outcome says is accepted
+accepts : {A : Type 0} (g : Gateway) (c : Call) (z a : A) → so z (isAccepted (call g c .outcome)) a ≡ given (refusal g c) a λ n. z
+unfolding so isAccepted
+accepts {A} g c z a =
+    own-cases g c (λ (o : Option ℕ) (r : Result). so z (isAccepted (r .outcome)) a ≡ given o a (λ n. z)) (λ n. refl) (λ q needs. refl) refl
+
+accepted-if : (g : Gateway) (c : Call) → refusal g c ≡ none → isAccepted (call g c .outcome) ≡ true
+unfolding isAccepted
+accepted-if g c =
+    own-cases g c (λ (o : Option ℕ) (r : Result). o ≡ none → isAccepted (r .outcome) ≡ true) (λ n never. absurd (some-not-none never)) (λ q needs _. refl) (λ _. refl)
+
+module _ (k : Step) (g : Gateway) (e : StepEnds k (call g (asCall k))) where
+  accepts-step : {A : Type 0} (z a : A) → so z (isAccepted (ended k)) a ≡ given (refusal g (asCall k)) a λ n. z
+  accepts-step z a = rw (ended-is k (call g (asCall k)) e) (accepts g (asCall k) z a)
+
+  heard-is : (m : ℕ) → heardAt m k ≡ heard m g (asCall k)
+  unfolding heard
+  heard-is m = accepts-step m (max m (k .reading .count))
+
+-- what is read off a run is what the rule's run has
+record Reads (m : ℕ) (a b : Bool) (g : Gateway) (ks : List Step) : Type 0 where
+  turns-are : turnsOver m ks ≡ turnsFrom m g (map asCall ks)
+  heard-are : heardOver m ks ≡ heardIn m g (map asCall ks)
+  asked-are : askedOver a ks ≡ askedIn a g (map asCall ks)
+  accepted-are : acceptedOver b ks ≡ someAccepted b g (map asCall ks)
+
+reads : (ks : List Step) (m : ℕ) (a b : Bool) (g : Gateway) → RuleRun g ks → Reads m a b g ks
+unfolding turnsOver turnsFrom heardOver heardIn askedOver askedIn acceptedOver someAccepted
+reads [] m a b g run = record { turns-are = refl; heard-are = refl; asked-are = refl; accepted-are = refl }
+reads (k ∷ ks) m a b g run =
+    let c = asCall k in
+    let e = ended-is k (call g c) (run .0) in
+    let h = heard-is k g (run .0) m in
+    let s = accepts-step k g (run .0) b true in
+    let rest = reads ks (heard m g c) (asked a (call g c .outcome)) (given (refusal g c) true λ n. b) (call g c .gateway) (run .1) in
+    record {
+      turns-are = rw (h, e, rest .turns-are);
+      heard-are = rw h (rest .heard-are);
+      asked-are = rw e (rest .asked-are);
+      accepted-are = rw s (rest .accepted-are);
+    }
+
+-- ## Refused steps drop out
+
+refused-by-name : (o : Outcome) (reply : List ℕ) → isAccepted (outcomeOf o reply) ≡ false → (n : ℕ) × (o ≡ Refused n)
+unfolding isAccepted outcomeOf
+refused-by-name (Refused n) reply e = (n, refl)
+refused-by-name (Gate class) reply e = absurd (true-not-false e)
+refused-by-name (Check from to) reply e = absurd (true-not-false e)
+refused-by-name (Confirm n) reply e = absurd (true-not-false e)
+refused-by-name (Sign n from to hash) reply e = absurd (true-not-false e)
+refused-by-name (Reply n) reply e = absurd (true-not-false e)
+refused-by-name Close reply e = absurd (true-not-false e)
+
+-- two runs come to the same
+record Alike (m : ℕ) (state : State) (store : List ℕ) (xs ks : List Step) : Type 0 where
+  run : CodeRun state store xs
+  same-turns : turnsOver m xs ≡ turnsOver m ks
+  same-heard : heardOver m xs ≡ heardOver m ks
+  same-state : endState state xs ≡ endState state ks
+  same-store : endStore store xs ≡ endStore store ks
+
+module _ (m : ℕ) (state : State) (store : List ℕ) (k : Step) (xs ks : List Step) (meets : MeetsCall state store k) where
+  alike-with : Alike (heardAt m k) (stateAfter k) (storeAfter k) xs ks → Alike m state store (k ∷ xs) (k ∷ ks)
+  unfolding turnsOver heardOver endState endStore
+  alike-with a = record { run = (meets, a .run); same-turns = rw (a .same-turns); same-heard = a .same-heard; same-state = a .same-state; same-store = a .same-store }
+
+  alike-without : (n : ℕ) → k .done .called .outcome ≡ Refused n → Unchanged state store (k .buffer) (k .done) → Alike m state store xs ks → Alike m state store xs (k ∷ ks)
+  unfolding turnsOver heardOver endState endStore turn so isAccepted outcomeOf
+  alike-without n e u a = record {
+    run = a .run;
+    same-turns = rw e (a .same-turns);
+    same-heard = rw e (a .same-heard);
+    same-state = rw (u .state-stays) (a .same-state);
+    same-store = rw (u .store-stays) (a .same-store);
+  }
+
+drop-out : (ks : List Step) (m : ℕ) (state : State) (store : List ℕ) → CodeRun state store ks → Alike m state store (acceptedSteps ks) ks
+unfolding acceptedSteps
+drop-out [] m state store run = record { run = tt; same-turns = refl; same-heard = refl; same-state = refl; same-store = refl }
+drop-out (k ∷ ks) m state store run =
+    so-cases (λ xs. Alike m state store xs (k ∷ ks)) (isAccepted (ended k))
+    (λ _. alike-with m state store k _ ks (run .0) (drop-out ks (heardAt m k) (stateAfter k) (storeAfter k) (run .1)))
+    (λ no-step.
+    let (n, e) = refused-by-name (k .done .called .outcome) (k .done .reply) no-step in
+    let u = code-refusal-leaves state store (k .payload) (k .reading) (k .answers) (k .signature) (k .buffer) (k .done) n (run .0) e in
+    alike-without m state store k _ ks (run .0) n e u (drop-out ks m state store (rw (u .state-stays, u .store-stays) at (run .1))))
+
+pub code-refused-drop-out : CodeRefusedDropOut
+code-refused-drop-out state store ks run =
+    let a = drop-out ks 0 state store run in
+    record { still-a-run = a .run; landings-stay = a .same-turns; greatest-stays = a .same-heard; state-stays = a .same-state; store-stays = a .same-store }
+
+-- ## The promises, carried over
+
+kept-steps : (P : Call → Type 0) (ks : List Step) (g : Gateway) → RuleRun g ks → EveryStep (λ k. Accepted k → P (asCall k)) ks → EveryAccepted P g (map asCall ks)
+kept-steps P [] g run keeps = tt
+kept-steps P (k ∷ ks) g run keeps = (
+  (λ e. keeps .0 (ap isAccepted (ended-is k (call g (asCall k)) (run .0)) ∙ accepted-if g (asCall k) e)),
+  kept-steps P ks (call g (asCall k) .gateway) (run .1) (keeps .1),
+)
+
+asked-steps : (P : Call → Question → Type 0) (ks : List Step) (g : Gateway) → RuleRun g ks → EveryQuestion P g (map asCall ks)
+    → EveryStep (λ k. (q : Question) → ended k ≡ asks q → P (asCall k) q) ks
+asked-steps P [] g run all = tt
+asked-steps P (k ∷ ks) g run all = (
+  (λ q e. all .0 q (sym (ended-is k (call g (asCall k)) (run .0)) ∙ e)),
+  asked-steps P ks (call g (asCall k) .gateway) (run .1) (all .1),
+)
+
+module _ (state : State) (store : List ℕ) (ks : List Step) (is : IsARun state store ks) where
+  abbrev start : Gateway
+  start = gatewayOf state store
+
+  abbrev asCalls : List Call
+  asCalls = map asCall ks
+
+  as-read : Reads 0 false false start ks
+  as-read = reads ks 0 false false start (is .calls)
+
+  as-one-at-a-time : (frameOf : Call → Frame) (oracleOf : Call → Oracle) → AsOneAtATime frameOf oracleOf start asCalls → CodeAsOneAtATime frameOf oracleOf state store ks
+  as-one-at-a-time frameOf oracleOf one =
+      let r = as-read in
+      record {
+        replies = rw (r .turns-are) (one .replies);
+        end-states = rw (r .turns-are, r .heard-are, is .end .gateway) (one .end-states);
+        exactly = rw (r .turns-are, r .heard-are, r .asked-are, ← one .exactly) (is .end);
+      }
+
+  only-expiry : OnlyExpiry start asCalls → CodeOnlyExpiry state store ks
+  only-expiry only =
+      let r = as-read in
+      record {
+        all-fail = rw (r .turns-are) (only .all-fail);
+        only-expiry = rw (r .heard-are, is .end .gateway) (only .only-expiry);
+        exactly = rw (r .heard-are, r .accepted-are, ← only .exactly) (is .end);
+        only-gate-7 = asked-steps (λ c q. (q ≡ gate 7) × Begins 23 (c .frame .payload)) ks start (is .calls) (only .only-gate-7);
+      }
+
+  while-locked : locked start ≡ true → NoUnlocking (turnsOf ks) → CodeOnlyExpiry state store ks
+  while-locked h no-unlocking = only-expiry (locks.while-locked start asCalls h (rw (as-read .turns-are) at no-unlocking))
+
+pub code-demand-3 : CodeDemand3
+code-demand-3 frames oracles state store ks S run keeps =
+    let is = code-is-a-run state store ks S run in
+    let g = gatewayOf state store in
+    as-one-at-a-time state store ks is _ _
+    (demands.demand-3 frames oracles g (map asCall ks) (sound-meaning state store S) (kept-steps (Keeps (λ c. frames (c .request)) (λ c. oracles (c .request))) ks g (is .calls) keeps))
+
+pub code-as-lent : CodeAsLent
+code-as-lent state store ks S run =
+    as-one-at-a-time state store ks (code-is-a-run state store ks S run) ownFrame ownAnswers (demands.as-lent (gatewayOf state store) (map asCall ks))
+
+pub code-while-locked : CodeWhileLocked
+code-while-locked state store ks S run = while-locked state store ks (code-is-a-run state store ks S run)
+
+pub code-between-lock-and-unlock : CodeBetweenLockAndUnlock
+code-between-lock-and-unlock state store [] lock ks passphrase S run begins carries some-byte e no-unlocking =
+    let g = gatewayOf state store in
+    let step = step-ends state store S lock (run .0) in
+    let stored = locks.lock-stores g (asCall lock) passphrase begins carries (sym (ended-is lock (call g (asCall lock)) step) ∙ e) in
+    let h : locked (gatewayOf (stateAfter lock) (storeAfter lock)) ≡ true = rw (step .means .gateway, stored) (lt-ltb _ _ some-byte) in
+    code-while-locked (stateAfter lock) (storeAfter lock) ks (step .means .sound) (run .1) h no-unlocking
+code-between-lock-and-unlock state store (k ∷ before) lock ks passphrase S run begins carries some-byte e no-unlocking =
+    let sound = step-ends state store S k (run .0) .means .sound in
+    code-between-lock-and-unlock (stateAfter k) (storeAfter k) before lock ks passphrase sound (run .1) begins carries some-byte e no-unlocking
+
+-- ## Refusals that never occur
+
+refused-steps : (n : ℕ) (ks : List Step) (g : Gateway) → RuleRun g ks → EveryOutcome (λ o. o ≢ refused n) g (map asCall ks) → EveryStep (λ k. k .done .called .outcome ≢ Refused n) ks
+unfolding outcomeOf
+refused-steps n [] g run all = tt
+refused-steps n (k ∷ ks) g run all = (
+  (λ e. all .0 (sym (ended-is k (call g (asCall k)) (run .0)) ∙ ap (λ o. outcomeOf o (k .done .reply)) e)),
+  refused-steps n ks (call g (asCall k) .gateway) (run .1) (all .1),
+)
+
+-- a store of the right length is not refused
+not-2 : (buffer payload lentBytes : ℕ) (isSound : Bool) → refusalOf buffer 32768 isSound payload lentBytes ≢ some 2
+unfolding refusalOf so
+not-2 buffer payload lentBytes isSound =
+    so-cases Not (leb 8265 buffer)
+    (λ _.
+    so-cases Not isSound
+    (λ _.
+    so-cases Not (leb payload 262144)
+    (λ _. so-cases Not (leb lentBytes 2048) (λ _ never. some-not-none (sym never)) (λ _. other 5 (omega arith)))
+    (λ _. other 4 (omega arith)))
+    (λ _. other 3 (omega arith)))
+    (λ _. other 1 (omega arith))
+  where
+    Not : Option ℕ → Type 0
+    Not o = o ≢ some 2
+
+    other : (n : ℕ) → n ≢ 2 → Not (some n)
+    other n d e = let is : n ≡ 2 = cc in d is
+
+never-2 : (ks : List Step) (g : Gateway) → EveryOutcome (λ o. o ≢ refused 2) g (map asCall ks)
+unfolding refusal
+never-2 [] g = tt
+never-2 (k ∷ ks) g = ((λ e. not-2 _ _ _ _ (refused-by g (asCall k) 2 e)), never-2 ks (call g (asCall k) .gateway))
+
+pub code-never-refused-3 : CodeNeverRefused3
+code-never-refused-3 state store ks S run =
+    let is = code-is-a-run state store ks S run in
+    let g = gatewayOf state store in
+    record {
+      never-3 = refused-steps 3 ks g (is .calls) (never-refused-3 g (map asCall ks) (sound-meaning state store S) .0);
+      never-2 = refused-steps 2 ks g (is .calls) (never-2 ks g);
+      end-sound = is .end .sound;
+    }
+
+-- ## All of them
+
+pub code-promises : CodePromises
+code-promises = record {
+  no-second-answer = no-second-answer;
+  refusal-leaves = code-refusal-leaves;
+  is-a-run = code-is-a-run;
+  demand-3 = code-demand-3;
+  as-lent = code-as-lent;
+  refused-drop-out = code-refused-drop-out;
+  while-locked = code-while-locked;
+  between-lock-and-unlock = code-between-lock-and-unlock;
+  never-refused-3 = code-never-refused-3;
+}
