@@ -1,4 +1,4 @@
-// What is done with a sound state and asked of it. A place that is none is 8, an answer that there is not 99.
+// What is done with a sound state, and asked of it. Where there is no place the answer is 8, where there is nothing to answer 99.
 use keys::constraints::Lifetime;
 use rule::Found;
 use rule::Millis;
