@@ -12,6 +12,7 @@ use borrow.Rule.Slice.PartMut.{midOf, putMid}
 use lib.Dec.{eqb}
 use lib.ListN.{length, take, drop, getD, set, replicate, length-append, length-drop, length-replicate, drop-of-length-le, take-append-drop, replicate-append-replicate}
 use lib.Seq.{drop-cons, take-all, take-at, drop-at, length-take-le, take-append-seam, drop-append-seam}
+use Rattle.wire.specs.Read.{same}
 use Rattle.rule.proofs.Cases.{and-left, and-right, both-true}
 use Rattle.table.specs.Bytes.{allZero, Zeros, greatest, padded}
 
@@ -125,3 +126,19 @@ front-padded n bs zs front h z e =
     replicate-append-replicate (length bs) (n - length bs) 0 ∙ ap (λ (m : ℕ). replicate m 0) all in
     let rest = drop-at {A = ℕ} (replicate (length bs) 0) (replicate (n - length bs) 0) (length bs) (length-replicate {A = ℕ} (length bs) 0) in
     rw (e, z, ← split) (ap (λ (r : List ℕ). bs ++ r) rest)
+
+-- ## Comparison
+
+-- what is known of the bytes before i, and of those from i on
+abbrev pub sameAlong : Bool → ℕ → List ℕ → List ℕ → Bool
+sameAlong e i a b = e && same (drop i a) (drop i b)
+
+pub equal-step : (a b : List ℕ) (i : ℕ) (e : Bool) → i < length a → i < length b → sameAlong e i a b ≡ sameAlong (e && eqb (getD a i 0) (getD b i 0)) (i + 1) a b
+unfolding same
+equal-step a b i true h k = rw (add-one, drop-cons a i 0 h, drop-cons b i 0 k)
+equal-step a b i false h k = refl
+
+pub equal-end : (a b : List ℕ) (i : ℕ) (e : Bool) → length a ≤ i → length b ≤ i → sameAlong e i a b ≡ e
+unfolding same
+equal-end a b i true h k = rw (drop-of-length-le a h, drop-of-length-le b k)
+equal-end a b i false h k = refl

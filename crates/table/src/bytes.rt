@@ -1,7 +1,9 @@
-// Whole parts: zeroed, copied, padded, tested for zero.
+// Whole parts: zeroed, copied, padded, tested for zero, compared.
 ghost use mathlib.Core.Path.{_≡_};
+ghost use mathlib.Core.Bool.{_&&_};
 ghost use Prim.Native.Nat.{_≤_, max};
 ghost use lib.ListN.{length, replicate};
+ghost use Rattle.wire.specs.Read.{same};
 ghost use Rattle.table.specs.Bytes.{allZero, greatest, padded};
 
 // All bytes of the part become zero.
@@ -63,4 +65,29 @@ pub fn is_zero(p: &[u8]) -> bool
     ensures { λ r. ⌜ r ≡ allZero (now (p .entry)) ⌝ }
 {
     greatest_byte(p) == 0
+}
+
+fn both(a: bool, b: bool) -> bool
+    ensures { λ r. ⌜ r ≡ a && b ⌝ }
+{
+    if a {
+        return b;
+    }
+    false
+}
+
+// Goes over all bytes with no early exit, as above: parts that differ late cost no more than others.
+pub fn is_equal(a: &[u8], b: &[u8]) -> bool
+    ensures { λ r. ⌜ r ≡ same (now (a .entry)) (now (b .entry)) ⌝ }
+{
+    if a.len() != b.len() {
+        return false;
+    }
+    let mut equal = true;
+    let mut i = 0;
+    while i < a.len() {
+        equal = both(equal, a[i] == b[i]);
+        i += 1;
+    }
+    equal
 }

@@ -2,10 +2,10 @@
 use crate::Entry;
 use crate::LockRecord;
 use crate::State;
+use crate::bytes::is_equal;
 use crate::bytes::is_zero;
 use crate::places::bytes_at;
 use rule::Millis;
-use wire::read::is_same;
 ghost use mathlib.Core.Path.{_≡_};
 ghost use mathlib.Core.Option.{none};
 ghost use mathlib.Core.List.{[], _∷_};
@@ -124,7 +124,7 @@ fn is_apart(e: Entry, p: &[u8], f: Entry, q: &[u8]) -> bool
     }
     let n = e.blob_len;
     let m = f.blob_len;
-    !is_same(&p[..n], &q[..m])
+    !is_equal(&p[..n], &q[..m])
 }
 
 // Place i is unlike all places behind it.

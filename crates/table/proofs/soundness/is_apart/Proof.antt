@@ -16,4 +16,4 @@ is-apart-spec =
     (λ c. sym (length-take-le _ _ (c .before .before .before .before .before .before .before .before .before .before .pre .0)))
     (λ c. sym (length-take-le _ _ (c .before .before .before .before .before .before .before .before .before .before .before .pre .1)))
     (λ c κs. search needs)
-    (λ c. apart-blob _ _ _ _ (c .before .before .before .before .before .before .before .before .if1 .left) (c .before .before .before .before .before .before .if2 .left) (c .before .before .before .if3 .left) _ (c .is-same .ensures)))
+    (λ c. apart-blob _ _ _ _ (c .before .before .before .before .before .before .before .before .if1 .left) (c .before .before .before .before .before .before .if2 .left) (c .before .before .before .if3 .left) _ (c .is-equal .ensures)))

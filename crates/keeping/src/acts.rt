@@ -1,0 +1,175 @@
+// What is done with a sound state, and asked of it. Where there is no place the answer is 8, where there is nothing to answer 99.
+use keys::constraints::Lifetime;
+use rule::Found;
+use rule::Millis;
+use table::Entry;
+use table::State;
+use table::bytes::is_zero;
+use table::changes;
+use table::locks;
+use table::places;
+use wire::Seconds;
+ghost use Rattle.table.specs.Soundness.{Sound};
+
+pub struct Done {
+    pub answer: u64,
+    pub state: State,
+}
+
+pub fn number_of(yes: bool) -> u64 {
+    if yes {
+        return 1;
+    }
+    0
+}
+
+pub fn unanswered(state: State) -> Done {
+    Done { answer: 99, state }
+}
+
+pub fn lifetime_of(limited: bool, seconds: u32) -> Lifetime {
+    if limited {
+        return Lifetime::For(Seconds { count: seconds });
+    }
+    Lifetime::Forever
+}
+
+pub fn advance(state: State, store: &mut [u8], reading: u32) -> Done
+    requires { ⌜ Sound state (now store) ⌝ }
+{
+    let after = changes::advance(
+        state,
+        store,
+        Millis {
+            count: reading as u64,
+        },
+    );
+    Done {
+        answer: 0,
+        state: after,
+    }
+}
+
+// Answers the place that the key went to.
+pub fn put(
+    state: State,
+    store: &mut [u8],
+    lifetime: Lifetime,
+    confirm: bool,
+    blob: &[u8],
+    fields: &[u8],
+) -> Done
+    requires { ⌜ Sound state (now store) ⌝ }
+{
+    if blob.len() < 1 {
+        return unanswered(state);
+    }
+    if 1024 < blob.len() {
+        return unanswered(state);
+    }
+    if fields.len() < 1 {
+        return unanswered(state);
+    }
+    if 3072 < fields.len() {
+        return unanswered(state);
+    }
+    if 0xffff_ffff_ffff_ffff <= state.next {
+        return unanswered(state);
+    }
+    match places::place_for(state, store, blob) {
+        Found::Nothing => Done { answer: 8, state },
+        Found::At(i) => {
+            let after = changes::put(state, store, i, lifetime, confirm, blob, fields);
+            Done {
+                answer: i as u64,
+                state: after,
+            }
+        }
+    }
+}
+
+pub fn remove(state: State, store: &mut [u8], place: usize) -> Done
+    requires { ⌜ Sound state (now store) ⌝ }
+{
+    if 8 <= place {
+        return unanswered(state);
+    }
+    let after = changes::remove(state, store, place);
+    Done {
+        answer: 0,
+        state: after,
+    }
+}
+
+pub fn remove_all(state: State, store: &mut [u8]) -> Done
+    requires { ⌜ Sound state (now store) ⌝ }
+{
+    let after = changes::remove_all(state, store);
+    Done {
+        answer: 0,
+        state: after,
+    }
+}
+
+pub fn lock(state: State, passphrase: &[u8]) -> Done {
+    if 1024 < passphrase.len() {
+        return unanswered(state);
+    }
+    let after = locks::with_lock(state, passphrase);
+    Done {
+        answer: 0,
+        state: after,
+    }
+}
+
+// The place that holds the blob.
+pub fn find(state: State, store: &[u8], blob: &[u8]) -> u64
+    requires { ⌜ Sound state (now store) ⌝ }
+{
+    match places::find(state, store, blob) {
+        Found::At(i) => i as u64,
+        Found::Nothing => 8,
+    }
+}
+
+pub fn is_passphrase(state: State, store: &[u8], passphrase: &[u8]) -> u64
+    requires { ⌜ Sound state (now store) ⌝ }
+{
+    number_of(locks::is_passphrase(state, passphrase))
+}
+
+// What is kept of an entry, by the number of the part.
+fn part_of(e: Entry, part: u8) -> u64 {
+    match part {
+        1 => e.number,
+        2 => e.reading.count,
+        3 => number_of(e.limited),
+        4 => e.seconds.count as u64,
+        5 => number_of(e.confirm),
+        6 => e.blob_len as u64,
+        7 => e.fields_len as u64,
+        _ => 99,
+    }
+}
+
+pub fn entry_part(state: State, place: usize, part: u8) -> u64 {
+    if 8 <= place {
+        return 99;
+    }
+    let es = state.entries;
+    let e = es[place];
+    part_of(e, part)
+}
+
+pub fn is_place_zero(state: State, store: &[u8], place: usize) -> u64
+    requires { ⌜ Sound state (now store) ⌝ }
+{
+    if 8 <= place {
+        return 99;
+    }
+    number_of(is_zero(places::bytes_at(store, place)))
+}
+
+pub fn lock_length(state: State) -> u64 {
+    state.lock.len as u64
+}
