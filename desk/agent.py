@@ -526,11 +526,11 @@ def main():
             panel_listener = listen(options.panel)
             made.append(options.panel)
             threading.Thread(target=panel.serve, args=(panel_listener,), daemon=True).start()
-        if 'ask' in (options.gate, options.confirm):
-            threading.Thread(target=panel.read_terminal, daemon=True).start()
         threading.Thread(target=agent.tick, daemon=True).start()
         terminal.say(f'export SSH_AUTH_SOCK={options.socket}')
         terminal.say(f'agent: gate {options.gate}, confirm {options.confirm}; Ctrl-C ends it and removes the socket')
+        if 'ask' in (options.gate, options.confirm):
+            threading.Thread(target=panel.read_terminal, daemon=True).start()
         threading.Thread(target=agent.serve, args=(listener,), daemon=True).start()
         signal.sigwait(ends)
     finally:
