@@ -20,7 +20,7 @@ use Rattle.server.specs.declared.Answers.{Answers}
 use Rattle.server.specs.declared.Called.{Called}
 use Rattle.server.specs.declared.Outcome.the-variants.{Refused}
 use Rattle.server.specs.Outcomes.{signatureOf, lentOf}
-use Rattle.server.specs.Calls.{laidOut, callOf, Ends}
+use Rattle.server.specs.Calls.{laidOut, callOf, Ends, EndsDecides}
 
 -- ## Soundness, as the test tells it
 
@@ -38,6 +38,12 @@ laid buffer r x out result h =
     let c = sound-canonical (r .state) x (h .means .sound) in
     let g = h .means .gateway in
     ((λ j. record { outcome = h .outcome j; state = (c .state ∙ ap stateOf g) j }), c .store ∙ ap layout g, h .bytes)
+
+pub ends-decides : EndsDecides
+ends-decides buffer result r s x y out other a b =
+    let l = laid buffer r x out result a in
+    let m = laid buffer s y other result b in
+    (l .0 ∙ sym (m .0), l .1 ∙ sym (m .1), l .2 ∙ sym (m .2))
 
 module _ (s : State) (x p : List ℕ) (t : Millis) (answers : Answers) (bytes buffer : List ℕ) where
   abbrev pub refusalHere : Option ℕ
