@@ -1,0 +1,73 @@
+-- What the flat values stand for: 01's numbers and values in the place of each enum.
+use Prim.Native.Nat.{ℕ, _+_}
+use mathlib.Core.Bool.{true, false}
+use mathlib.Core.List.{List}
+use lib.ListN.{length}
+use lib.Dec.{eqb}
+use Rattle.wire.specs.declared.Split.{Split}
+use Rattle.wire.specs.declared.Split.the-variants.{MoreNeeded, TooLong, Frame}
+use Rattle.wire.specs.Steps.{so}
+use Rattle.wire.specs.Frames.{splitOf, payloadOf}
+use Rattle.server.specs.declared.Said.{Said}
+use Rattle.server.specs.declared.Said.the-variants as said
+use Rattle.server.specs.declared.Confirmed.{Confirmed}
+use Rattle.server.specs.declared.Confirmed.the-variants as confirmed
+use Rattle.server.specs.declared.Signed.{Signed}
+use Rattle.server.specs.declared.Signed.the-variants as signed
+use Rattle.server.specs.declared.Answers.{Answers}
+use Rattle.server.specs.declared.Outcome.{Outcome}
+use Rattle.server.specs.declared.Outcome.the-variants.{Refused, Gate, Check, Confirm, Sign, Reply, Close}
+use Rattle.server.specs.Outcomes.{hashBits}
+use Rattle.gateway.specs.declared.flat.FlatAnswers.{FlatAnswers}
+use Rattle.gateway.specs.declared.flat.FlatOutcome.{FlatOutcome}
+use Rattle.gateway.specs.declared.flat.FlatSplit.{FlatSplit}
+
+-- ## Answers: 1 is no, 2 is yes, any other number is no answer
+
+-- what a number comes to, of three
+abbrev pub told : {A : Type 0} → ℕ → A → A → A → A
+told n denied granted missing = so (so missing (eqb n 2) granted) (eqb n 1) denied
+
+unfoldable pub saidOf : ℕ → Said
+saidOf n = told n said.No said.Yes said.Missing
+
+unfoldable pub confirmedOf : ℕ → ℕ → Confirmed
+confirmedOf n number = told n (confirmed.Given number false) (confirmed.Given number true) confirmed.Missing
+
+unfoldable pub signedOf : ℕ → ℕ → Signed
+signedOf n number = told n (signed.Nothing number) (signed.Given number) signed.Missing
+
+unfoldable pub answersOf : FlatAnswers → Answers
+answersOf a = record {
+  gate = saidOf (a .gate);
+  check = saidOf (a .check);
+  confirmation = confirmedOf (a .confirmation) (a .«confirmation_number»);
+  signature = signedOf (a .signature) (a .«signature_number»);
+}
+
+-- ## The outcome: its kind and values, 0 in the fields that it does not use
+
+abbrev pub numbered : ℕ → ℕ → FlatOutcome
+numbered kind n = record { kind = kind; hash = 0; number = n; from = 0; to = 0 }
+
+abbrev pub part : ℕ → ℕ → ℕ → FlatOutcome
+part kind from to = record { kind = kind; hash = 0; number = 0; from = from; to = to }
+
+unfoldable pub flatOf : Outcome → FlatOutcome
+flatOf (Refused n) = numbered 0 n
+flatOf (Gate class) = numbered 1 class
+flatOf (Check from to) = part 2 from to
+flatOf (Confirm n) = numbered 3 n
+flatOf (Sign n from to hash) = record { kind = 4; hash = hashBits hash; number = n; from = from; to = to }
+flatOf (Reply n) = part 5 0 n
+flatOf Close = part 6 0 0
+
+-- ## The split: 0 more needed, 1 too long, 2 a whole frame; where its payload lies
+
+unfoldable pub splitAs : Split → ℕ → FlatSplit
+splitAs MoreNeeded n = record { kind = 0; from = 0; to = 0 }
+splitAs TooLong n = record { kind = 1; from = 0; to = 0 }
+splitAs Frame n = record { kind = 2; from = 4; to = 4 + n }
+
+unfoldable pub flatSplit : List ℕ → FlatSplit
+flatSplit s = splitAs (splitOf s) (length (payloadOf s))

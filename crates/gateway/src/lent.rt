@@ -1,0 +1,24 @@
+// The thin form: the state is lent by the gateway's loop, and altered there.
+use rule::Millis;
+use server::Answers;
+use server::Outcome;
+use server::call::call;
+use table::State;
+ghost use mathlib.Core.Path.{_≡_};
+ghost use Rattle.server.specs.Calls.{calledOf, storeOf, replyOf};
+
+pub fn serve(
+    state: &mut State,
+    store: &mut [u8],
+    payload: &[u8],
+    reading: Millis,
+    answers: Answers,
+    signature: &[u8],
+    reply: &mut [u8],
+) -> Outcome
+    ensures { λ r. ⌜ (r ≡ calledOf (now (state .entry)) (now (store .entry)) (now (payload .entry)) reading answers (now (signature .entry)) (now (reply .entry)) .outcome) × (now (state .exit) ≡ calledOf (now (state .entry)) (now (store .entry)) (now (payload .entry)) reading answers (now (signature .entry)) (now (reply .entry)) .state) × (now (store .exit) ≡ storeOf (now (state .entry)) (now (store .entry)) (now (payload .entry)) reading answers (now (signature .entry)) (now (reply .entry))) × (now (reply .exit) ≡ replyOf (now (state .entry)) (now (store .entry)) (now (payload .entry)) reading answers (now (signature .entry)) (now (reply .entry))) ⌝ }
+{
+    let r = call(*state, store, payload, reading, answers, signature, reply);
+    *state = r.state;
+    r.outcome
+}

@@ -1,0 +1,4 @@
+// The gateway's face: the form over a lent state, the flat values that stand for the enums, and what C and Rust link.
+pub mod exports;
+pub mod flat;
+pub mod lent;
