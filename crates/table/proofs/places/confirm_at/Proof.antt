@@ -11,9 +11,10 @@ unfolding gatewayOf
 returns c =
     let st = c .before .before in
     let s = st .args .state in
-    let i = st .args .i in
-    (refl,
-    λ x S. rw (view-at (s .entries) x (S .eight-entries) i (st .pre)) (sound-confirm _ _ _ _ (part-size x i (S .store-size) (st .pre)) (state-sound-at s x S i (st .pre))))
+    let i = st .args .i in (
+      refl,
+      λ x S. rw (view-at (s .entries) x (S .eight-entries) i (st .pre)) (sound-confirm _ _ _ _ (part-size x i (S .store-size) (st .pre)) (state-sound-at s x S i (st .pre))),
+    )
 
 pub confirm-at-spec : {M : Type 1} → statement M
 confirm-at-spec = tie.close (tie.spec (λ c. search needs) (λ c. search needs) returns)
