@@ -279,7 +279,8 @@ impl fmt::Debug for Key<'_> {
 }
 
 /// The gateway: its state and its key store, owned. Both are only ever altered by the core, so a call from here is never refused for them.
-#[derive(Clone)]
+/// Two are equal if they have the same keys in the same places, the same passphrase, clock and next number.
+#[derive(Clone, PartialEq, Eq)]
 pub struct Gateway {
     state: Box<raw::State>,
     store: Box<[u8; STORE_LEN]>,
