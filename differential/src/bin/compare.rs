@@ -117,14 +117,16 @@ fn serial(r: &mut Random, pool: &[Key]) -> Segment {
 /// Requests that cross: a few keys, then up to six requests with their questions left open and answered in any order.
 fn crossing(r: &mut Random, pool: &[Key]) -> Segment {
     let mut s = Segment { crossing: true, ..Segment::default() };
-    let n = 1 + r.below(3);
+    // one half is about the lock, the other about one key and its confirmations
+    let about_lock = r.percent(50);
+    let n = if about_lock { 1 + r.below(3) } else { 1 };
     let keys: Vec<Key> = (0..n).map(|_| r.pick(pool).clone()).collect();
     let add = |r: &mut Random, k: &Key| {
         let mut c = Vec::new();
         if r.percent(40) {
             c.extend([1, 0, 0, 0, 1 + r.below(3) as u8]);
         }
-        if r.percent(60) {
+        if r.percent(if about_lock { 60 } else { 80 }) {
             c.push(2);
         }
         [vec![25], k.fields.clone(), comment(r), c].concat()
@@ -136,7 +138,7 @@ fn crossing(r: &mut Random, pool: &[Key]) -> Segment {
             s.to("s", p);
         }
     }
-    let locked = r.percent(20);
+    let locked = about_lock && r.percent(30);
     if locked {
         s.to("s", [vec![22], string(b"ab")].concat());
     }
@@ -147,7 +149,7 @@ fn crossing(r: &mut Random, pool: &[Key]) -> Segment {
     while s.requests.len() < 40 && (slots.len() < total || r.percent(60)) {
         if slots.len() < total && r.percent(40) {
             let k = r.pick(&keys).clone();
-            let p = match r.below(if locked { 24 } else { 18 }) {
+            let p = match r.below(if locked { 26 } else if about_lock { 18 } else { 13 }) {
                 0 => vec![11],
                 1..=3 => add(r, &k),
                 4 | 5 => [vec![18], string(&k.blob)].concat(),
@@ -195,6 +197,7 @@ struct Tally {
     dropped: u64,
     crossing: u64,
     crossing_differ: u64,
+    asked_again: u64,
     crossings: BTreeMap<String, (u64, String)>,
     replayed: u64,
     held_replayed: u64,
@@ -424,6 +427,9 @@ fn judge_crossing(s: &Segment, ours: &[String], rust: &[String], predicted: &[St
         });
         let i = i.clone().nth(nth).expect("its request");
         if mine[i] == theirs[i] {
+            if l.request.confirmations > 1 {
+                t.asked_again += 1;
+            }
             continue;
         }
         t.crossing_differ += 1;
@@ -549,6 +555,7 @@ fn main() {
         say(format!("    {n:8}  {k}"), &mut text);
         scripts += &format!("# {k}\n{script}\n");
     }
+    say(format!("  replaced while its confirmation was open, asked again here and not by the Rust, and the same end: {}", t.asked_again), &mut text);
     say(format!("  landings replayed one at a time on the core: {} (check and signature answered at once), {} (all questions held)", t.replayed, t.held_replayed), &mut text);
     say(format!("unlisted differences: {}", t.unlisted.len()), &mut text);
     for u in &t.unlisted {
