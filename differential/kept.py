@@ -1,8 +1,8 @@
 #!/usr/bin/env python3
 """kept.py ORACLE BIN CORE: the oracle's kept inputs, run now on the Rust (BIN/real, BIN/scripted) and on the core.
 - tools/cases.py, 185 cases: the core must answer every one as 01 says, and differ from the Rust exactly where the Rust differs from 01.
-- scripts/interleave.txt and 01-examples.txt (seven interleavings), time.txt, openssh.txt: the lines that differ must be those of kept.txt,
-  each with its reason there; no more and no fewer. With WRITE=1 the lines are printed in kept.txt's form."""
+- scripts/interleave.txt and 01-examples.txt (seven interleavings), time.txt, openssh.txt, and smallest.txt here: the lines that differ must be
+  those of kept.txt, each with its reason there; no more and no fewer. With WRITE=1 the lines are printed in kept.txt's form."""
 import os, subprocess, sys
 oracle, bins, core = sys.argv[1:4]
 here = os.path.dirname(os.path.abspath(__file__))
@@ -21,10 +21,8 @@ print(f"cases: {len(ours)} run; core against 01: {ours_sum.split(';')[1].strip()
 bad |= bool(wrong) or len(ours) != 185 or len(rust) != 185
 
 def answers(program, script):
-    return subprocess.run([program], stdin=open(f"{oracle}/scripts/{script}.txt"), capture_output=True, text=True, check=True, env={**os.environ, "SORT": "1"}).stdout.splitlines()
-
-def short(line):  # a key or a signature is told by its length
-    return line if len(line) < 60 else f"{line[:24]}.. ({len(line)} characters)"
+    path = f"{here}/smallest.txt" if script == "smallest" else f"{oracle}/scripts/{script}.txt"
+    return subprocess.run([program], stdin=open(path), capture_output=True, text=True, check=True, env={**os.environ, "SORT": "1"}).stdout.splitlines()
 
 def kind(line):
     if line == "reply 0000000105": return "FAILURE"
@@ -32,13 +30,13 @@ def kind(line):
     return {"0c": "list", "0e": "signature"}.get(line[14:16], " ".join(line.split()[:2]))
 
 found = []
-for script in ("01-examples", "interleave", "time", "openssh"):
+for script in ("01-examples", "interleave", "time", "openssh", "smallest"):
     r, o = answers(f"{bins}/scripted", script), answers(core, script)
     title = ""
     if len(r) != len(o): print(f"{script}: {len(r)} lines against {len(o)}"); bad = 1
     for i, (x, y) in enumerate(zip(r, o), 1):
-        if x.startswith("=="): title = x
-        if x != y: found.append(f"{script} line {i}: {kind(x)} | {kind(y)}")
+        if x.startswith("=="): title = x[3:]
+        if x != y: found.append(f"{script} line {i}: {kind(x)} | {kind(y)}" + (f"    # {title}" if os.environ.get("WRITE") else ""))
     print(f"{script}: {len(o)} answers, {sum(x != y for x, y in zip(r, o))} differ")
 want = [l.split("  #")[0].rstrip() for l in open(f"{here}/kept.txt") if l.strip() and not l.startswith("#")]
 if os.environ.get("WRITE"): print("\n".join(found))
