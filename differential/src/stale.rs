@@ -26,7 +26,7 @@ pub struct Stale {
 fn reply(body: Vec<u8>) -> String {
     format!("reply {}", hex(&sorted(&string(&body))))
 }
-/// Fields, blob and what is behind the comment of an add request.
+/// The blob of a whole add request, and what is behind its comment.
 pub fn addition(payload: &[u8]) -> (Vec<u8>, &[u8]) {
     let kind = strings(&payload[1..], 1).0[0];
     let n = if kind == b"ssh-ed25519" { 3 } else if kind == b"ssh-rsa" { 7 } else { 4 };

@@ -62,7 +62,8 @@ pub struct Landing {
     pub request: Request,
     pub clock: u64,
     pub was_locked: bool,
-    pub held_before: usize,
+    /// The blobs that were held, if all eight places were taken.
+    pub full: Option<Vec<Vec<u8>>>,
     pub outcome: Outcome,
     pub reply: Vec<u8>,
 }
@@ -206,7 +207,7 @@ impl World {
     fn step(&mut self, name: &str, mut r: Request) -> String {
         loop {
             let was_locked = self.gateway.is_locked();
-            let held_before = self.gateway.keys().count();
+            let full = (self.gateway.keys().count() == 8).then(|| self.gateway.keys().map(|k| k.blob.to_vec()).collect());
             let outcome = self.gateway.call(&r.payload, self.clock, &r.answers(), &mut self.reply);
             let q = match outcome {
                 Outcome::Asks(q) => q,
@@ -222,7 +223,7 @@ impl World {
                         format!("reply {}", hex(&reply))
                     };
                     let clock = self.gateway.clock();
-                    self.landings.push(Landing { conn: name.to_string(), request: r, clock, was_locked, held_before, outcome, reply });
+                    self.landings.push(Landing { conn: name.to_string(), request: r, clock, was_locked, full, outcome, reply });
                     return line;
                 }
             };

@@ -2,7 +2,7 @@
 //! `scripted`, or `standin` (one request at a time alone).
 //! ../README.md has the rest.
 use differential::requests::{any_key, comment, damaged, special, whole, Key};
-use differential::stale::Stale;
+use differential::stale::{addition, Stale};
 use differential::world::{Landing, World};
 use differential::{hex, string, strings, unhex, Random};
 use key_agent::{Gateway, Hash, Reply};
@@ -54,9 +54,16 @@ fn serial(r: &mut Random, pool: &[Key]) -> Segment {
     let specials = r.percent(25);
     let length = 30 + r.below(90);
     let mut phrases: Vec<Vec<u8>> = vec![b"ab".to_vec()];
-    for _ in 0..length {
-        let mut p = if specials && r.percent(4) { special(r, &keys) } else { whole(r, &keys) };
-        if r.percent(20) {
+    let adds = r.below(keys.len().min(8) + 1);
+    for at in 0..length {
+        let mut p = if at < adds {
+            [vec![17], keys[at].fields.clone(), comment(r)].concat()
+        } else if specials && r.percent(4) {
+            special(r, &keys)
+        } else {
+            whole(r, &keys)
+        };
+        if at >= adds && r.percent(20) {
             p = damaged(r, p);
         }
         let (gate, confirm) = (if r.percent(95) { 'y' } else { 'n' }, if r.percent(80) { 'y' } else { 'n' });
@@ -269,7 +276,8 @@ fn listed(standin: bool, p: &[u8], l: &Landing, ours: &str, rust: &str) -> Optio
                 b"ssh-ed25519" | b"ssh-rsa" => return None,
                 _ => return Some(("17, 25: a type that is none of 01's five", true)),
             }
-            (l.held_before == 8).then_some(("17, 25: a ninth key", true))
+            let blob = addition(p).0;
+            l.full.as_ref().is_some_and(|held| !held.contains(&blob)).then_some(("17, 25: a ninth key", true))
         }
         22 if ours == FAILURE && rust == SUCCESS => (strings(&p[1..], 1).0.first()?.len() > 1024).then_some(("22: a passphrase of more than 1,024 bytes", true)),
         13 if ours == "close" && rust.len() > 16 && &rust[14..16] == "0e" => {
