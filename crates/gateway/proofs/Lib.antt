@@ -1,1 +1,2 @@
 pub mod FlatSteps
+pub mod FlatLaws
