@@ -8,8 +8,8 @@
  *   - a pointer to bytes has as many bytes behind it as the length says, and no length is above PTRDIFF_MAX;
  *   - store, reply and state are written: they overlap neither each other nor payload, signature or the result, and nobody else reads or
  *     writes them while a call runs. So: one call at a time on one state. Payload and signature are only read, and may overlap;
- *   - a state comes from key_agent_fresh and is altered by key_agent_call alone. Every bool in it is 0 or 1. Copies are fine, but state and
- *     store belong together: keep, copy and restore them as a pair.
+ *   - every bool in a state is 0 or 1, as key_agent_fresh and key_agent_call leave it. Any other fault in a state or its store is found, and
+ *     the call refused (3). Copies are fine, but state and store belong together: keep, copy and restore them as a pair.
  *
  * The padding of a state is not defined, so states are not to be compared by memcmp.
  */
@@ -135,7 +135,7 @@ key_agent_state key_agent_fresh(void);
  *   reply          at least KEY_AGENT_REPLY_BYTES, else refusal 1. Written in front by a reply, untouched by every other outcome.
  *
  * A question is asked again until its answer is lent: find it out, set it in answers, and call again with the same payload. A reply or a
- * close ends the request. A state that no call made is refused (3) unless it is sound.
+ * close ends the request.
  */
 key_agent_outcome key_agent_call(
     key_agent_state *state,
