@@ -86,7 +86,8 @@ typedef struct {
 
 /* ---- Outcome ---- */
 
-/* Each kind, and the fields that it uses; the others are 0. */
+/* Each kind, and the fields that it uses; the others are 0. A part is never out of range: from <= to, and to <= payload_len, or reply_len
+ * where it is a reply. */
 enum {
     KEY_AGENT_REFUSED = 0,       /* number: 1 reply buffer too short; 2 store of another length; 3 state not sound; 4 payload too long;
                                     5 signature too long. Nothing was altered, the clock neither */
@@ -148,6 +149,7 @@ key_agent_outcome key_agent_call(
 
 /* What the first bytes of a connection hold: KEY_AGENT_MORE_NEEDED; KEY_AGENT_TOO_LONG, a frame that is never to be read; or
  * KEY_AGENT_FRAME, a whole frame, whose payload is bytes[from .. to), so that the next frame begins at bytes[to]. Else from and to are 0.
+ * Always from <= to <= bytes_len.
  */
 key_agent_split_result key_agent_split(const uint8_t *bytes, size_t bytes_len);
 

@@ -1,2 +1,3 @@
 pub mod FlatSteps
 pub mod FlatLaws
+pub mod WithinLaws

@@ -1,4 +1,4 @@
--- What the flat values promise, as statements; the proofs are in proofs/FlatLaws.antt.
+-- What the flat values promise, as statements; the proofs are in proofs/FlatLaws.antt and proofs/WithinLaws.antt.
 use Prim.Native.Nat.{ℕ, _≤_}
 use mathlib.Core.Path.{_≡_}
 use mathlib.Core.Bool.{Bool, true, false}
@@ -11,6 +11,8 @@ use Rattle.wire.specs.Steps.{so}
 use Rattle.wire.specs.Read.{cutOf}
 use Rattle.wire.specs.Frames.{splitOf, payloadOf}
 use Rattle.wire.specs.Promises.{OneToOne}
+use Rattle.rule.specs.declared.Millis.{Millis}
+use Rattle.table.specs.declared.State.{State}
 use Rattle.server.specs.declared.Said.{Said}
 use Rattle.server.specs.declared.Said.the-variants as said
 use Rattle.server.specs.declared.Confirmed.{Confirmed}
@@ -20,6 +22,7 @@ use Rattle.server.specs.declared.Signed.the-variants as signed
 use Rattle.server.specs.declared.Answers.{Answers}
 use Rattle.server.specs.declared.Outcome.{Outcome}
 use Rattle.server.specs.Outcomes.{outcomeValues}
+use Rattle.server.specs.Calls.{calledOf}
 use Rattle.gateway.specs.declared.flat.FlatAnswers.{FlatAnswers}
 use Rattle.gateway.specs.declared.flat.FlatOutcome.{FlatOutcome}
 use Rattle.gateway.specs.Flat.{saidOf, confirmedOf, signedOf, answersOf, flatOf, flatSplit}
@@ -93,6 +96,19 @@ SameValues = (o : Outcome) → flatValues (flatOf o) ≡ outcomeValues o
 
 abbrev pub FlatApart : Type 0
 FlatApart = OneToOne Outcome FlatOutcome flatOf
+
+-- what an outcome names lies in what was lent: a part of the reply buffer where it replies, else of the payload
+pub record NamesWithin (payload buffer : List ℕ) (o : FlatOutcome) : Type 0 where
+  pub ordered : o .from ≤ o .to
+  pub of-payload : (o .kind ≡ 5 → ⊥) → o .to ≤ length payload
+  pub of-reply : o .kind ≡ 5 → o .to ≤ length buffer
+
+-- for every call; a state's two arrays have the lengths of their types
+abbrev pub CallsNameWithin : Type 0
+CallsNameWithin =
+    (state : State) (store payload : List ℕ) (reading : Millis) (answers : Answers) (signature buffer : List ℕ)
+    → length (state .entries) ≡ 8 → length (state .lock .bytes) ≡ 1024
+    → NamesWithin payload buffer (flatOf (calledOf state store payload reading answers signature buffer .outcome))
 
 -- ## The split
 
