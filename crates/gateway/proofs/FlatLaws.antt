@@ -1,7 +1,7 @@
 -- The flat values say what they stand for: answers and outcomes case by case, the split by its length's tests. Assumes nothing.
 use Prim.Native.Nat.{ℕ, _+_, _≤_, _<_}
 use mathlib.Core.Path.{_≡_, refl, sym, ap, _∙_}
-use mathlib.Core.Bool.{Bool, true, false}
+use mathlib.Core.Bool.{true, false}
 use mathlib.Core.List.{List, []}
 use mathlib.Core.Logic.{⊎-elim}
 use native.Mathlib.Omega.{arith}
@@ -22,9 +22,7 @@ use Rattle.server.specs.declared.Confirmed.{Confirmed}
 use Rattle.server.specs.declared.Confirmed.the-variants as confirmed
 use Rattle.server.specs.declared.Signed.{Signed}
 use Rattle.server.specs.declared.Signed.the-variants as signed
-use Rattle.server.specs.declared.Outcome.{Outcome}
 use Rattle.server.specs.declared.Outcome.the-variants.{Refused, Gate, Check, Confirm, Sign, Reply, Close}
-use Rattle.server.specs.Outcomes.{outcomeValues}
 use Rattle.server.proofs.OutcomeLaws.{outcomes-apart}
 use Rattle.gateway.specs.Flat.{saidOf, confirmedOf, signedOf, answersOf, flatOf, flatSplit, splitAs}
 use Rattle.gateway.specs.Promises.{OthersMissing, saidNumber, confirmedNumber, confirmedFor, signedNumber, signedFor, EveryAnswer, flatValues, SameValues, FlatApart, splitNumber, SplitsApart, SplitsAs, SplitRule}

@@ -2,8 +2,8 @@
 use crate::flat::FlatAnswers;
 use crate::flat::FlatOutcome;
 use crate::flat::FlatSplit;
-use crate::flat::flattened;
-use crate::flat::raised;
+use crate::flat::answers_of;
+use crate::flat::flat_of;
 use crate::flat::split;
 use crate::lent::serve;
 use rule::Millis;
@@ -34,9 +34,9 @@ pub extern "C" fn key_agent_call(
 ) -> FlatOutcome
     ensures { λ r. ⌜ (r ≡ flatOf (calledOf (now (state .entry)) (now (store .entry)) (now (payload .entry)) reading (answersOf answers) (now (signature .entry)) (now (reply .entry)) .outcome)) × (now (state .exit) ≡ calledOf (now (state .entry)) (now (store .entry)) (now (payload .entry)) reading (answersOf answers) (now (signature .entry)) (now (reply .entry)) .state) × (now (store .exit) ≡ storeOf (now (state .entry)) (now (store .entry)) (now (payload .entry)) reading (answersOf answers) (now (signature .entry)) (now (reply .entry))) × (now (reply .exit) ≡ replyOf (now (state .entry)) (now (store .entry)) (now (payload .entry)) reading (answersOf answers) (now (signature .entry)) (now (reply .entry))) ⌝ }
 {
-    let lent = raised(answers);
+    let lent = answers_of(answers);
     let outcome = serve(state, store, payload, reading, lent, signature, reply);
-    flattened(outcome)
+    flat_of(outcome)
 }
 
 #[no_mangle]

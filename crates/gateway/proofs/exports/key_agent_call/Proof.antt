@@ -1,4 +1,4 @@
--- The walk of the code by hand: `raised` is called on the answers, `serve` on what was lent and on its result, `flattened` on its outcome.
+-- The walk of the code by hand: `answers_of` is called on the answers, `serve` on what was lent and on its result, `flat_of` on its outcome.
 -- State, store and reply buffer are passed on at their own lifetimes and names and given up for good (`gave-ref`, `gave-slice`); of every other
 -- parameter nothing is said at exit (`stay-dropped`). All that the proof knows of the three callees is that they meet their contracts. Assumes nothing.
 use mathlib.Core.Path.{_≡_, refl, ap, subst, _∙_}
@@ -57,18 +57,18 @@ use Rattle.gateway.proofs.flat.FlatAnswers as FlatAnswers′
 use Rattle.gateway.proofs.flat.FlatAnswers.Laws as FlatAnswers″
 use Rattle.gateway.proofs.flat.FlatOutcome as FlatOutcome′
 use Rattle.gateway.proofs.flat.FlatOutcome.Laws as FlatOutcome″
-use Rattle.gateway.proofs.flat.raised as raised
-use Rattle.gateway.proofs.flat.raised.Symbol as raised-def
-use Rattle.gateway.proofs.flat.raised.Symbol.{name as #raised}
-use Rattle.gateway.proofs.flat.raised.Met as raised-thm
+use Rattle.gateway.proofs.flat.answers_of as answers-of
+use Rattle.gateway.proofs.flat.answers_of.Symbol as answers-of-def
+use Rattle.gateway.proofs.flat.answers_of.Symbol.{name as #answers-of}
+use Rattle.gateway.proofs.flat.answers_of.Met as answers-of-thm
 use Rattle.gateway.proofs.lent.serve as serve
 use Rattle.gateway.proofs.lent.serve.Symbol as serve-def
 use Rattle.gateway.proofs.lent.serve.Symbol.{name as #serve}
 use Rattle.gateway.proofs.lent.serve.Met as serve-thm
-use Rattle.gateway.proofs.flat.flattened as flattened
-use Rattle.gateway.proofs.flat.flattened.Symbol as flattened-def
-use Rattle.gateway.proofs.flat.flattened.Symbol.{name as #flattened}
-use Rattle.gateway.proofs.flat.flattened.Met as flattened-thm
+use Rattle.gateway.proofs.flat.flat_of as flat-of
+use Rattle.gateway.proofs.flat.flat_of.Symbol as flat-of-def
+use Rattle.gateway.proofs.flat.flat_of.Symbol.{name as #flat-of}
+use Rattle.gateway.proofs.flat.flat_of.Met as flat-of-thm
 use Rattle.gateway.proofs.exports.key_agent_call.Key.{name as #key-agent-call}
 use Rattle.gateway.proofs.exports.key_agent_call as call′
 use Rattle.gateway.proofs.exports.key_agent_call.Statement as stated
@@ -101,14 +101,14 @@ flat-is x vs is = LL.owes FlatOutcome′.the-type FlatOutcome″.the-laws x (LL.
 
 -- the contracts that the proof cites
 module _ {M : Type 1} (𝓤 : URA M) (H : Heap 𝓤) (A : Atoms 𝓤) (at-mem : Memory → SProp 𝓤) (run : Routine → Fun 𝓤) where
-  abbrev Raised : Contract 𝓤
-  Raised = tripleOf 𝓤 H A raised.signature (raised.spec 𝓤 H A at-mem run)
+  abbrev Answering : Contract 𝓤
+  Answering = tripleOf 𝓤 H A answers-of.signature (answers-of.spec 𝓤 H A at-mem run)
 
   abbrev Serve : Contract 𝓤
   Serve = tripleOf 𝓤 H A serve.signature (serve.spec 𝓤 H A at-mem run)
 
-  abbrev Flattened : Contract 𝓤
-  Flattened = tripleOf 𝓤 H A flattened.signature (flattened.spec 𝓤 H A at-mem run)
+  abbrev Flattening : Contract 𝓤
+  Flattening = tripleOf 𝓤 H A flat-of.signature (flat-of.spec 𝓤 H A at-mem run)
 
 module _ {M : Type 1} (𝓤 : URA M) (H : Heap 𝓤) (A : Atoms 𝓤) (W : Given 𝓤 H A) (at-mem : Memory → SProp 𝓤) (run : Routine → Fun 𝓤) (κ κ1 κ2 κ3 κ4 : Lft) (q q1 q2 q3 q4 : Share) (b o : ℕ) (γ : GName) (h : State) (store payload : RefT (List ℕ)) (reading : Millis) (answers : FlatAnswers) (signature reply : RefT (List ℕ)) where
   abbrev state : RefT State
@@ -150,19 +150,19 @@ module _ {M : Type 1} (𝓤 : URA M) (H : Heap 𝓤) (A : Atoms 𝓤) (W : Given
   Promised x oc z z-store z-reply = (oc ≡ calledOf h (store .now) (payload .now) reading x (signature .now) (reply .now) .outcome) × (z ≡ calledOf h (store .now) (payload .now) reading x (signature .now) (reply .now) .state) × (z-store ≡ storeOf h (store .now) (payload .now) reading x (signature .now) (reply .now)) × (z-reply ≡ replyOf h (store .now) (payload .now) reading x (signature .now) (reply .now))
 
   -- what the callees' triples bind outside
-  abbrev to-raised : Raised 𝓤 H A at-mem run .Ghost
-  to-raised = ((tt, tt, tt, (answers, tt), (v-answers ∷ [], tt)), tt)
+  abbrev to-answers-of : Answering 𝓤 H A at-mem run .Ghost
+  to-answers-of = ((tt, tt, tt, (answers, tt), (v-answers ∷ [], tt)), tt)
 
   abbrev to-serve : Answers → Serve 𝓤 H A at-mem run .Ghost
   to-serve x = (((κ, (κ1, (κ2, (κ3, (κ4, tt))))), (q, (q1, (q2, (q3, (q4, tt))))), tt, (state, (store, (payload, (reading, (x, (signature, (reply, tt))))))), vals (answers-val x)), tt)
 
-  abbrev to-flattened : Outcome → Flattened 𝓤 H A at-mem run .Ghost
-  to-flattened oc = ((tt, tt, tt, (oc, tt), (outcome-val oc ∷ [], tt)), tt)
+  abbrev to-flat-of : Outcome → Flattening 𝓤 H A at-mem run .Ghost
+  to-flat-of oc = ((tt, tt, tt, (oc, tt), (outcome-val oc ∷ [], tt)), tt)
 
-  goes-raised : ent 𝓤 (⋆ 𝓤 H A (‵ (FlatAnswers′.the-row .own answers (v-answers ∷ [])) ∷ [])) (Raised 𝓤 H A at-mem run .pre to-raised)
-  goes-raised = qed W (‵ (FlatAnswers′.the-row .own answers (v-answers ∷ [])) ∷ []) ∵ nothing ! $ move ! (1 ∷ 0 ∷ []) $ fjoin ! $ nothing ! $ join ! $ frame ! $ done !
+  goes-answers-of : ent 𝓤 (⋆ 𝓤 H A (‵ (FlatAnswers′.the-row .own answers (v-answers ∷ [])) ∷ [])) (Answering 𝓤 H A at-mem run .pre to-answers-of)
+  goes-answers-of = qed W (‵ (FlatAnswers′.the-row .own answers (v-answers ∷ [])) ∷ []) ∵ nothing ! $ move ! (1 ∷ 0 ∷ []) $ fjoin ! $ nothing ! $ join ! $ frame ! $ done !
 
-  -- the answers that `raised` made take the place of the flat ones
+  -- the answers that `answers_of` made take the place of the flat ones
   goes-serve : (x : Answers) → ent 𝓤 (⋆ 𝓤 H A ((‵ (flft κ q) ⊛ ‵ (flft κ1 q1) ⊛ ‵ (flft κ2 q2) ⊛ ‵ (flft κ3 q3) ⊛ ‵ (flft κ4 q4) ⊛ ‵ ftrue) ∷ ‵ (owns (MutRef (named 0) κ R ∷ MutSlice (named 1) κ1 u8 ∷ ShrSlice (named 2) κ2 u8 ∷ Millis′.the-row ∷ FlatAnswers′.the-row ∷ ShrSlice (named 3) κ3 u8 ∷ MutSlice (named 4) κ4 u8 ∷ []) a (vals v-answers)) ∷ ‵ (Answers′.the-row .own x (answers-val x ∷ [])) ∷ [])) (Serve 𝓤 H A at-mem run .pre (to-serve x))
   goes-serve x =
       qed W ((‵ (flft κ q) ⊛ ‵ (flft κ1 q1) ⊛ ‵ (flft κ2 q2) ⊛ ‵ (flft κ3 q3) ⊛ ‵ (flft κ4 q4) ⊛ ‵ ftrue) ∷ ‵ (owns (MutRef (named 0) κ R ∷ MutSlice (named 1) κ1 u8 ∷ ShrSlice (named 2) κ2 u8 ∷ Millis′.the-row ∷ FlatAnswers′.the-row ∷ ShrSlice (named 3) κ3 u8 ∷ MutSlice (named 4) κ4 u8 ∷ []) a (vals v-answers)) ∷ ‵ (Answers′.the-row .own x (answers-val x ∷ [])) ∷ []) ∵
@@ -171,8 +171,8 @@ module _ {M : Type 1} (𝓤 : URA M) (H : Heap 𝓤) (A : Atoms 𝓤) (W : Given
       move ! (6 ∷ 0 ∷ []) $ fjoin ! $ move ! (1 ∷ 0 ∷ []) $ fjoin ! $ move ! (1 ∷ 0 ∷ []) $ fjoin ! $ move ! (1 ∷ 0 ∷ []) $ fjoin ! $ move ! (1 ∷ 0 ∷ []) $ fjoin ! $
       move ! (1 ∷ 0 ∷ []) $ join ! $ frame ! $ done !
 
-  goes-flattened : (oc : Outcome) → ent 𝓤 (⋆ 𝓤 H A (‵ (Outcome′.the-row .own oc (outcome-val oc ∷ [])) ∷ [])) (Flattened 𝓤 H A at-mem run .pre (to-flattened oc))
-  goes-flattened oc = qed W (‵ (Outcome′.the-row .own oc (outcome-val oc ∷ [])) ∷ []) ∵ nothing ! $ move ! (1 ∷ 0 ∷ []) $ fjoin ! $ nothing ! $ join ! $ frame ! $ done !
+  goes-flat-of : (oc : Outcome) → ent 𝓤 (⋆ 𝓤 H A (‵ (Outcome′.the-row .own oc (outcome-val oc ∷ [])) ∷ [])) (Flattening 𝓤 H A at-mem run .pre (to-flat-of oc))
+  goes-flat-of oc = qed W (‵ (Outcome′.the-row .own oc (outcome-val oc ∷ [])) ∷ []) ∵ nothing ! $ move ! (1 ∷ 0 ∷ []) $ fjoin ! $ nothing ! $ join ! $ frame ! $ done !
 
   exits : (fo : FlatOutcome) (oc : Outcome) (z : State) (z-store z-reply : List ℕ) → fo ≡ flatOf oc → Promised (answersOf answers) oc z z-store z-reply → length z-store ≡ length (store .now) → length z-reply ≡ length (reply .now) → Is FlatOutcome′.the-row fo (flat-val fo ∷ [])
       → ent 𝓤 (⋆ 𝓤 H A ((‵ (flft κ q) ⊛ ‵ (flft κ1 q1) ⊛ ‵ (flft κ2 q2) ⊛ ‵ (flft κ3 q3) ⊛ ‵ (flft κ4 q4) ⊛ ‵ ftrue) ∷ ‵ (finally u8 (reply .name) z-reply) ∷ ‵ (finally u8 (store .name) z-store) ∷ ‵ (fres γ (R .coded .code z)) ∷ [])) (Post (flat-val fo))
@@ -184,7 +184,7 @@ module _ {M : Type 1} (𝓤 : URA M) (H : Heap 𝓤) (A : Atoms 𝓤) (W : Given
       nothing ! $ move ! (1 ∷ 0 ∷ []) $ fjoin ! $ nothing ! $ fjoin ! $ nothing ! $ fjoin ! $ nothing ! $ fjoin ! $ nothing ! $ fjoin ! $ move ! (1 ∷ 0 ∷ []) $ fjoin ! $ move ! (1 ∷ 0 ∷ []) $ fjoin ! $ frame ! $
       owned ! FlatOutcome′.the-row (Is FlatOutcome′.the-row) (LL.makes FlatOutcome′.the-type FlatOutcome″.the-plain 𝓤 H A) fo _ is $ done !
 
-  module _ (C : Calls 𝓤 H) (Λ : Loops 𝓤 H) (fm : FmC 𝓤 H (W .laws) C) (known-raised : Triple 𝓤 (C #raised) (Raised 𝓤 H A at-mem run)) (known-serve : Triple 𝓤 (C #serve) (Serve 𝓤 H A at-mem run)) (known-flattened : Triple 𝓤 (C #flattened) (Flattened 𝓤 H A at-mem run)) where
+  module _ (C : Calls 𝓤 H) (Λ : Loops 𝓤 H) (fm : FmC 𝓤 H (W .laws) C) (known-answers-of : Triple 𝓤 (C #answers-of) (Answering 𝓤 H A at-mem run)) (known-serve : Triple 𝓤 (C #serve) (Serve 𝓤 H A at-mem run)) (known-flat-of : Triple 𝓤 (C #flat-of) (Flattening 𝓤 H A at-mem run)) where
     walk : Is (MutSlice (named 1) κ1 u8) store (v-store ∷ []) → Is (ShrSlice (named 2) κ2 u8) payload (v-payload ∷ []) → Is Millis′.the-row reading (v-reading ∷ []) → Is FlatAnswers′.the-row answers (v-answers ∷ []) → Is (ShrSlice (named 3) κ3 u8) signature (v-signature ∷ []) → Is (MutSlice (named 4) κ4 u8) reply (v-reply ∷ [])
         → ent 𝓤 (onEntry 𝓤 H A call′.signature (κ, (κ1, (κ2, (κ3, (κ4, tt))))) (q, (q1, (q2, (q3, (q4, tt))))) a (vals v-answers)) (WpFn 𝓤 H C Λ code.function (vptr b o ∷ v-store ∷ v-payload ∷ v-reading ∷ v-answers ∷ v-signature ∷ v-reply ∷ []) Post)
     walk is-store is-payload is-reading is-answers is-signature is-reply =
@@ -198,12 +198,12 @@ module _ {M : Type 1} (𝓤 : URA M) (H : Heap 𝓤) (A : Atoms 𝓤) (W : Given
         pass1 ! (init ! 16 refl (shr-slice-lawful 𝓤 H A W (named 3) κ3 u8 .typed signature (v-signature ∷ []) is-signature .0)) $
         pass1 ! (init ! 14 refl (mut-slice-lawful 𝓤 H A W (named 4) κ4 u8 .typed reply (v-reply ∷ []) is-reply .0)) $
         pass0 ! $
-        -- [_14 0; …; _0 28; …; the tokens; what the parameters own]; the answers are raised
-        owned ! FlatAnswers′.the-row (Is FlatAnswers′.the-row) (LL.makes FlatAnswers′.the-type FlatAnswers″.the-plain 𝓤 H A) answers _ is-answers $ use1 W (raw (Raised 𝓤 H A at-mem run .pre to-raised)) goes-raised $
-        calls-at ! fm (Raised 𝓤 H A at-mem run) known-raised to-raised (and-then ! (load ! (from ! (stop !)) (look ! 19 refl)) (no-more !)) (λ v-raised.
-        use1 W (later (some (λ (x : Answers). (‵ ftrue ⊛ ‵ (Answers′.the-row .own x (v-raised ∷ []))) ⊛ raw (ensured 𝓤 H A raised.ended (raised.clauses 𝓤 H A at-mem run) tt (answers, tt) tt x)))) (id⊢ 𝓤 _) $ await ! tt $ pick ! (λ x.
-        split ! $ move ! (1 ∷ []) $ use1 W (some (λ (us : Unit {0} × Unit {0}). ‵ (lasts raised.ended tt (answers, tt) us) ⊛ raw (fact 𝓤 (x ≡ answersOf answers)))) (id⊢ 𝓤 _) $ pick ! (λ us. split ! $ move ! (1 ∷ []) $ heard ! (x ≡ answersOf answers) (λ e-x. drop ! $
-        split ! $ move ! (1 ∷ []) $ peeks ! Answers′.the-row (Is Answers′.the-row) (shows 𝓤 H A Answers′.the-row) x (v-raised ∷ []) (λ is-x. drop ! $ drop ! $
+        -- [_14 0; …; _0 28; …; the tokens; what the parameters own]; the answers are read
+        owned ! FlatAnswers′.the-row (Is FlatAnswers′.the-row) (LL.makes FlatAnswers′.the-type FlatAnswers″.the-plain 𝓤 H A) answers _ is-answers $ use1 W (raw (Answering 𝓤 H A at-mem run .pre to-answers-of)) goes-answers-of $
+        calls-at ! fm (Answering 𝓤 H A at-mem run) known-answers-of to-answers-of (and-then ! (load ! (from ! (stop !)) (look ! 19 refl)) (no-more !)) (λ v-answers-of.
+        use1 W (later (some (λ (x : Answers). (‵ ftrue ⊛ ‵ (Answers′.the-row .own x (v-answers-of ∷ []))) ⊛ raw (ensured 𝓤 H A answers-of.ended (answers-of.clauses 𝓤 H A at-mem run) tt (answers, tt) tt x)))) (id⊢ 𝓤 _) $ await ! tt $ pick ! (λ x.
+        split ! $ move ! (1 ∷ []) $ use1 W (some (λ (us : Unit {0} × Unit {0}). ‵ (lasts answers-of.ended tt (answers, tt) us) ⊛ raw (fact 𝓤 (x ≡ answersOf answers)))) (id⊢ 𝓤 _) $ pick ! (λ us. split ! $ move ! (1 ∷ []) $ heard ! (x ≡ answersOf answers) (λ e-x. drop ! $
+        split ! $ move ! (1 ∷ []) $ peeks ! Answers′.the-row (Is Answers′.the-row) (shows 𝓤 H A Answers′.the-row) x (v-answers-of ∷ []) (λ is-x. drop ! $ drop ! $
         land ! (from ! (stop !)) (init ! 12 refl (LL.lawful Answers′.the-type Answers″.the-laws 𝓤 H A W .typed x _ is-x .0)) $ rewrite ! 12 (λ (u : Val). ‵ (fat fullShare Answers″.mir l8 0 u)) (ap only (LL.tells Answers′.the-type Answers″.the-laws x _ is-x)) refl $
         -- state, store and reply buffer are passed on
         assigns ! (addr ! (from ! (hop ! (look ! 26 refl) (stop !)))) (from ! (stop !)) (init ! 8 refl (tt, tt)) $
@@ -220,10 +220,10 @@ module _ {M : Type 1} (𝓤 : URA M) (H : Heap 𝓤) (A : Atoms 𝓤) (W : Given
         move ! (3 ∷ []) $ split ! $ move ! (1 ∷ []) $ peeks ! Outcome′.the-row (Is Outcome′.the-row) (shows 𝓤 H A Outcome′.the-row) oc (v-served ∷ []) (λ is-oc. drop ! $
         land ! (from ! (stop !)) (init ! 14 refl (EL.lawful Outcome′.the-type Outcome″.the-laws 𝓤 H A W tt .typed oc _ is-oc .0)) $ rewrite ! 14 (λ (u : Val). ‵ (fat fullShare Outcome″.mir l9 0 u)) (ap only (EL.tells Outcome′.the-type Outcome″.the-laws oc _ is-oc)) refl $
         -- [the tokens; the last values; _14 4; …; _0 32; …]; the outcome is made flat
-        owned ! Outcome′.the-row (Is Outcome′.the-row) (EL.makes Outcome′.the-type Outcome″.the-plain 𝓤 H A) oc _ (outcome-is oc _ is-oc) $ use1 W (raw (Flattened 𝓤 H A at-mem run .pre (to-flattened oc))) (goes-flattened oc) $
-        calls-at ! fm (Flattened 𝓤 H A at-mem run) known-flattened (to-flattened oc) (and-then ! (load ! (from ! (stop !)) (look ! 15 refl)) (no-more !)) (λ v-flat.
-        use1 W (later (some (λ (fo : FlatOutcome). (‵ ftrue ⊛ ‵ (FlatOutcome′.the-row .own fo (v-flat ∷ []))) ⊛ raw (ensured 𝓤 H A flattened.ended (flattened.clauses 𝓤 H A at-mem run) tt (oc, tt) tt fo)))) (id⊢ 𝓤 _) $ await ! tt $ pick ! (λ fo.
-        split ! $ move ! (1 ∷ []) $ use1 W (some (λ (us : Unit {0} × Unit {0}). ‵ (lasts flattened.ended tt (oc, tt) us) ⊛ raw (fact 𝓤 (fo ≡ flatOf oc)))) (id⊢ 𝓤 _) $ pick ! (λ vs. split ! $ move ! (1 ∷ []) $ heard ! (fo ≡ flatOf oc) (λ e-fo. drop ! $
+        owned ! Outcome′.the-row (Is Outcome′.the-row) (EL.makes Outcome′.the-type Outcome″.the-plain 𝓤 H A) oc _ (outcome-is oc _ is-oc) $ use1 W (raw (Flattening 𝓤 H A at-mem run .pre (to-flat-of oc))) (goes-flat-of oc) $
+        calls-at ! fm (Flattening 𝓤 H A at-mem run) known-flat-of (to-flat-of oc) (and-then ! (load ! (from ! (stop !)) (look ! 15 refl)) (no-more !)) (λ v-flat.
+        use1 W (later (some (λ (fo : FlatOutcome). (‵ ftrue ⊛ ‵ (FlatOutcome′.the-row .own fo (v-flat ∷ []))) ⊛ raw (ensured 𝓤 H A flat-of.ended (flat-of.clauses 𝓤 H A at-mem run) tt (oc, tt) tt fo)))) (id⊢ 𝓤 _) $ await ! tt $ pick ! (λ fo.
+        split ! $ move ! (1 ∷ []) $ use1 W (some (λ (us : Unit {0} × Unit {0}). ‵ (lasts flat-of.ended tt (oc, tt) us) ⊛ raw (fact 𝓤 (fo ≡ flatOf oc)))) (id⊢ 𝓤 _) $ pick ! (λ vs. split ! $ move ! (1 ∷ []) $ heard ! (fo ≡ flatOf oc) (λ e-fo. drop ! $
         split ! $ move ! (1 ∷ []) $ peeks ! FlatOutcome′.the-row (Is FlatOutcome′.the-row) (shows 𝓤 H A FlatOutcome′.the-row) fo (v-flat ∷ []) (λ is-fo. drop ! $ drop ! $
         land ! (from ! (stop !)) (init ! 32 refl (LL.lawful FlatOutcome′.the-type FlatOutcome″.the-laws 𝓤 H A W .typed fo _ is-fo .0)) $ rewrite ! 32 (λ (u : Val). ‵ (fat fullShare FlatOutcome″.mir l0 0 u)) (ap only (LL.tells FlatOutcome′.the-type FlatOutcome″.the-laws fo _ is-fo)) refl $
         returns ! (look ! 32 refl) $ forget ! 4 refl $ forget ! 6 refl $ forget ! 8 refl $ forget ! 10 refl $ forget ! 12 refl $ forget ! 14 refl $ forget ! 16 refl $ forget ! 18 refl $ forget ! 20 refl $ forget ! 22 refl $ forget ! 24 refl $ forget ! 26 refl $ forget ! 28 refl $ forget ! 30 refl $ forget ! 32 refl $
@@ -231,20 +231,20 @@ module _ {M : Type 1} (𝓤 : URA M) (H : Heap 𝓤) (A : Atoms 𝓤) (W : Given
         keep ! (0 ∷ 1 ∷ 2 ∷ 3 ∷ []) $ by ! (exits fo oc (zs .0) (zs .1 .0) (zs .1 .1 .1 .1 .1 .1 .0) e-fo (subst (λ (y : Answers). Promised y oc (zs .0) (zs .1 .0) (zs .1 .1 .1 .1 .1 .1 .0)) e-x e) l-store l-reply (flat-is fo _ is-fo))))))))))))))))))))))))))))))))))
 
 module _ {M : Type 1} (𝓤 : URA M) (H : Heap 𝓤) (A : Atoms 𝓤) (W : Given 𝓤 H A) (at-mem : Memory → SProp 𝓤) (run : Routine → Fun 𝓤) where
-  walks : (C : Calls 𝓤 H) (Λ : Loops 𝓤 H) → FmC 𝓤 H (W .laws) C → Triple 𝓤 (C #raised) (Raised 𝓤 H A at-mem run) → Triple 𝓤 (C #serve) (Serve 𝓤 H A at-mem run) → Triple 𝓤 (C #flattened) (Flattened 𝓤 H A at-mem run) → Walks 𝓤 H A call′.ended stayed (WpFn 𝓤 H C Λ code.function) (call′.clauses 𝓤 H A at-mem run)
-  walks C Λ fm known-raised known-serve known-flattened =
+  walks : (C : Calls 𝓤 H) (Λ : Loops 𝓤 H) → FmC 𝓤 H (W .laws) C → Triple 𝓤 (C #answers-of) (Answering 𝓤 H A at-mem run) → Triple 𝓤 (C #serve) (Serve 𝓤 H A at-mem run) → Triple 𝓤 (C #flat-of) (Flattening 𝓤 H A at-mem run) → Walks 𝓤 H A call′.ended stayed (WpFn 𝓤 H C Λ code.function) (call′.clauses 𝓤 H A at-mem run)
+  walks C Λ fm known-answers-of known-serve known-flat-of =
       walked 𝓤 H A call′.ended stayed (call′.clauses 𝓤 H A at-mem run) (WpFn 𝓤 H C Λ code.function) (λ κs. (ptr-vals, (slice-vals, (slice-vals, (LL.vals Millis′.the-type Millis″.the-laws, (LL.vals FlatAnswers′.the-type FlatAnswers″.the-laws, (slice-vals, (slice-vals, tt))))))))
       (λ κs. (mut-tells (named 0) (κs .0) R, (mut-slice-tells (named 1) (κs .1 .0) u8, (shr-slice-tells (named 2) (κs .1 .1 .0) u8, (LL.tells Millis′.the-type Millis″.the-laws, (LL.tells FlatAnswers′.the-type FlatAnswers″.the-laws, (shr-slice-tells (named 3) (κs .1 .1 .1 .0) u8, (mut-slice-tells (named 4) (κs .1 .1 .1 .1 .0) u8, tt))))))))
-      (λ κs qs bounds a _ are. via 𝓤 _ (fst∗ 𝓤 _ (emp 𝓤)) (walk 𝓤 H A W at-mem run (κs .0) (κs .1 .0) (κs .1 .1 .0) (κs .1 .1 .1 .0) (κs .1 .1 .1 .1 .0) (qs .0) (qs .1 .0) (qs .1 .1 .0) (qs .1 .1 .1 .0) (qs .1 .1 .1 .1 .0) (a .0 .ptr .0) (a .0 .ptr .1) (a .0 .name) (a .0 .now) (a .1 .0) (a .1 .1 .0) (a .1 .1 .1 .0) (a .1 .1 .1 .1 .0) (a .1 .1 .1 .1 .1 .0) (a .1 .1 .1 .1 .1 .1 .0) C Λ fm known-raised known-serve known-flattened (are .1 .0) (are .1 .1 .0) (are .1 .1 .1 .0) (are .1 .1 .1 .1 .0) (are .1 .1 .1 .1 .1 .0) (are .1 .1 .1 .1 .1 .1 .0)))
+      (λ κs qs bounds a _ are. via 𝓤 _ (fst∗ 𝓤 _ (emp 𝓤)) (walk 𝓤 H A W at-mem run (κs .0) (κs .1 .0) (κs .1 .1 .0) (κs .1 .1 .1 .0) (κs .1 .1 .1 .1 .0) (qs .0) (qs .1 .0) (qs .1 .1 .0) (qs .1 .1 .1 .0) (qs .1 .1 .1 .1 .0) (a .0 .ptr .0) (a .0 .ptr .1) (a .0 .name) (a .0 .now) (a .1 .0) (a .1 .1 .0) (a .1 .1 .1 .0) (a .1 .1 .1 .1 .0) (a .1 .1 .1 .1 .1 .0) (a .1 .1 .1 .1 .1 .1 .0) C Λ fm known-answers-of known-serve known-flat-of (are .1 .0) (are .1 .1 .0) (are .1 .1 .1 .0) (are .1 .1 .1 .1 .0) (are .1 .1 .1 .1 .1 .0) (are .1 .1 .1 .1 .1 .1 .0)))
 
   all-go : AllGo 𝓤 H A W 5 (call′.signature .params) (call′.ended .kept) stayed
   all-go = (goes-gave-ref 𝓤 H A W 5 0 tt (plain (λ _. R)), (goes-gave-slice 𝓤 H A W 5 1 tt (plain (λ _. u8)), (goes-dropped 𝓤 H A W 5 (shrSliceOf (2 ∷ []) tt (plain (λ _. u8))) yes (λ κs x f. refl), (goes-dropped 𝓤 H A W 5 (plain (λ _. Millis′.the-row)) yes (λ κs x f. refl), (goes-dropped 𝓤 H A W 5 (plain (λ _. FlatAnswers′.the-row)) yes (λ κs x f. refl), (goes-dropped 𝓤 H A W 5 (shrSliceOf (3 ∷ []) tt (plain (λ _. u8))) yes (λ κs x f. refl), (goes-gave-slice 𝓤 H A W 5 4 tt (plain (λ _. u8)), tt)))))))
 
-meets : {M : Type 1} (𝓤 : URA M) (H : Heap 𝓤) (A : Atoms 𝓤) → Given 𝓤 H A → (at-mem : Memory → SProp 𝓤) (run : Routine → Fun 𝓤) (𝓣 : Tables 𝓤 H) → Triple 𝓤 (𝓣 .C #raised) (Raised 𝓤 H A at-mem run) → Triple 𝓤 (𝓣 .C #serve) (Serve 𝓤 H A at-mem run) → Triple 𝓤 (𝓣 .C #flattened) (Flattened 𝓤 H A at-mem run)
+meets : {M : Type 1} (𝓤 : URA M) (H : Heap 𝓤) (A : Atoms 𝓤) → Given 𝓤 H A → (at-mem : Memory → SProp 𝓤) (run : Routine → Fun 𝓤) (𝓣 : Tables 𝓤 H) → Triple 𝓤 (𝓣 .C #answers-of) (Answering 𝓤 H A at-mem run) → Triple 𝓤 (𝓣 .C #serve) (Serve 𝓤 H A at-mem run) → Triple 𝓤 (𝓣 .C #flat-of) (Flattening 𝓤 H A at-mem run)
     → Meets 𝓤 H A call′.signature (WpFn 𝓤 H (𝓣 .C) (𝓣 .Λ) code.function) (call′.spec 𝓤 H A at-mem run)
-meets 𝓤 H A W at-mem run 𝓣 known-raised known-serve known-flattened =
+meets 𝓤 H A W at-mem run 𝓣 known-answers-of known-serve known-flat-of =
     walk-meets 𝓤 H A call′.ended stayed W (all-go 𝓤 H A W at-mem run) (call′.clauses 𝓤 H A at-mem run)
-    (WpFn 𝓤 H (𝓣 .C) (𝓣 .Λ) code.function) (WpFn-mono 𝓤 H (W .laws) 𝓣 code.function) (walks 𝓤 H A W at-mem run (𝓣 .C) (𝓣 .Λ) (fmOf 𝓤 H (W .laws) 𝓣) known-raised known-serve known-flattened)
+    (WpFn 𝓤 H (𝓣 .C) (𝓣 .Λ) code.function) (WpFn-mono 𝓤 H (W .laws) 𝓣 code.function) (walks 𝓤 H A W at-mem run (𝓣 .C) (𝓣 .Λ) (fmOf 𝓤 H (W .laws) 𝓣) known-answers-of known-serve known-flat-of)
 
 pub key-agent-call-spec : {M : Type 1} → stated.statement M
 unfolding code.routine tablesOf
@@ -252,6 +252,6 @@ key-agent-call-spec 𝓤 H 𝓜 𝓖 𝓡 =
     entered 𝓤 H (tripleOf 𝓤 H (𝓖 .A) call′.signature (call′.spec 𝓤 H (𝓖 .A) (𝓜 .mem) (𝓡 .run)))
     (tables 𝓤 H 𝓜 𝓡 code.env .C) (tables 𝓤 H 𝓜 𝓡 code.env .Λ) #key-agent-call code.function (code.unfolded 𝓤 H 𝓜 𝓡)
     (meets 𝓤 H (𝓖 .A) (givenOf 𝓤 H 𝓜 𝓖) (𝓜 .mem) (𝓡 .run) (tablesOf 𝓤 H 𝓜 (tables 𝓤 H 𝓜 𝓡 code.env))
-    (cited 𝓤 H (Raised 𝓤 H (𝓖 .A) (𝓜 .mem) (𝓡 .run)) 𝓜 𝓡 code.env #raised raised-def.routine code.calls-gateway·flat·raised (raised-thm.met 𝓤 H 𝓜 𝓖 𝓡))
+    (cited 𝓤 H (Answering 𝓤 H (𝓖 .A) (𝓜 .mem) (𝓡 .run)) 𝓜 𝓡 code.env #answers-of answers-of-def.routine code.calls-gateway·flat·answers-of (answers-of-thm.met 𝓤 H 𝓜 𝓖 𝓡))
     (cited 𝓤 H (Serve 𝓤 H (𝓖 .A) (𝓜 .mem) (𝓡 .run)) 𝓜 𝓡 code.env #serve serve-def.routine code.calls-gateway·lent·serve (serve-thm.met 𝓤 H 𝓜 𝓖 𝓡))
-    (cited 𝓤 H (Flattened 𝓤 H (𝓖 .A) (𝓜 .mem) (𝓡 .run)) 𝓜 𝓡 code.env #flattened flattened-def.routine code.calls-gateway·flat·flattened (flattened-thm.met 𝓤 H 𝓜 𝓖 𝓡)))
+    (cited 𝓤 H (Flattening 𝓤 H (𝓖 .A) (𝓜 .mem) (𝓡 .run)) 𝓜 𝓡 code.env #flat-of flat-of-def.routine code.calls-gateway·flat·flat-of (flat-of-thm.met 𝓤 H 𝓜 𝓖 𝓡)))
