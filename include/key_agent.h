@@ -126,6 +126,9 @@ typedef struct {
 /* The state of a fresh gateway: no key, open, clock 0. Its store is KEY_AGENT_STORE_BYTES bytes, all zero. */
 key_agent_state key_agent_fresh(void);
 
+/* Are state and store sound together, as refusal 3 tests at each call? For a host that restores them; makes no call and alters nothing. */
+bool key_agent_is_sound(key_agent_state state, const uint8_t *store, size_t store_len);
+
 /* One call for a request.
  *
  *   state, store   as the call before left them, or fresh; altered in place. store_len must be KEY_AGENT_STORE_BYTES, else refusal 2.

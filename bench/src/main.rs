@@ -43,7 +43,8 @@ enum Side {
     Core { g: Gateway, reply: Reply, asked: bool, lent: Vec<u8>, number: u64 },
     Table { t: table::Table, reply: Vec<u8>, asked: bool, lent: Vec<u8>, number: u64 },
     Russh { p: Probe, reply: Vec<u8> },
-    Sound { t: table::Table },
+    CoreSound { g: Gateway },
+    TableSound { t: table::Table },
 }
 impl Side {
     fn new(name: &str) -> Side {
@@ -59,8 +60,12 @@ impl Side {
                 for i in 0..8 {
                     t.call(&add(i), 0, table::Answers { gate: Some(true), check: Some(true), ..Default::default() }, &mut reply);
                 }
-                return Side::Sound { t };
+                return Side::TableSound { t };
             }
+            "core-sound" => match Side::new("core") {
+                Side::Core { g, .. } => return Side::CoreSound { g },
+                _ => unreachable!(),
+            },
             _ => panic!("unknown side {name}"),
         };
         for i in 0..8 {
@@ -78,7 +83,7 @@ impl Side {
             Side::Core { reply, .. } => reply.bytes().to_vec(),
             Side::Table { reply, .. } => reply[..4 + u32::from_be_bytes(reply[..4].try_into().unwrap()) as usize].to_vec(),
             Side::Russh { reply, .. } => reply.clone(),
-            Side::Sound { .. } => vec![],
+            Side::CoreSound { .. } | Side::TableSound { .. } => vec![],
         }
     }
     /// One request, to its landing.
@@ -131,7 +136,8 @@ impl Side {
                     agent_oracle::scripted::LOG.lock().unwrap().clear();
                 }
             }
-            Side::Sound { t } => assert!(black_box(&*t).is_sound()),
+            Side::CoreSound { g } => assert!(black_box(&*g).is_sound()),
+            Side::TableSound { t } => assert!(black_box(&*t).is_sound()),
         }
     }
 }
@@ -179,7 +185,7 @@ fn main() {
             for w in WORKS {
                 let mut names = SIDES.to_vec();
                 if w == "empty" {
-                    names.push("table-sound");
+                    names.extend(["core-sound", "table-sound"]);
                 }
                 let p = work(w);
                 let mut sides: Vec<Side> = names.iter().map(|n| Side::new(n)).collect();

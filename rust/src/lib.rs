@@ -377,6 +377,12 @@ impl Gateway {
         self.keys().find(|k| k.number == number)
     }
 
+    /// The soundness test that every call begins with. True of every `Gateway`; here for who measures or asserts it.
+    pub fn is_sound(&self) -> bool {
+        // SAFETY: the store is lent with its own length and only read; the state goes by value.
+        unsafe { raw::key_agent_is_sound(*self.state, self.store.as_ptr(), self.store.len()) }
+    }
+
     /// Is the gateway locked?
     pub fn is_locked(&self) -> bool {
         self.state.lock.len != 0

@@ -62,6 +62,7 @@ pub struct FlatSplit {
 // A slice crosses as two words, where it begins and its length.
 extern "C" {
     pub fn key_agent_fresh() -> State;
+    pub fn key_agent_is_sound(state: State, store: *const u8, store_len: usize) -> bool;
     pub fn key_agent_call(
         state: *mut State,
         store: *mut u8,

@@ -9,9 +9,11 @@ use crate::lent::serve;
 use rule::Millis;
 use table::State;
 use table::fresh;
+use table::soundness::is_sound;
 ghost use mathlib.Core.Path.{_≡_};
 ghost use Rattle.rule.specs.Gateway.{fresh as freshGateway};
 ghost use Rattle.table.specs.Meaning.{stateOf};
+ghost use Rattle.table.specs.Soundness.{soundState};
 ghost use Rattle.server.specs.Calls.{calledOf, storeOf, replyOf};
 ghost use Rattle.gateway.specs.Flat.{answersOf, flatOf, flatSplit};
 
@@ -20,6 +22,14 @@ pub extern "C" fn key_agent_fresh() -> State
     ensures { λ r. ⌜ r ≡ stateOf freshGateway ⌝ }
 {
     fresh()
+}
+
+// For a host that restores a state and its store: what refusal 3 tests, and no call is made.
+#[no_mangle]
+pub extern "C" fn key_agent_is_sound(state: State, store: &[u8]) -> bool
+    ensures { λ r. ⌜ r ≡ soundState state (now (store .entry)) ⌝ }
+{
+    is_sound(state, store)
 }
 
 #[no_mangle]
