@@ -10,8 +10,8 @@
 pub mod head;
 pub mod say;
 
-use gateway::flat::flattened;
-use gateway::flat::raised;
+use gateway::flat::answers_of;
+use gateway::flat::flat_of;
 use head::Head;
 use head::Headed;
 use head::Length;
@@ -68,13 +68,13 @@ fn make_call(
         store,
         payload,
         reading,
-        raised(answers),
+        answers_of(answers),
         signature,
         reply,
     );
     let outcome = done.outcome;
     let state = done.state;
-    say_outcome(flattened(outcome), reply);
+    say_outcome(flat_of(outcome), reply);
     Turn { more: true, state }
 }
 

@@ -1,7 +1,7 @@
--- The three ways that a number of an answer goes, and the three of a split.
+-- The three ways that a number of an answer goes: each is what the two tests give. Assumes nothing.
 use Prim.Native.Nat.{ℕ}
 use mathlib.Core.Path.{_≡_}
-use borrow.Author.Tests.{eq-eqb, ne-eqb}
+use borrow.Author.Tests.{ne-eqb}
 use Rattle.wire.specs.Steps.{so}
 use Rattle.gateway.specs.Flat.{told}
 

@@ -1,1 +1,3 @@
 pub mod FlatSteps
+pub mod FlatLaws
+pub mod WithinLaws

@@ -1,2 +1,2 @@
 pub mod Flat
-pub mod Calls
+pub mod Promises

@@ -2,58 +2,34 @@
 use crate::flat::FlatAnswers;
 use crate::flat::FlatOutcome;
 use crate::flat::FlatSplit;
-use crate::flat::flattened;
-use crate::flat::raised;
+use crate::flat::answers_of;
+use crate::flat::flat_of;
 use crate::flat::split;
+use crate::lent::serve;
 use rule::Millis;
-use server::call::call;
 use table::State;
 use table::fresh;
+use table::soundness::is_sound;
 ghost use mathlib.Core.Path.{_≡_};
 ghost use Rattle.rule.specs.Gateway.{fresh as freshGateway};
 ghost use Rattle.table.specs.Meaning.{stateOf};
-ghost use Rattle.gateway.specs.Flat.{flatSplit};
-ghost use Rattle.gateway.specs.Calls.{flatCalledOf, flatStoreOf, flatReplyOf};
-
-pub struct FlatCalled {
-    pub outcome: FlatOutcome,
-    pub state: State,
-}
-
-// One call, by value.
-fn call_value(
-    state: State,
-    store: &mut [u8],
-    payload: &[u8],
-    reading: Millis,
-    answers: FlatAnswers,
-    signature: &[u8],
-    reply: &mut [u8],
-) -> FlatCalled
-    ensures { λ r. ⌜ (r ≡ flatCalledOf state (now (store .entry)) (now (payload .entry)) reading answers (now (signature .entry)) (now (reply .entry))) × (now (store .exit) ≡ flatStoreOf state (now (store .entry)) (now (payload .entry)) reading answers (now (signature .entry)) (now (reply .entry))) × (now (reply .exit) ≡ flatReplyOf state (now (store .entry)) (now (payload .entry)) reading answers (now (signature .entry)) (now (reply .entry))) ⌝ }
-{
-    let r = call(
-        state,
-        store,
-        payload,
-        reading,
-        raised(answers),
-        signature,
-        reply,
-    );
-    let outcome = r.outcome;
-    let state = r.state;
-    FlatCalled {
-        outcome: flattened(outcome),
-        state,
-    }
-}
+ghost use Rattle.table.specs.Soundness.{soundState};
+ghost use Rattle.server.specs.Calls.{calledOf, storeOf, replyOf};
+ghost use Rattle.gateway.specs.Flat.{answersOf, flatOf, flatSplit};
 
 #[no_mangle]
 pub extern "C" fn key_agent_fresh() -> State
     ensures { λ r. ⌜ r ≡ stateOf freshGateway ⌝ }
 {
     fresh()
+}
+
+// For a host that restores a state and its store: what refusal 3 tests, and no call is made.
+#[no_mangle]
+pub extern "C" fn key_agent_is_sound(state: State, store: &[u8]) -> bool
+    ensures { λ r. ⌜ r ≡ soundState state (now (store .entry)) ⌝ }
+{
+    is_sound(state, store)
 }
 
 #[no_mangle]
@@ -66,11 +42,11 @@ pub extern "C" fn key_agent_call(
     signature: &[u8],
     reply: &mut [u8],
 ) -> FlatOutcome
-    ensures { λ r. ⌜ (r ≡ flatCalledOf (now (state .entry)) (now (store .entry)) (now (payload .entry)) reading answers (now (signature .entry)) (now (reply .entry)) .outcome) × (now (state .exit) ≡ flatCalledOf (now (state .entry)) (now (store .entry)) (now (payload .entry)) reading answers (now (signature .entry)) (now (reply .entry)) .state) × (now (store .exit) ≡ flatStoreOf (now (state .entry)) (now (store .entry)) (now (payload .entry)) reading answers (now (signature .entry)) (now (reply .entry))) × (now (reply .exit) ≡ flatReplyOf (now (state .entry)) (now (store .entry)) (now (payload .entry)) reading answers (now (signature .entry)) (now (reply .entry))) ⌝ }
+    ensures { λ r. ⌜ (r ≡ flatOf (calledOf (now (state .entry)) (now (store .entry)) (now (payload .entry)) reading (answersOf answers) (now (signature .entry)) (now (reply .entry)) .outcome)) × (now (state .exit) ≡ calledOf (now (state .entry)) (now (store .entry)) (now (payload .entry)) reading (answersOf answers) (now (signature .entry)) (now (reply .entry)) .state) × (now (store .exit) ≡ storeOf (now (state .entry)) (now (store .entry)) (now (payload .entry)) reading (answersOf answers) (now (signature .entry)) (now (reply .entry))) × (now (reply .exit) ≡ replyOf (now (state .entry)) (now (store .entry)) (now (payload .entry)) reading (answersOf answers) (now (signature .entry)) (now (reply .entry))) ⌝ }
 {
-    let r = call_value(*state, store, payload, reading, answers, signature, reply);
-    *state = r.state;
-    r.outcome
+    let lent = answers_of(answers);
+    let outcome = serve(state, store, payload, reading, lent, signature, reply);
+    flat_of(outcome)
 }
 
 #[no_mangle]

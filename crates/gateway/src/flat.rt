@@ -42,7 +42,7 @@ pub struct FlatSplit {
     pub to: usize,
 }
 
-fn said(word: u8) -> Said
+fn said_of(word: u8) -> Said
     ensures { λ r. ⌜ r ≡ saidOf word ⌝ }
 {
     match word {
@@ -52,7 +52,7 @@ fn said(word: u8) -> Said
     }
 }
 
-fn confirmed(word: u8, number: u64) -> Confirmed
+fn confirmed_of(word: u8, number: u64) -> Confirmed
     ensures { λ r. ⌜ r ≡ confirmedOf word number ⌝ }
 {
     match word {
@@ -68,7 +68,7 @@ fn confirmed(word: u8, number: u64) -> Confirmed
     }
 }
 
-fn signed(word: u8, number: u64) -> Signed
+fn signed_of(word: u8, number: u64) -> Signed
     ensures { λ r. ⌜ r ≡ signedOf word number ⌝ }
 {
     match word {
@@ -78,18 +78,18 @@ fn signed(word: u8, number: u64) -> Signed
     }
 }
 
-pub fn raised(flat: FlatAnswers) -> Answers
+pub fn answers_of(flat: FlatAnswers) -> Answers
     ensures { λ r. ⌜ r ≡ answersOf flat ⌝ }
 {
     Answers {
-        gate: said(flat.gate),
-        check: said(flat.check),
-        confirmation: confirmed(flat.confirmation, flat.confirmation_number),
-        signature: signed(flat.signature, flat.signature_number),
+        gate: said_of(flat.gate),
+        check: said_of(flat.check),
+        confirmation: confirmed_of(flat.confirmation, flat.confirmation_number),
+        signature: signed_of(flat.signature, flat.signature_number),
     }
 }
 
-fn bits(hash: Hash) -> u16
+fn hash_bits(hash: Hash) -> u16
     ensures { λ r. ⌜ r ≡ hashBits hash ⌝ }
 {
     match hash {
@@ -123,7 +123,7 @@ fn part(kind: u8, from: usize, to: usize) -> FlatOutcome
     }
 }
 
-pub fn flattened(outcome: Outcome) -> FlatOutcome
+pub fn flat_of(outcome: Outcome) -> FlatOutcome
     ensures { λ r. ⌜ r ≡ flatOf outcome ⌝ }
 {
     match outcome {
@@ -138,7 +138,7 @@ pub fn flattened(outcome: Outcome) -> FlatOutcome
             hash,
         } => FlatOutcome {
             kind: 4,
-            hash: bits(hash),
+            hash: hash_bits(hash),
             number,
             from,
             to,

@@ -5,7 +5,6 @@ use mathlib.Core.Bool.{Bool, true, false, not}
 use mathlib.Core.Option.{Option, none, some}
 use mathlib.Core.List.{List}
 use borrow.Author.Tests.{not-true, not-false, le-leb, lt-leb, eq-eqb, ne-eqb}
-use lib.Dec.{leb}
 use lib.ListN.{length}
 use Rattle.wire.specs.Steps.{so}
 use Rattle.rule.specs.declared.Millis.{Millis}
@@ -20,8 +19,8 @@ use Rattle.table.proofs.WritingLaws.{sound-canonical}
 use Rattle.server.specs.declared.Answers.{Answers}
 use Rattle.server.specs.declared.Called.{Called}
 use Rattle.server.specs.declared.Outcome.the-variants.{Refused}
-use Rattle.server.specs.Outcomes.{signatureOf, lentOf, code, written}
-use Rattle.server.specs.Calls.{Done, laidOut, callOf, Ends}
+use Rattle.server.specs.Outcomes.{signatureOf, lentOf}
+use Rattle.server.specs.Calls.{laidOut, callOf, Ends, EndsDecides}
 
 -- ## Soundness, as the test tells it
 
@@ -40,14 +39,20 @@ laid buffer r x out result h =
     let g = h .means .gateway in
     ((λ j. record { outcome = h .outcome j; state = (c .state ∙ ap stateOf g) j }), c .store ∙ ap layout g, h .bytes)
 
+pub ends-decides : EndsDecides
+ends-decides buffer result r s x y out other a b =
+    let l = laid buffer r x out result a in
+    let m = laid buffer s y other result b in
+    (l .0 ∙ sym (m .0), l .1 ∙ sym (m .1), l .2 ∙ sym (m .2))
+
 module _ (s : State) (x p : List ℕ) (t : Millis) (answers : Answers) (bytes buffer : List ℕ) where
-  abbrev refusal : Option ℕ
-  refusal = refusalOf (length buffer) (length x) (soundState s x) (length p) (lentLength (lentOf answers bytes .signature))
+  abbrev pub refusalHere : Option ℕ
+  refusalHere = refusalOf (length buffer) (length x) (soundState s x) (length p) (lentLength (lentOf answers bytes .signature))
 
   abbrev Gives : Called → List ℕ → List ℕ → Type 0
   Gives r y out = (r ≡ callOf s x p t answers bytes buffer .called) × (y ≡ callOf s x p t answers bytes buffer .store) × (out ≡ callOf s x p t answers bytes buffer .reply)
 
-  refuses : (n : ℕ) (r : Called) → refusal ≡ some n → r ≡ record { outcome = Refused n; state = s } → Gives r x buffer
+  refuses : (n : ℕ) (r : Called) → refusalHere ≡ some n → r ≡ record { outcome = Refused n; state = s } → Gives r x buffer
   unfolding callOf
   refuses n r e f = rw e (f, refl, refl)
 
@@ -55,21 +60,21 @@ module _ (s : State) (x p : List ℕ) (t : Millis) (answers : Answers) (bytes bu
   unfolding refusalOf so lentOf
   refuses-1 r h f = refuses 1 r first f
     where
-      first : refusal ≡ some 1
+      first : refusalHere ≡ some 1
       first = rw (lt-leb 8265 (length buffer) h)
 
   pub refuses-2 : (r : Called) → 8265 ≤ length buffer → (length x ≡ 32768 → ⊥) → r ≡ record { outcome = Refused 2; state = s } → Gives r x buffer
   unfolding refusalOf so lentOf
   refuses-2 r a b f = refuses 2 r second f
     where
-      second : refusal ≡ some 2
+      second : refusalHere ≡ some 2
       second = rw (le-leb 8265 (length buffer) a, ne-eqb (length x) 32768 b)
 
   pub refuses-3 : (r : Called) (b : Bool) → 8265 ≤ length buffer → length x ≡ 32768 → not b ≡ true → b ≡ soundState s x → r ≡ record { outcome = Refused 3; state = s } → Gives r x buffer
   unfolding refusalOf so lentOf
   refuses-3 r b h e u is f = refuses 3 r third f
     where
-      third : refusal ≡ some 3
+      third : refusalHere ≡ some 3
       third = rw (le-leb 8265 (length buffer) h, eq-eqb (length x) 32768 e, ← is, not-true b u)
 
   module _ (h : 8265 ≤ length buffer) (S : Sound s x) where
@@ -77,7 +82,7 @@ module _ (s : State) (x p : List ℕ) (t : Millis) (answers : Answers) (bytes bu
     unfolding refusalOf so lentOf
     refuses-4 r a f = refuses 4 r fourth f
       where
-        fourth : refusal ≡ some 4
+        fourth : refusalHere ≡ some 4
         fourth = rw (le-leb 8265 (length buffer) h, eq-eqb (length x) 32768 (S .store-size), sound-passed s x S, lt-leb (length p) 262144 a)
 
     module _ (n : ℕ) (a : length p ≤ 262144) (lent : n ≡ lentLength (signatureOf (answers .signature) bytes)) where
@@ -85,18 +90,19 @@ module _ (s : State) (x p : List ℕ) (t : Millis) (answers : Answers) (bytes bu
       unfolding refusalOf so lentOf
       refuses-5 r b f = refuses 5 r fifth f
         where
-          fifth : refusal ≡ some 5
+          fifth : refusalHere ≡ some 5
           fifth = rw (le-leb 8265 (length buffer) h, eq-eqb (length x) 32768 (S .store-size), sound-passed s x S, le-leb (length p) 262144 a, ← lent, lt-leb n 2048 b)
+
+      pub none-applies : n ≤ 2048 → refusalHere ≡ none
+      unfolding refusalOf so lentOf
+      none-applies b = rw (le-leb 8265 (length buffer) h, eq-eqb (length x) 32768 (S .store-size), sound-passed s x S, le-leb (length p) 262144 a, ← lent, le-leb n 2048 b)
 
       pub accepts : (r : Called) (y out : List ℕ) (raised : State) (z : List ℕ) → n ≤ 2048 → Means raised z (advance (t .count) (gatewayOf s x))
           → Ends buffer r y out (served (gatewayOf raised z) (record { payload = p }) (lentOf answers bytes)) → Gives r y out
-      unfolding callOf refusalOf so lentOf
+      unfolding callOf
       accepts r y out raised z b m e =
-          rw none-applies
+          rw (none-applies b)
           (laid buffer r y out _ (subst (λ (g : Gateway). Ends buffer r y out (served g (record { payload = p }) (lentOf answers bytes))) (m .gateway) e))
-        where
-          none-applies : refusal ≡ none
-          none-applies = rw (le-leb 8265 (length buffer) h, eq-eqb (length x) 32768 (S .store-size), sound-passed s x S, le-leb (length p) 262144 a, ← lent, le-leb n 2048 b)
 
 -- a lent signature that the test lets through is short
 pub lent-short : (answers : Answers) (bytes : List ℕ) (n : ℕ) → n ≡ lentLength (signatureOf (answers .signature) bytes) → n ≤ 2048 → lentLength (lentOf answers bytes .signature) ≤ 2048

@@ -5,4 +5,5 @@ pub mod SignSteps
 pub mod AddSteps
 pub mod RowSteps
 pub mod CallLaws
+pub mod Leavings
 pub mod Lift

@@ -1,6 +1,6 @@
--- A run of the code is a run of the rule: `call` refuses a sound state where the rule does, what the rule leaves is sound, and what is sound
--- is meant by its layout. So the promises of order hold of what the code gave. Assumed: a sound state and store at the start, and steps that
--- meet the contract of `call`.
+-- A run of the code is a run of the rule: each step ends as the rule's call does (Leavings), and the state and store that it leaves are sound
+-- and mean what the rule's next call starts from. So the promises of order hold of what the code gave. Assumed: a sound state and store at
+-- the start, and steps that meet the contract of `call`.
 use Prim.Native.Nat.{ℕ, max}
 use mathlib.Core.Path.{_≡_, refl, sym, ap, _∙_, subst}
 use mathlib.Core.Logic.{_≢_}
@@ -10,119 +10,32 @@ use mathlib.Core.List.{List, [], _∷_, map}
 use native.Mathlib.Omega.{arith}
 use borrow.Author.Tests.{lt-ltb}
 use lib.Dec.{leb}
-use lib.ListN.{length}
 use Rattle.wire.specs.Steps.{so}
-use Rattle.wire.proofs.Laws.{one-answer}
-use Rattle.rule.specs.declared.Millis.{Millis}
-use Rattle.rule.specs.Gateway.{Gateway, advance, locked}
-use Rattle.rule.specs.Soundness as rule
-use Rattle.rule.specs.Rule.{Question, gate, rule as plan}
-use Rattle.rule.specs.Calls as calls
-use Rattle.rule.specs.Calls.{given, lent, lentLength, refusalOf, Frame, Call, refused, asks, Result, served, refusal, call}
+use Rattle.rule.specs.Gateway.{Gateway, locked}
+use Rattle.rule.specs.Rule.{Question, gate}
+use Rattle.rule.specs.Calls.{given, refusalOf, Frame, Call, refused, asks, Result, refusal, call}
 use Rattle.rule.specs.Runs.{heard, heardIn, turn, turnsFrom, endOf, Oracle}
-use Rattle.rule.specs.Order.{EveryAccepted, Keeps, AsOneAtATime, asked, askedIn, ownFrame, ownAnswers, Begins, NoUnlocking, EveryQuestion, EveryOutcome, someAccepted, OnlyExpiry}
+use Rattle.rule.specs.Order.{EveryAccepted, Keeps, AsOneAtATime, asked, askedIn, ownFrame, ownAnswers, Begins, NoUnlocking, NeverFall, EveryQuestion, EveryOutcome, someAccepted, OnlyExpiry}
 use Rattle.rule.proofs.Cases.{so-cases, true-not-false}
 use Rattle.rule.proofs.PlaceLaws.{some-not-none}
-use Rattle.rule.proofs.RefusalLaws.{follow-not-refused, refused-by}
+use Rattle.rule.proofs.RefusalLaws.{refused-by}
 use Rattle.rule.proofs.Crossing.{own-cases}
 use Rattle.rule.proofs.Demands as demands
 use Rattle.rule.proofs.LockedRuns as locks
-use Rattle.rule.proofs.SoundLaws.{sound-rule, calls-keep-sound, never-refused-3}
+use Rattle.rule.proofs.SoundLaws.{never-refused-3}
 use Rattle.table.specs.declared.State.{State}
 use Rattle.table.specs.Meaning.{gatewayOf}
-use Rattle.table.specs.Soundness.{soundState, Sound, Means}
-use Rattle.table.proofs.WritingLaws.{sound-meaning, every-gateway}
-use Rattle.server.specs.declared.Answers.{Answers}
-use Rattle.server.specs.declared.Called.{Called}
+use Rattle.table.specs.Soundness.{Means}
+use Rattle.table.proofs.WritingLaws.{sound-meaning}
 use Rattle.server.specs.declared.Outcome.{Outcome}
 use Rattle.server.specs.declared.Outcome.the-variants.{Refused, Gate, Check, Confirm, Sign, Reply, Close}
-use Rattle.server.specs.Outcomes.{lentOf, code, written, outcomeOf}
-use Rattle.server.specs.Calls.{Done, laidOut, callOf, Ends}
-use Rattle.server.specs.Runs.{Meets, NoSecondAnswer, Unchanged, CodeRefusalLeaves}
+use Rattle.server.specs.Outcomes.{outcomeOf}
+use Rattle.server.specs.Runs.{Unchanged}
 use Rattle.server.specs.Runs.{Step, MeetsCall, stateAfter, storeAfter, CodeRun, endState, endStore, EveryStep, asCall, RuleRun, IsARun, CodeIsARun}
 use Rattle.server.specs.Runs.{ended, isAccepted, Accepted, heardAt, heardOver, turnsOver, turnsOf, askedOver, acceptedOver, acceptedSteps}
-use Rattle.server.specs.Runs.{CodeAsOneAtATime, CodeDemand3, CodeAsLent, CodeRefusedDropOut, CodeOnlyExpiry, CodeWhileLocked, CodeBetweenLockAndUnlock, CodeNeverRefused3, CodePromises}
-use Rattle.server.proofs.OutcomeLaws.{outcomes-read}
-use Rattle.server.proofs.CallLaws.{sound-passed}
-
--- ## One call
-
-pub no-second-answer : NoSecondAnswer
-no-second-answer state store payload reading answers signature buffer a b m n =
-    let called = one-answer Called _ _ _ (m .called-is) (n .called-is) in
-    let bytes = one-answer (List ℕ) _ _ _ (m .store-is) (n .store-is) in
-    let reply = one-answer (List ℕ) _ _ _ (m .reply-is) (n .reply-is) in
-    λ j. record { called = called j; store = bytes j; reply = reply j }
-
--- the contract as one equation
-meets-is : (state : State) (store payload : List ℕ) (reading : Millis) (answers : Answers) (signature buffer : List ℕ) (done : Done)
-    → Meets state store payload reading answers signature buffer done → done ≡ callOf state store payload reading answers signature buffer
-meets-is state store payload reading answers signature buffer done m =
-    no-second-answer state store payload reading answers signature buffer _ _ m (record { called-is = refl; store-is = refl; reply-is = refl })
-
--- a call that is served is not refused
-served-not-refused : (buffer : List ℕ) (done : Done) (g : Gateway) (frame : Frame) (answers : calls.Answers) (n : ℕ)
-    → done ≡ laidOut buffer (served g frame answers) → done .called .outcome ≢ Refused n
-unfolding served outcomeOf
-served-not-refused buffer done g frame answers n is e =
-    let r = served g frame answers in
-    let says : code (r .outcome) ≡ Refused n = ap (λ (d : Done). d .called .outcome) (sym is) ∙ e in
-    follow-not-refused (lent answers) g (plan g (frame .payload)) n
-    (sym (outcomes-read (r .outcome) buffer) ∙ ap (λ o. outcomeOf o (written (r .outcome) buffer)) says)
-
--- a call's refusal, and what it gives then
-abbrev refusalHere : State → (store payload : List ℕ) → Answers → (signature buffer : List ℕ) → Option ℕ
-refusalHere state store payload answers signature buffer =
-    refusalOf (length buffer) (length store) (soundState state store) (length payload) (lentLength (lentOf answers signature .signature))
-
-abbrev refusedDone : State → (store buffer : List ℕ) → ℕ → Done
-refusedDone state store buffer n = record { called = record { outcome = Refused n; state = state }; store = store; reply = buffer }
-
-pub code-refusal-leaves : CodeRefusalLeaves
-unfolding callOf
-code-refusal-leaves state store payload reading answers signature buffer done n m e =
-    by (refusalHere state store payload answers signature buffer) _ _ _ (meets-is state store payload reading answers signature buffer done m)
-  where
-    by : (o : Option ℕ) (g : Gateway) (frame : Frame) (lent : calls.Answers)
-        → done ≡ given o (laidOut buffer (served g frame lent)) (refusedDone state store buffer) → Unchanged state store buffer done
-    by none g frame lent is = absurd (served-not-refused buffer done g frame lent n is e)
-    by (some number) g frame lent is = rw is (record { state-stays = refl; store-stays = refl; buffer-stays = refl })
-
--- a step ended as the rule's result
-abbrev StepEnds : Step → Result → Type 0
-StepEnds k r = Ends (k .buffer) (k .done .called) (k .done .store) (k .done .reply) r
-
--- what the rule leaves sound is meant by its layout
-laid-ends : (k : Step) (r : Result) → rule.Sound (r .gateway) → k .done ≡ laidOut (k .buffer) r → StepEnds k r
-laid-ends k r h e = rw e (record { outcome = refl; means = every-gateway (r .gateway) h; bytes = refl })
-
-module _ (state : State) (store : List ℕ) (S : Sound state store) (k : Step) where
-  abbrev meant : Gateway
-  meant = gatewayOf state store
-
-  refused-ends : (n : ℕ) → k .done ≡ refusedDone state store (k .buffer) n → StepEnds k (record { outcome = refused n; gateway = meant })
-  unfolding code written
-  refused-ends n e = rw e (record { outcome = refl; means = record { gateway = refl; sound = S }; bytes = refl })
-
-  same-refusal : refusalHere state store (k .payload) (k .answers) (k .signature) (k .buffer) ≡ refusal meant (asCall k)
-  unfolding refusal
-  same-refusal =
-      let ruled = sound-rule meant .1 (sound-meaning state store S) in
-      rw (S .store-size, sound-passed state store S, ruled)
-
-  by-refusal : (o : Option ℕ) (r : Result) → rule.Sound (given o r (λ n. record { outcome = refused n; gateway = meant }) .gateway)
-      → k .done ≡ given o (laidOut (k .buffer) r) (refusedDone state store (k .buffer)) → StepEnds k (given o r λ n. record { outcome = refused n; gateway = meant })
-  by-refusal none r h e = laid-ends k r h e
-  by-refusal (some n) r h e = refused-ends n e
-
-  step-ends : MeetsCall state store k → StepEnds k (call meant (asCall k))
-  unfolding call callOf
-  step-ends m =
-      let answers = lentOf (k .answers) (k .signature) in
-      let r = served (advance (k .reading .count) meant) (record { payload = k .payload }) answers in
-      let is = meets-is state store (k .payload) (k .reading) (k .answers) (k .signature) (k .buffer) (k .done) m in
-      by-refusal (refusal meant (asCall k)) r (calls-keep-sound meant (asCall k) (sound-meaning state store S))
-      (is ∙ ap (λ (o : Option ℕ). given o (laidOut (k .buffer) r) (refusedDone state store (k .buffer))) same-refusal)
+use Rattle.server.specs.Runs.{CodeAsOneAtATime, CodeDemand3, CodeAsLent, CodeRefusedDropOut, NeverFallOver, CodeOwnReadings, CodeOnlyExpiry, CodeWhileLocked, CodeBetweenLockAndUnlock, CodeNeverRefused3, CodePromises}
+use Rattle.server.proofs.Leavings.{no-second-answer, code-refusals, code-refusal-leaves, StepEnds, step-ends, ended-is}
+use Rattle.server.proofs.Leavings.{code-question-leaves, code-close-leaves, code-failure-leaves, code-reply-leaves, code-reply-bytes, code-others-stay}
 
 -- ## The run
 
@@ -144,10 +57,6 @@ code-is-a-run state store ks S run =
     record { calls = l .calls; end = l .end }
 
 -- ## Read off the code's results
-
--- a step's outcome and reply say how the rule's call ended
-ended-is : (k : Step) (r : Result) → StepEnds k r → ended k ≡ r .outcome
-ended-is k r e = rw (e .outcome, e .bytes) (outcomes-read (r .outcome) (k .buffer))
 
 -- the rule accepts what its outcome says is accepted
 accepts : {A : Type 0} (g : Gateway) (c : Call) (z a : A) → so z (isAccepted (call g c .outcome)) a ≡ given (refusal g c) a λ n. z
@@ -251,6 +160,14 @@ kept-steps P (k ∷ ks) g run keeps = (
   kept-steps P ks (call g (asCall k) .gateway) (run .1) (keeps .1),
 )
 
+never-fall : (ks : List Step) (m : ℕ) (g : Gateway) → RuleRun g ks → NeverFallOver m ks → NeverFall m g (map asCall ks)
+unfolding NeverFall
+never-fall [] m g run low = tt
+never-fall (k ∷ ks) m g run low = (
+  (λ e. low .0 (ap isAccepted (ended-is k (call g (asCall k)) (run .0)) ∙ accepted-if g (asCall k) e)),
+  never-fall ks (heard m g (asCall k)) (call g (asCall k) .gateway) (run .1) (rw (heard-is k g (run .0) m) at (low .1)),
+)
+
 asked-steps : (P : Call → Question → Type 0) (ks : List Step) (g : Gateway) → RuleRun g ks → EveryQuestion P g (map asCall ks)
     → EveryStep (λ k. (q : Question) → ended k ≡ asks q → P (asCall k) q) ks
 asked-steps P [] g run all = tt
@@ -297,6 +214,12 @@ code-demand-3 frames oracles state store ks S run keeps =
     let g = gatewayOf state store in
     as-one-at-a-time state store ks is _ _
     (demands.demand-3 frames oracles g (map asCall ks) (sound-meaning state store S) (kept-steps (Keeps (λ c. frames (c .request)) (λ c. oracles (c .request))) ks g (is .calls) keeps))
+
+pub code-own-readings : CodeOwnReadings
+code-own-readings state store ks S run low =
+    let is = code-is-a-run state store ks S run in
+    let g = gatewayOf state store in
+    rw (as-read state store ks is .turns-are) (demands.own-readings g (map asCall ks) (never-fall ks 0 g (is .calls) low))
 
 pub code-as-lent : CodeAsLent
 code-as-lent state store ks S run =
@@ -366,11 +289,19 @@ code-never-refused-3 state store ks S run =
 pub code-promises : CodePromises
 code-promises = record {
   no-second-answer = no-second-answer;
+  refusals = code-refusals;
   refusal-leaves = code-refusal-leaves;
+  question-leaves = code-question-leaves;
+  close-leaves = code-close-leaves;
+  failure-leaves = code-failure-leaves;
+  reply-leaves = code-reply-leaves;
+  reply-bytes = code-reply-bytes;
+  others-stay = code-others-stay;
   is-a-run = code-is-a-run;
   demand-3 = code-demand-3;
   as-lent = code-as-lent;
   refused-drop-out = code-refused-drop-out;
+  own-readings = code-own-readings;
   while-locked = code-while-locked;
   between-lock-and-unlock = code-between-lock-and-unlock;
   never-refused-3 = code-never-refused-3;

@@ -53,6 +53,12 @@ pub record Ends (buffer : List ℕ) (r : Called) (store reply : List ℕ) (resul
   pub means : Means (r .state) store (result .gateway)
   pub bytes : reply ≡ written (result .outcome) buffer
 
+-- "no second answer": what ends as one result is one state, one store and one reply buffer
+abbrev pub EndsDecides : Type 0
+EndsDecides =
+    (buffer : List ℕ) (result : rule.Result) (r s : Called) (x y out other : List ℕ) → Ends buffer r x out result → Ends buffer s y other result
+    → (r ≡ s) × (x ≡ y) × (out ≡ other)
+
 -- the frame of a payload of one byte
 abbrev pub fiveBytes : ℕ → List ℕ
 fiveBytes kind = 0 ∷ 0 ∷ 0 ∷ 1 ∷ kind ∷ []

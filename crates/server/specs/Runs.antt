@@ -1,23 +1,24 @@
--- Runs of the code: calls that meet the contract of `call`, each on what the one before it returned. The promises of order, said of what
--- the code gave.
-use Prim.Native.Nat.{ℕ, max, _<_}
+-- Calls of the code that meet the contract of `call`, and runs of them, each on what the one before it returned. What a call leaves, and
+-- the promises of order, said of what the code gave.
+use Prim.Native.Nat.{ℕ, max, _≤_, _<_}
 use mathlib.Core.Path.{_≡_}
 use mathlib.Core.Logic.{_≢_}
 use mathlib.Core.Bool.{Bool, true, false}
 use mathlib.Core.List.{List, [], _∷_, _++_, map}
-use lib.ListN.{length}
+use lib.ListN.{length, drop}
 use Rattle.wire.specs.Steps.{so}
 use Rattle.rule.specs.declared.Millis.{Millis}
 use Rattle.rule.specs.Gateway.{Gateway, advance, locked}
-use Rattle.rule.specs.Rule.{Question, gate, FAILURE, SUCCESS}
+use Rattle.rule.specs.Rule.{Question, gate, Landing, FAILURE, SUCCESS}
 use Rattle.rule.specs.Calls.{Frame, Call, Outcome, refused, asks, lands, call}
 use Rattle.rule.specs.Runs.{Turn, turn, endOf, landings, Oracle, oneAtATime, oneAtATimeEnd}
 use Rattle.rule.specs.Order.{EveryTurn, Keeps, asked, settled, ownFrame, ownAnswers, Begins, Carries, NoUnlocking}
 use Rattle.table.specs.declared.State.{State}
 use Rattle.table.specs.Meaning.{gatewayOf}
 use Rattle.table.specs.Soundness.{Sound, Means}
+use Rattle.server.specs.declared.Signed.the-variants.{Given}
 use Rattle.server.specs.declared.Answers.{Answers}
-use Rattle.server.specs.declared.Outcome.the-variants.{Refused}
+use Rattle.server.specs.declared.Outcome.the-variants.{Refused, Reply, Close}
 use Rattle.server.specs.Outcomes.{lentOf, outcomeOf}
 use Rattle.server.specs.Calls.{Done, calledOf, storeOf, replyOf, Ends}
 
@@ -154,6 +155,78 @@ unfoldable pub acceptedOver : Bool → List Step → Bool
 acceptedOver before [] = before
 acceptedOver before (k ∷ ks) = acceptedOver (so before (isAccepted (ended k)) true) ks
 
+-- ## What one call does
+
+-- "Call refusals, first that applies"
+pub record RefusalsInOrder (state : State) (store : List ℕ) (k : Step) : Type 0 where
+  pub first : length (k .buffer) < 8265 → k .done .called .outcome ≡ Refused 1
+  pub second : 8265 ≤ length (k .buffer) → length store ≢ 32768 → k .done .called .outcome ≡ Refused 2
+  pub third : 8265 ≤ length (k .buffer) → length store ≡ 32768 → (Sound state store → ⊥) → k .done .called .outcome ≡ Refused 3
+  pub fourth : 8265 ≤ length (k .buffer) → Sound state store → 262144 < length (k .payload) → k .done .called .outcome ≡ Refused 4
+  pub fifth : 8265 ≤ length (k .buffer) → Sound state store → length (k .payload) ≤ 262144
+      → (n : ℕ) → k .answers .signature ≡ Given n → 2048 < length (k .signature) → k .done .called .outcome ≡ Refused 5
+  pub accepted : 8265 ≤ length (k .buffer) → Sound state store → length (k .payload) ≤ 262144
+      → ((n : ℕ) → k .answers .signature ≡ Given n → length (k .signature) ≤ 2048) → (n : ℕ) → k .done .called .outcome ≢ Refused n
+
+-- on any state and store; the two lengths are the arrays'
+abbrev pub CodeRefusals : Type 0
+CodeRefusals =
+    (state : State) (store : List ℕ) (k : Step) → length (state .entries) ≡ 8 → length (state .lock .bytes) ≡ 1024 → MeetsCall state store k
+    → RefusalsInOrder state store k
+
+-- state and store mean the gateway as it was, its clock raised and its due entries gone, and are sound
+abbrev pub OnlyClock : State → List ℕ → Step → Type 0
+OnlyClock state store k = Means (stateAfter k) (storeAfter k) (advance (k .reading .count) (gatewayOf state store))
+
+-- and no byte of the reply buffer changed
+pub record Quiet (state : State) (store : List ℕ) (k : Step) : Type 0 where
+  pub only-clock : OnlyClock state store k
+  pub buffer-stays : k .done .reply ≡ k .buffer
+
+-- "Questions and closing alter nothing but clock and expiry"
+abbrev pub CodeQuestionLeaves : Type 0
+CodeQuestionLeaves =
+    (state : State) (store : List ℕ) (k : Step) (q : Question) → Sound state store → MeetsCall state store k → ended k ≡ asks q → Quiet state store k
+
+abbrev pub CodeCloseLeaves : Type 0
+CodeCloseLeaves =
+    (state : State) (store : List ℕ) (k : Step) → Sound state store → MeetsCall state store k → k .done .called .outcome ≡ Close
+    → Quiet state store k
+
+-- ".. nor does FAILURE": five bytes, and the reply buffer's others stay
+pub record Failed (state : State) (store : List ℕ) (k : Step) : Type 0 where
+  pub only-clock : OnlyClock state store k
+  pub outcome : k .done .called .outcome ≡ Reply 5
+  pub buffer : k .done .reply ≡ 0 ∷ 0 ∷ 0 ∷ 1 ∷ 5 ∷ drop 5 (k .buffer)
+
+abbrev pub CodeFailureLeaves : Type 0
+CodeFailureLeaves =
+    (state : State) (store : List ℕ) (k : Step) → Sound state store → MeetsCall state store k → ended k ≡ lands FAILURE → Failed state store k
+
+-- nor does any reply but SUCCESS
+abbrev pub CodeReplyLeaves : Type 0
+CodeReplyLeaves =
+    (state : State) (store : List ℕ) (k : Step) (l : Landing) → Sound state store → MeetsCall state store k → ended k ≡ lands l → l ≢ SUCCESS
+    → OnlyClock state store k
+
+-- "A reply fills the first bytes of the reply buffer; all its other bytes .. stay."
+pub record Fills (n : ℕ) (k : Step) : Type 0 where
+  pub fits : n ≤ 8265
+  pub room : 8265 ≤ length (k .buffer)
+  pub length-stays : length (k .done .reply) ≡ length (k .buffer)
+  pub others-stay : drop n (k .done .reply) ≡ drop n (k .buffer)
+
+abbrev pub CodeReplyBytes : Type 0
+CodeReplyBytes =
+    (state : State) (store : List ℕ) (k : Step) (n : ℕ) → Sound state store → MeetsCall state store k → k .done .called .outcome ≡ Reply n
+    → Fills n k
+
+-- ".. and in other outcomes all its bytes, stay": on any state and store
+abbrev pub CodeOthersStay : Type 0
+CodeOthersStay =
+    (state : State) (store : List ℕ) (k : Step) → MeetsCall state store k → ((n : ℕ) → k .done .called .outcome ≢ Reply n)
+    → k .done .reply ≡ k .buffer
+
 -- ## Demand 3
 
 module _ (frameOf : Call → Frame) (oracleOf : Call → Oracle) (state : State) (store : List ℕ) (ks : List Step) where
@@ -197,6 +270,16 @@ pub record CodeDropsOut (state : State) (store : List ℕ) (ks : List Step) : Ty
 abbrev pub CodeRefusedDropOut : Type 0
 CodeRefusedDropOut = (state : State) (store : List ℕ) (ks : List Step) → CodeRun state store ks → CodeDropsOut state store ks
 
+-- where readings never fall, each landing is at its own step's reading
+abbrev pub NeverFallOver : ℕ → List Step → Type 0
+NeverFallOver greatest [] = Unit {0}
+NeverFallOver greatest (k ∷ ks) = (Accepted k → greatest ≤ k .reading .count) × NeverFallOver (heardAt greatest k) ks
+
+abbrev pub CodeOwnReadings : Type 0
+CodeOwnReadings =
+    (state : State) (store : List ℕ) (ks : List Step) → Sound state store → CodeRun state store ks → NeverFallOver 0 ks
+    → EveryTurn (λ t. t .reading ≡ t .by .reading) (turnsOf ks)
+
 -- ## Between a non-empty lock's success and the next unlock's success
 
 -- every landing is FAILURE; no key arrives, keys leave only by expiry, nothing else changes; nothing is asked but the gate for an unlock
@@ -233,11 +316,19 @@ CodeNeverRefused3 = (state : State) (store : List ℕ) (ks : List Step) → Soun
 
 pub record CodePromises : Type 0 where
   pub no-second-answer : NoSecondAnswer
+  pub refusals : CodeRefusals
   pub refusal-leaves : CodeRefusalLeaves
+  pub question-leaves : CodeQuestionLeaves
+  pub close-leaves : CodeCloseLeaves
+  pub failure-leaves : CodeFailureLeaves
+  pub reply-leaves : CodeReplyLeaves
+  pub reply-bytes : CodeReplyBytes
+  pub others-stay : CodeOthersStay
   pub is-a-run : CodeIsARun
   pub demand-3 : CodeDemand3
   pub as-lent : CodeAsLent
   pub refused-drop-out : CodeRefusedDropOut
+  pub own-readings : CodeOwnReadings
   pub while-locked : CodeWhileLocked
   pub between-lock-and-unlock : CodeBetweenLockAndUnlock
   pub never-refused-3 : CodeNeverRefused3

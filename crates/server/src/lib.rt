@@ -1,11 +1,12 @@
-// What each request does once it is past the gate: an outcome and the new state come out, and store and reply buffer hold what the rule says.
-// Each function requires what the refusals of a call test first: room for the reply, a sound state and store, a signature that is not too long.
-pub mod add;
+// One call of the gateway: `call::call`, the one function that other crates see. It requires nothing.
+// Below it each request once it is past the gate: an outcome and the new state come out, and store and reply buffer hold what the rule says.
+// These functions require what the refusals of a call test first: room for the reply, a sound state and store, a signature that is not too long.
+mod add;
 pub mod call;
-pub mod list;
-pub mod replies;
-pub mod requests;
-pub mod sign;
+mod list;
+mod replies;
+mod requests;
+mod sign;
 
 use rule::Hash;
 use table::State;

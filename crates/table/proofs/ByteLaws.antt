@@ -1,7 +1,7 @@
 -- Laws of zeros and padding, and one law for each turn and end of the loops over a part.
 use Prim.Native.Nat.{ℕ, zero, suc, _+_, _-_, _≤_, _<_, max}
 use mathlib.Core.Path.{_≡_, refl, sym, ap, _∙_}
-use mathlib.Core.Bool.{Bool, true, false, _&&_}
+use mathlib.Core.Bool.{Bool, true, false, _&&_, and-assoc}
 use mathlib.Core.List.{List, [], _∷_, _++_, append-nil}
 use mathlib.Core.Logic.{_↔_}
 use native.Mathlib.Omega.{arith}
@@ -142,3 +142,33 @@ pub equal-end : (a b : List ℕ) (i : ℕ) (e : Bool) → length a ≤ i → len
 unfolding same
 equal-end a b i true h k = rw (drop-of-length-le a h, drop-of-length-le b k)
 equal-end a b i false h k = refl
+
+-- two lists of one length are the same exactly where their fronts are and what is behind them
+same-split : (k : ℕ) (a b : List ℕ) → length a ≡ length b → same a b ≡ same (take k a) (take k b) && same (drop k a) (drop k b)
+unfolding same
+same-split zero a b l = refl
+same-split (suc k) [] [] l = refl
+same-split (suc k) [] (y ∷ b) l = absurd (omega arith)
+same-split (suc k) (x ∷ a) [] l = absurd (omega arith)
+same-split (suc k) (x ∷ a) (y ∷ b) l =
+    ap (λ (t : Bool). eqb x y && t) (same-split k a b (omega arith)) ∙ sym (and-assoc (eqb x y) (same (take k a) (take k b)) (same (drop k a) (drop k b)))
+
+-- what is behind the first k
+abbrev pub behind : ℕ → List ℕ → List ℕ
+behind k a = take (length a - k) (drop k a)
+
+behind-all : (k : ℕ) (a : List ℕ) → behind k a ≡ drop k a
+behind-all k a = take-all (length a - k) (drop k a) (rw length-drop (omega arith))
+
+module _ (k : ℕ) (a b : List ℕ) (l : length a ≡ length b) where
+  pub sizes-before : k ≤ length a → length (take k a) ≡ length (take k b)
+  sizes-before h = length-take-le k a h ∙ sym (length-take-le k b (omega (arith, l)))
+
+  pub sizes-behind : length (behind k a) ≡ length (behind k b)
+  sizes-behind = rw (behind-all k a, behind-all k b, length-drop k a, length-drop k b, l)
+
+  pub front-differs : same (take k a) (take k b) ≡ false → false ≡ same a b
+  front-differs e = sym (same-split k a b l ∙ rw e)
+
+  pub front-alike : same (take k a) (take k b) ≡ true → same (behind k a) (behind k b) ≡ same a b
+  front-alike e = rw (behind-all k a, behind-all k b) (sym (same-split k a b l ∙ rw e))

@@ -1,7 +1,7 @@
 // Whole parts: zeroed, copied, padded, tested for zero, compared.
 ghost use mathlib.Core.Path.{_≡_};
 ghost use mathlib.Core.Bool.{_&&_};
-ghost use Prim.Native.Nat.{_≤_, max};
+ghost use Prim.Native.Nat.{_≤_, max, min};
 ghost use lib.ListN.{length, replicate};
 ghost use Rattle.wire.specs.Read.{same};
 ghost use Rattle.table.specs.Bytes.{allZero, greatest, padded};
@@ -77,12 +77,10 @@ fn both(a: bool, b: bool) -> bool
 }
 
 // Goes over all bytes with no early exit, as above: parts that differ late cost no more than others.
-pub fn is_equal(a: &[u8], b: &[u8]) -> bool
+fn is_all_equal(a: &[u8], b: &[u8]) -> bool
+    requires { ⌜ length (now a) ≡ length (now b) ⌝ }
     ensures { λ r. ⌜ r ≡ same (now (a .entry)) (now (b .entry)) ⌝ }
 {
-    if a.len() != b.len() {
-        return false;
-    }
     let mut equal = true;
     let mut i = 0;
     while i < a.len() {
@@ -90,4 +88,29 @@ pub fn is_equal(a: &[u8], b: &[u8]) -> bool
         i += 1;
     }
     equal
+}
+
+// Up to 64 bytes: the blobs of two keys differ there, in their kind or in the first bytes of their numbers.
+fn front_length(n: usize) -> usize
+    ensures { λ r. ⌜ r ≡ min n 64 ⌝ }
+{
+    if n < 64 {
+        return n;
+    }
+    64
+}
+
+// Stops behind the fronts where they differ, and goes over all that is left where not.
+pub fn is_equal(a: &[u8], b: &[u8]) -> bool
+    ensures { λ r. ⌜ r ≡ same (now (a .entry)) (now (b .entry)) ⌝ }
+{
+    let n = a.len();
+    if n != b.len() {
+        return false;
+    }
+    let k = front_length(n);
+    if !is_all_equal(&a[..k], &b[..k]) {
+        return false;
+    }
+    is_all_equal(&a[k..], &b[k..])
 }

@@ -48,7 +48,7 @@ pub fn is_passphrase(state: State, p: &[u8]) -> bool
 // The state with this passphrase; an empty one opens.
 pub fn with_lock(state: State, p: &[u8]) -> State
     requires { ⌜ length (now p) ≤ 1024 ⌝ }
-    ensures { λ r. ⌜ ((x : List ℕ) → Sound state x → Means r x (withLock (now (p .entry)) (gatewayOf state x))) ⌝ }
+    ensures { λ r. ⌜ (r ≡ record { entries = state .entries; lock = lockOf (now (p .entry)); clock = state .clock; next = state .next }) × ((x : List ℕ) → Sound state x → Means r x (withLock (now (p .entry)) (gatewayOf state x))) ⌝ }
 {
     let entries = state.entries;
     let clock = state.clock;

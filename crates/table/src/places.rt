@@ -11,7 +11,7 @@ ghost use Prim.Native.Nat.{ℕ, _*_, _≤_, _<_};
 ghost use lib.ListN.{length, getD, take, drop};
 ghost use Rattle.rule.specs.Gateway.{seek, holds, isFree, placeFor};
 ghost use Rattle.rule.specs.Rule.{numberIn, confirmIn};
-ghost use Rattle.table.specs.Meaning.{gatewayOf, placeOf, blobIn};
+ghost use Rattle.table.specs.Meaning.{gatewayOf, placeOf, blobIn, freeEntry};
 ghost use Rattle.table.specs.Soundness.{Sound};
 
 // Where the bytes of place i begin; those of the last end where a ninth place would begin.
@@ -55,7 +55,7 @@ pub fn number_at(state: State, i: usize) -> u64
 // Does a place's key have Confirm?
 pub fn confirm_at(state: State, i: usize) -> bool
     requires { ⌜ i < 8 ⌝ }
-    ensures { λ r. ⌜ ((x : List ℕ) → Sound state x → r ≡ confirmIn (getD (gatewayOf state x .places) i none)) ⌝ }
+    ensures { λ r. ⌜ (r ≡ getD (state .entries) i freeEntry .confirm) × ((x : List ℕ) → Sound state x → r ≡ confirmIn (getD (gatewayOf state x .places) i none)) ⌝ }
 {
     let es = state.entries;
     let e = es[i];

@@ -1,7 +1,6 @@
--- `gateway::serve` meets its contract: a walk of its MIR, by hand. The state's borrow is opened, the state is copied out, `call` is called on the copy, the new state is stored over the old one, and the borrow is closed at it.
--- Each `&mut` slice is passed on at its own lifetime and name and given up for good (`gave-slice`); every other parameter is dropped (`stay-dropped`), since nothing is said of it at exit.
--- All that the proof knows of `call` is that it meets its contract, and nothing of the definitions that the contract cites.
--- Assumes nothing.
+-- The walk of the code by hand: the state's borrow is opened, the state copied out, `call` called on the copy, the new state stored over the old one, and the borrow closed at it.
+-- Each `&mut` slice is passed on at its own lifetime and name and given up for good (`gave-slice`); of every other parameter nothing is said at exit (`stay-dropped`).
+-- All that the proof knows of `call` is that it meets its contract. Assumes nothing.
 use mathlib.Core.Path.{_≡_, refl, ap}
 use Prim.Native.Nat.{ℕ}
 use mathlib.Core.List.{[], _∷_, List}

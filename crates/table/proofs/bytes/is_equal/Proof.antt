@@ -1,45 +1,60 @@
--- What is known of the bytes before place i, and the rest, say what the whole does. Assumes nothing.
+-- Two parts of one length are the same exactly where their fronts are and what is behind them. Assumes nothing.
 use borrow.Author.Needs.{needs}
 use native.Mathlib.Omega.{arith}
-use Prim.Native.Nat.{_≤_, _-_}
-use mathlib.Core.Path.{_≡_, refl, sym, _∙_}
-use lib.ListN.{length}
-use Rattle.wire.specs.Read.{same}
+use borrow.Author.Tests.{not-true, not-false}
+use mathlib.Core.Path.{sym, _∙_}
+use lib.Seq.{length-take-le}
 use Rattle.wire.proofs.Reading.{same-long}
-use Rattle.table.proofs.ByteLaws.{sameAlong, equal-step, equal-end}
+use Rattle.table.proofs.ByteLaws.{sizes-before, sizes-behind, front-differs, front-alike}
 use Rattle.table.proofs.bytes.is_equal.Statement.{statement}
 use Rattle.table.proofs.bytes.is_equal.Tie as tie
 
-abbrev Inv-loop : tie.InvT-loop
-Inv-loop a b equal₀ i₀ equal i = (i ≤ length a) × (same a b ≡ sameAlong equal i a b)
+front : tie.Need-slice-aggregate-is-all-equal
+front c = sym (length-take-le _ (c .before .before .before .before .before .args .a .now) (omega arith))
 
-abbrev μ-loop : tie.MeasureT-loop
-μ-loop a b equal₀ i₀ equal i = length a - i
+front-2 : tie.Need-slice-aggregate-is-all-equal-2
+front-2 c = sym (length-take-le _ (c .before .before .before .before .before .before .args .b .now) (omega arith))
 
-loop-again : tie.Need-loop-again Inv-loop μ-loop
-loop-again c =
-    let l = c .before .before .before .before .loop in
-    let a = c .before .before .before .before .before .before .before .before .args in
-    (omega arith, rw (c .both .ensures) (l .inv .1 ∙ equal-step (a .a .now) (a .b .now) (l .i) (l .equal) (omega arith) (omega arith)))
+front-sizes : tie.Need-is-all-equal-requires
+front-sizes c κs =
+    let s = c .before .before in
+    let a = s .before .before .before .before .args in
+    sizes-before (s .front-length .result) (a .a .now) (a .b .now) (s .before .if1 .left) (omega arith)
 
-returns-2 : tie.Need-returns-2 Inv-loop μ-loop
-returns-2 c =
-    let l = c .before .loop in
-    let a = c .before .before .before .before .before .args in
-    sym (l .inv .1 ∙ equal-end (a .a .now) (a .b .now) (l .i) (l .equal) (omega arith) (omega arith))
+fronts-differ : tie.Need-returns-2
+fronts-differ c =
+    let s = c .before .before .before .before in
+    let a = s .before .before .before .before .args in
+    front-differs (s .front-length .result) (a .a .now) (a .b .now) (s .before .if1 .left) (sym (c .before .is-all-equal .ensures) ∙ not-true _ (c .if2 .taken))
+
+rest-sizes : tie.Need-is-all-equal-requires-2
+rest-sizes c κs =
+    let s = c .before .before .before .before .before .before in
+    let a = s .before .before .before .before .args in
+    sizes-behind (s .front-length .result) (a .a .now) (a .b .now) (s .before .if1 .left)
+
+fronts-alike : tie.Need-returns-3
+fronts-alike c =
+    let s = c .before .before .before .before .before .before .before in
+    let a = s .before .before .before .before .args in
+    let front = sym (c .before .before .before .before .is-all-equal .ensures) ∙ not-false _ (c .before .before .before .if2 .left) in
+    c .is-all-equal2 .ensures ∙ front-alike (s .front-length .result) (a .a .now) (a .b .now) (s .before .if1 .left) front
 
 pub is-equal-spec : {M : Type 1} → statement M
 is-equal-spec =
     tie.close
     (tie.spec
-    Inv-loop
-    μ-loop
     (λ c. same-long _ _ (c .if1 .taken))
-    (λ c. (omega arith, refl))
-    (λ c. omega arith)
-    (λ c. omega arith)
     (λ c κs. search needs)
-    (λ c. omega arith)
-    (λ c. omega arith)
-    loop-again
-    returns-2)
+    front
+    front-2
+    front-sizes
+    fronts-differ
+    (λ c. search needs)
+    (λ c. search needs)
+    (λ c. search needs)
+    (λ c. search needs)
+    (λ c. search needs)
+    (λ c. search needs)
+    rest-sizes
+    fronts-alike)

@@ -5,9 +5,12 @@ use Rattle.table.proofs.locks.with_lock.Statement.{statement}
 use Rattle.table.proofs.locks.with_lock.Tie as tie
 
 returns : tie.Need-returns
-returns c x S =
+returns c =
     let st = c .before .before .before .before in
-    relocked (st .args .state) x (st .args .p .now) (c .locked-by .result) S (st .pre) (c .locked-by .ensures)
+    let s = st .args .state in (
+      (λ j. record { entries = s .entries; lock = c .locked-by .ensures j; clock = s .clock; next = s .next }),
+      λ x S. relocked s x (st .args .p .now) (c .locked-by .result) S (st .pre) (c .locked-by .ensures),
+    )
 
 pub with-lock-spec : {M : Type 1} → statement M
 with-lock-spec = tie.close (tie.spec (λ c κs. search needs) returns)

@@ -1,8 +1,8 @@
 -- The definition goes by the same numbers. Assumes nothing.
 use Rattle.gateway.specs.Flat.{saidOf}
 use Rattle.gateway.proofs.FlatSteps.{told-no, told-yes, told-nothing}
-use Rattle.gateway.proofs.flat.said.Statement.{statement}
-use Rattle.gateway.proofs.flat.said.Tie as tie
+use Rattle.gateway.proofs.flat.said_of.Statement.{statement}
+use Rattle.gateway.proofs.flat.said_of.Tie as tie
 
 returns : tie.Need-returns
 unfolding saidOf
@@ -16,5 +16,5 @@ returns-3 : tie.Need-returns-3
 unfolding saidOf
 returns-3 c = told-nothing _ _ _ _ (c .match .rest .0 .1) (c .match .rest .1)
 
-pub said-spec : {M : Type 1} → statement M
-said-spec = tie.close (tie.spec returns returns-2 returns-3)
+pub said-of-spec : {M : Type 1} → statement M
+said-of-spec = tie.close (tie.spec returns returns-2 returns-3)

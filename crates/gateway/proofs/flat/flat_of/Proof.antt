@@ -1,8 +1,8 @@
 -- By the cases of the outcome. Assumes nothing.
 use borrow.Author.Needs.{needs}
 use Rattle.gateway.specs.Flat.{flatOf}
-use Rattle.gateway.proofs.flat.flattened.Statement.{statement}
-use Rattle.gateway.proofs.flat.flattened.Tie as tie
+use Rattle.gateway.proofs.flat.flat_of.Statement.{statement}
+use Rattle.gateway.proofs.flat.flat_of.Tie as tie
 
 returns : tie.Need-returns
 unfolding flatOf
@@ -22,7 +22,7 @@ returns-4 c = rw (c .numbered3 .ensures, c .before .before .outcome4 .given .1)
 
 returns-5 : tie.Need-returns-5
 unfolding flatOf
-returns-5 c = rw (c .bits .ensures, c .before .before .outcome5 .given .1)
+returns-5 c = rw (c .hash-bits .ensures, c .before .before .outcome5 .given .1)
 
 returns-6 : tie.Need-returns-6
 unfolding flatOf
@@ -32,5 +32,5 @@ returns-7 : tie.Need-returns-7
 unfolding flatOf
 returns-7 c = rw (c .part3 .ensures, c .before .enum-told .given .1)
 
-pub flattened-spec : {M : Type 1} → statement M
-flattened-spec = tie.close (tie.spec (λ c. search needs) (λ c. search needs) (λ c κs. search needs) (λ c. search needs) (λ c. search needs) (λ c κs. search needs) (λ c. search needs) (λ c κs. search needs) (λ c. search needs) (λ c κs. search needs) (λ c. search needs) (λ c κs. search needs) (λ c. search needs) (λ c κs. search needs) (λ c. search needs) (λ c κs. search needs) returns returns-2 returns-3 returns-4 returns-5 returns-6 returns-7)
+pub flat-of-spec : {M : Type 1} → statement M
+flat-of-spec = tie.close (tie.spec (λ c. search needs) (λ c. search needs) (λ c κs. search needs) (λ c. search needs) (λ c. search needs) (λ c κs. search needs) (λ c. search needs) (λ c κs. search needs) (λ c. search needs) (λ c κs. search needs) (λ c. search needs) (λ c κs. search needs) (λ c. search needs) (λ c κs. search needs) (λ c. search needs) (λ c κs. search needs) returns returns-2 returns-3 returns-4 returns-5 returns-6 returns-7)

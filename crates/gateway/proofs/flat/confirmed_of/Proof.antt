@@ -1,8 +1,8 @@
 -- The definition goes by the same numbers. Assumes nothing.
 use Rattle.gateway.specs.Flat.{confirmedOf}
 use Rattle.gateway.proofs.FlatSteps.{told-no, told-yes, told-nothing}
-use Rattle.gateway.proofs.flat.confirmed.Statement.{statement}
-use Rattle.gateway.proofs.flat.confirmed.Tie as tie
+use Rattle.gateway.proofs.flat.confirmed_of.Statement.{statement}
+use Rattle.gateway.proofs.flat.confirmed_of.Tie as tie
 
 returns : tie.Need-returns
 unfolding confirmedOf
@@ -16,5 +16,5 @@ returns-3 : tie.Need-returns-3
 unfolding confirmedOf
 returns-3 c = told-nothing _ _ _ _ (c .match .rest .0 .1) (c .match .rest .1)
 
-pub confirmed-spec : {M : Type 1} → statement M
-confirmed-spec = tie.close (tie.spec returns returns-2 returns-3)
+pub confirmed-of-spec : {M : Type 1} → statement M
+confirmed-of-spec = tie.close (tie.spec returns returns-2 returns-3)

@@ -1,8 +1,8 @@
 -- The definition goes by the same numbers. Assumes nothing.
 use Rattle.gateway.specs.Flat.{signedOf}
 use Rattle.gateway.proofs.FlatSteps.{told-no, told-yes, told-nothing}
-use Rattle.gateway.proofs.flat.signed.Statement.{statement}
-use Rattle.gateway.proofs.flat.signed.Tie as tie
+use Rattle.gateway.proofs.flat.signed_of.Statement.{statement}
+use Rattle.gateway.proofs.flat.signed_of.Tie as tie
 
 returns : tie.Need-returns
 unfolding signedOf
@@ -16,5 +16,5 @@ returns-3 : tie.Need-returns-3
 unfolding signedOf
 returns-3 c = told-nothing _ _ _ _ (c .match .rest .0 .1) (c .match .rest .1)
 
-pub signed-spec : {M : Type 1} → statement M
-signed-spec = tie.close (tie.spec returns returns-2 returns-3)
+pub signed-of-spec : {M : Type 1} → statement M
+signed-of-spec = tie.close (tie.spec returns returns-2 returns-3)

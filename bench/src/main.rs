@@ -1,0 +1,215 @@
+//! bench times [ROUNDS]: nanoseconds per request of the three sides, alternating. bench count SIDE WORK REQUESTS: one side alone, for counting
+//! instructions from outside. Sides: core (the proved library), table (the same fixed table in Rust), russh (the unchanged `respond`).
+mod table;
+use agent_oracle::keys::agent::server::probe::Probe;
+use key_agent::{Answers, Gateway, Numbered, Outcome, Question, Reply};
+use std::hint::black_box;
+use std::time::Instant;
+
+fn s(b: &[u8]) -> Vec<u8> {
+    [&(b.len() as u32).to_be_bytes()[..], b].concat()
+}
+/// P-256 keys whose points and numbers are made up: fields, blob. The oracle's `speed` takes the same.
+fn key(i: u8) -> (Vec<u8>, Vec<u8>) {
+    let mut q = vec![4u8];
+    q.extend([i + 1; 64]);
+    let blob = [s(b"ecdsa-sha2-nistp256"), s(b"nistp256"), s(&q)].concat();
+    ([blob.clone(), s(&[i + 1; 32])].concat(), blob)
+}
+fn add(i: u8) -> Vec<u8> {
+    [vec![17], key(i).0, s(b"c")].concat()
+}
+/// The requests of a work: with 8 keys held.
+fn work(name: &str) -> Vec<Vec<u8>> {
+    match name {
+        "list" => vec![vec![11]],
+        "sign" => vec![[vec![13], s(&key(7).1), s(&[7; 200]), vec![0; 4]].concat()],
+        "add" => vec![add(7)],
+        "lock+unlock" => vec![[vec![22], s(b"ab")].concat(), [vec![23], s(b"ab")].concat()],
+        "empty" => vec![vec![]],
+        w => panic!("unknown work {w}"),
+    }
+}
+const WORKS: [&str; 5] = ["list", "sign", "add", "lock+unlock", "empty"];
+/// `core` and `table`: one call with all answers lent. `..-asked`: the calls of the loop, each question answered as it comes.
+const SIDES: [&str; 5] = ["core", "table", "core-asked", "table-asked", "russh"];
+
+/// A signature as the oracle's `scripted` signer makes it.
+fn signature(data: &[u8]) -> Vec<u8> {
+    [s(b"ecdsa-sha2-nistp256"), s(data)].concat()
+}
+
+enum Side {
+    Core { g: Gateway, reply: Reply, asked: bool, lent: Vec<u8>, number: u64 },
+    Table { t: table::Table, reply: Vec<u8>, asked: bool, lent: Vec<u8>, number: u64 },
+    Russh { p: Probe, reply: Vec<u8> },
+    CoreSound { g: Gateway },
+    TableSound { t: table::Table },
+}
+impl Side {
+    fn new(name: &str) -> Side {
+        let asked = name.ends_with("-asked");
+        let lent = signature(&[7; 200]);
+        let mut side = match name {
+            "core" | "core-asked" => Side::Core { g: Gateway::new(), reply: Reply::new(), asked, lent, number: 0 },
+            "table" | "table-asked" => Side::Table { t: table::Table::new(), reply: vec![0; key_agent::REPLY_LEN], asked, lent, number: 0 },
+            "russh" => Side::Russh { p: Probe::new(), reply: Vec::new() },
+            "table-sound" => {
+                let mut t = table::Table::new();
+                let mut reply = vec![0; key_agent::REPLY_LEN];
+                for i in 0..8 {
+                    t.call(&add(i), 0, table::Answers { gate: Some(true), check: Some(true), ..Default::default() }, &mut reply);
+                }
+                return Side::TableSound { t };
+            }
+            "core-sound" => match Side::new("core") {
+                Side::Core { g, .. } => return Side::CoreSound { g },
+                _ => unreachable!(),
+            },
+            _ => panic!("unknown side {name}"),
+        };
+        for i in 0..8 {
+            side.serve(&add(i));
+            assert_eq!(side.reply(), [0, 0, 0, 1, 6], "{name}");
+        }
+        // the eighth add took number 8; `add` replaces that key, so its number goes on
+        if let Side::Core { number, .. } | Side::Table { number, .. } = &mut side {
+            *number = 8;
+        }
+        side
+    }
+    fn reply(&self) -> Vec<u8> {
+        match self {
+            Side::Core { reply, .. } => reply.bytes().to_vec(),
+            Side::Table { reply, .. } => reply[..4 + u32::from_be_bytes(reply[..4].try_into().unwrap()) as usize].to_vec(),
+            Side::Russh { reply, .. } => reply.clone(),
+            Side::CoreSound { .. } | Side::TableSound { .. } => vec![],
+        }
+    }
+    /// One request, to its landing.
+    #[inline(never)]
+    fn serve(&mut self, p: &[u8]) {
+        match self {
+            Side::Core { g, reply, asked: false, lent, number } => {
+                let a = Answers {
+                    gate: Some(true),
+                    check: Some(true),
+                    confirmation: None,
+                    signature: Some(Numbered { number: *number, answer: Some(lent) }),
+                };
+                assert_eq!(g.call(p, 5, &a, reply), Outcome::Reply);
+            }
+            Side::Core { g, reply, .. } => {
+                let (mut gate, mut check, mut made) = (None, None, None::<(u64, Vec<u8>)>);
+                loop {
+                    let signature_lent = made.as_ref().map(|(number, sig)| Numbered { number: *number, answer: Some(&sig[..]) });
+                    match g.call(p, 5, &Answers { gate, check, confirmation: None, signature: signature_lent }, reply) {
+                        Outcome::Reply => break,
+                        Outcome::Asks(Question::Gate(_)) => gate = Some(true),
+                        Outcome::Asks(Question::Check(_)) => check = Some(true),
+                        Outcome::Asks(Question::Signature { number, data, .. }) => made = Some((number, signature(&p[data]))),
+                        o => panic!("{o:?}"),
+                    }
+                }
+            }
+            Side::Table { t, reply, asked: false, lent, number } => {
+                let a = table::Answers { gate: Some(true), check: Some(true), confirmation: None, signature: Some((*number, Some(lent))) };
+                assert!(matches!(t.call(p, 5, a, reply), table::Outcome::Reply(_)));
+            }
+            Side::Table { t, reply, .. } => {
+                let (mut gate, mut check, mut made) = (None, None, None::<(u64, Vec<u8>)>);
+                loop {
+                    let signature_lent = made.as_ref().map(|(number, sig)| (*number, Some(&sig[..])));
+                    match t.call(p, 5, table::Answers { gate, check, confirmation: None, signature: signature_lent }, reply) {
+                        table::Outcome::Reply(_) => break,
+                        table::Outcome::Gate(_) => gate = Some(true),
+                        table::Outcome::Check(..) => check = Some(true),
+                        table::Outcome::Sign(number, from, to, _) => made = Some((number, signature(&p[from..to]))),
+                        o => panic!("{o:?}"),
+                    }
+                }
+            }
+            Side::Russh { p: probe, reply } => {
+                assert!(probe.call(p, reply));
+                // what the scripted signer keeps for `siglog`
+                if p.first() == Some(&13) {
+                    agent_oracle::scripted::LOG.lock().unwrap().clear();
+                }
+            }
+            Side::CoreSound { g } => assert!(black_box(&*g).is_sound()),
+            Side::TableSound { t } => assert!(black_box(&*t).is_sound()),
+        }
+    }
+}
+
+/// All sides give the same replies (lists as sets).
+fn agree() {
+    for w in WORKS {
+        let all: Vec<Vec<Vec<u8>>> = SIDES
+            .iter()
+            .map(|n| {
+                let mut side = Side::new(n);
+                work(w)
+                    .iter()
+                    .map(|p| {
+                        side.serve(p);
+                        let mut r = side.reply();
+                        if r[4] == 12 {
+                            r.sort();
+                        }
+                        r
+                    })
+                    .collect()
+            })
+            .collect();
+        assert!(all.iter().all(|r| r == &all[0]), "{w}: {all:?}");
+    }
+}
+
+fn main() {
+    let a: Vec<String> = std::env::args().collect();
+    match a.get(1).map(String::as_str) {
+        Some("count") => {
+            let mut side = Side::new(&a[2]);
+            let w = work(&a[3]);
+            for _ in 0..a[4].parse::<u64>().expect("REQUESTS") {
+                for p in &w {
+                    side.serve(black_box(p));
+                }
+            }
+        }
+        Some("times") => {
+            agree();
+            let rounds: usize = a.get(2).map_or(200, |r| r.parse().expect("ROUNDS"));
+            const CALLS: usize = 200;
+            for w in WORKS {
+                let mut names = SIDES.to_vec();
+                if w == "empty" {
+                    names.extend(["core-sound", "table-sound"]);
+                }
+                let p = work(w);
+                let mut sides: Vec<Side> = names.iter().map(|n| Side::new(n)).collect();
+                let mut times = vec![Vec::new(); names.len()];
+                for _ in 0..rounds {
+                    for (side, t) in sides.iter_mut().zip(&mut times) {
+                        let start = Instant::now();
+                        for _ in 0..CALLS {
+                            for p in &p {
+                                side.serve(black_box(p));
+                            }
+                        }
+                        t.push(start.elapsed().as_nanos() as f64 / (CALLS * p.len()) as f64);
+                    }
+                }
+                for (n, t) in names.iter().zip(&mut times) {
+                    t.sort_by(f64::total_cmp);
+                    println!("{w} {n} {:.0} {:.0}", t[0], t[t.len() / 2]);
+                }
+            }
+        }
+        _ => {
+            eprintln!("usage: bench times [ROUNDS] | bench count SIDE WORK REQUESTS");
+            std::process::exit(2);
+        }
+    }
+}

@@ -1,0 +1,160 @@
+-- The flat values say what they stand for: answers and outcomes case by case, the split by its length's tests. Assumes nothing.
+use Prim.Native.Nat.{ℕ, _+_, _≤_, _<_}
+use mathlib.Core.Path.{_≡_, refl, sym, ap, _∙_}
+use mathlib.Core.Bool.{true, false}
+use mathlib.Core.List.{List, []}
+use mathlib.Core.Logic.{⊎-elim}
+use native.Mathlib.Omega.{arith}
+use borrow.Author.Tests.{le-leb, lt-leb}
+use lib.ListN.{length}
+use lib.Dec.{eqb}
+use Rattle.wire.specs.declared.Split.{Split}
+use Rattle.wire.specs.declared.Split.the-variants.{MoreNeeded, TooLong, Frame}
+use Rattle.wire.specs.Steps.{so, number}
+use Rattle.wire.specs.Numbers.{beAt}
+use Rattle.wire.specs.Read.{cutOf}
+use Rattle.wire.specs.Frames.{splitOf, payloadOf}
+use Rattle.wire.proofs.Reading.{le-or-lt, number-there, number-cut}
+use Rattle.wire.proofs.Format.{part-length}
+use Rattle.server.specs.declared.Said.{Said}
+use Rattle.server.specs.declared.Said.the-variants as said
+use Rattle.server.specs.declared.Confirmed.{Confirmed}
+use Rattle.server.specs.declared.Confirmed.the-variants as confirmed
+use Rattle.server.specs.declared.Signed.{Signed}
+use Rattle.server.specs.declared.Signed.the-variants as signed
+use Rattle.server.specs.declared.Outcome.the-variants.{Refused, Gate, Check, Confirm, Sign, Reply, Close}
+use Rattle.server.proofs.OutcomeLaws.{outcomes-apart}
+use Rattle.gateway.specs.Flat.{saidOf, confirmedOf, signedOf, answersOf, flatOf, flatSplit, splitAs}
+use Rattle.gateway.specs.Promises.{OthersMissing, saidNumber, confirmedNumber, confirmedFor, signedNumber, signedFor, EveryAnswer, flatValues, SameValues, FlatApart, splitNumber, SplitsApart, SplitsAs, SplitRule}
+use Rattle.gateway.proofs.FlatSteps.{told-nothing}
+
+-- ## Answers
+
+pub others-missing : OthersMissing
+unfolding saidOf confirmedOf signedOf
+others-missing = record {
+  gate-and-check = λ n u. sym (told-nothing n _ _ _ (u .not-no) (u .not-yes));
+  confirmation = λ n number u. sym (told-nothing n _ _ _ (u .not-no) (u .not-yes));
+  signature = λ n number u. sym (told-nothing n _ _ _ (u .not-no) (u .not-yes));
+}
+
+said-back : (x : Said) → saidOf (saidNumber x) ≡ x
+unfolding saidOf so
+said-back said.Missing = refl
+said-back said.No = refl
+said-back said.Yes = refl
+
+confirmed-back : (x : Confirmed) → confirmedOf (confirmedNumber x) (confirmedFor x) ≡ x
+unfolding confirmedOf so
+confirmed-back confirmed.Missing = refl
+confirmed-back (confirmed.Given n true) = refl
+confirmed-back (confirmed.Given n false) = refl
+
+signed-back : (x : Signed) → signedOf (signedNumber x) (signedFor x) ≡ x
+unfolding signedOf so
+signed-back signed.Missing = refl
+signed-back (signed.Nothing n) = refl
+signed-back (signed.Given n) = refl
+
+pub every-answer : EveryAnswer
+unfolding answersOf
+every-answer a = rw (said-back (a .gate), said-back (a .check), confirmed-back (a .confirmation), signed-back (a .signature))
+
+-- ## The outcome
+
+pub same-values : SameValues
+unfolding flatOf so
+same-values (Refused n) = refl
+same-values (Gate class) = refl
+same-values (Check from to) = refl
+same-values (Confirm n) = refl
+same-values (Sign n from to hash) = refl
+same-values (Reply n) = refl
+same-values Close = refl
+
+pub flat-apart : FlatApart
+flat-apart a b e = outcomes-apart a b (sym (same-values a) ∙ ap flatValues e ∙ same-values b)
+
+-- ## The split
+
+splitFor : ℕ → Split
+splitFor n = so (so MoreNeeded (eqb n 1) TooLong) (eqb n 2) Frame
+
+split-for : (x : Split) → splitFor (splitNumber x) ≡ x
+unfolding splitFor so
+split-for MoreNeeded = refl
+split-for TooLong = refl
+split-for Frame = refl
+
+pub splits-apart : SplitsApart
+splits-apart a b e = sym (split-for a) ∙ ap splitFor e ∙ split-for b
+
+module _ (s : List ℕ) where
+  nothing : cutOf s 0 0 ≡ []
+  unfolding cutOf
+  nothing = rw (le-leb 0 (length s) (omega arith))
+
+  more : splitOf s ≡ MoreNeeded → payloadOf s ≡ [] → SplitsAs s
+  unfolding flatSplit splitAs
+  more e p = record {
+    kind = rw e;
+    payload = rw (e, p) nothing;
+    ordered = rw e (omega arith);
+    within = rw e (omega arith);
+  }
+
+  long : splitOf s ≡ TooLong → payloadOf s ≡ [] → SplitsAs s
+  unfolding flatSplit splitAs
+  long e p = record {
+    kind = rw e;
+    payload = rw (e, p) nothing;
+    ordered = rw e (omega arith);
+    within = rw e (omega arith);
+  }
+
+  framed : (n : ℕ) → splitOf s ≡ Frame → payloadOf s ≡ cutOf s 4 (4 + n) → 4 + n ≤ length s → SplitsAs s
+  unfolding flatSplit splitAs
+  framed n e p h =
+      let l : length (payloadOf s) ≡ n = ap length p ∙ (let m = part-length s 4 (4 + n) (omega arith) h in omega arith) in
+      record {
+        kind = rw e;
+        payload = rw (e, l) (sym p);
+        ordered = rw e (omega arith);
+        within = rw (e, l) h;
+      }
+
+  cut-short : length s < 4 → SplitsAs s
+  unfolding splitOf payloadOf number
+  cut-short h = more (rw (← number-cut s 0 h)) (rw (← number-cut s 0 h))
+
+  module _ (h : 4 ≤ length s) where
+    too-long : 262144 < beAt s 0 → SplitsAs s
+    unfolding splitOf payloadOf number so
+    too-long l = long (rw (← number-there s 0 h, lt-leb (beAt s 0) 262144 l)) (rw (← number-there s 0 h, lt-leb (beAt s 0) 262144 l))
+
+    module _ (l : beAt s 0 ≤ 262144) where
+      not-all : length s < 4 + beAt s 0 → SplitsAs s
+      unfolding splitOf payloadOf number so
+      not-all k =
+          more
+          (rw (← number-there s 0 h, le-leb (beAt s 0) 262144 l, lt-leb (4 + beAt s 0) (length s) k))
+          (rw (← number-there s 0 h, le-leb (beAt s 0) 262144 l, lt-leb (4 + beAt s 0) (length s) k))
+
+      all : 4 + beAt s 0 ≤ length s → SplitsAs s
+      unfolding splitOf payloadOf number so
+      all k =
+          framed (beAt s 0)
+          (rw (← number-there s 0 h, le-leb (beAt s 0) 262144 l, le-leb (4 + beAt s 0) (length s) k))
+          (rw (← number-there s 0 h, le-leb (beAt s 0) 262144 l, le-leb (4 + beAt s 0) (length s) k))
+          k
+
+pub split-rule : SplitRule
+split-rule s =
+    ⊎-elim
+    (λ (h : 4 ≤ length s).
+    ⊎-elim
+    (λ (l : beAt s 0 ≤ 262144). ⊎-elim (all s h l) (not-all s h l) (le-or-lt (4 + beAt s 0) (length s)))
+    (too-long s h)
+    (le-or-lt (beAt s 0) 262144))
+    (cut-short s)
+    (le-or-lt 4 (length s))

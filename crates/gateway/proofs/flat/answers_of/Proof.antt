@@ -1,0 +1,12 @@
+-- Answer by answer. Assumes nothing.
+use borrow.Author.Needs.{needs}
+use Rattle.gateway.specs.Flat.{answersOf}
+use Rattle.gateway.proofs.flat.answers_of.Statement.{statement}
+use Rattle.gateway.proofs.flat.answers_of.Tie as tie
+
+returns : tie.Need-returns
+unfolding answersOf
+returns c = rw (c .signed-of .ensures, c .before .confirmed-of .ensures, c .before .before .said-of2 .ensures, c .before .before .before .said-of .ensures)
+
+pub answers-of-spec : {M : Type 1} → statement M
+answers-of-spec = tie.close (tie.spec (λ c κs. search needs) (λ c κs. search needs) (λ c κs. search needs) (λ c κs. search needs) returns)

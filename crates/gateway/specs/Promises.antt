@@ -1,0 +1,131 @@
+-- What the flat values promise, as statements; the proofs are in proofs/FlatLaws.antt and proofs/WithinLaws.antt.
+use Prim.Native.Nat.{ℕ, _≤_}
+use mathlib.Core.Path.{_≡_}
+use mathlib.Core.Bool.{Bool, true, false}
+use mathlib.Core.List.{List, [], _∷_}
+use lib.ListN.{length}
+use lib.Dec.{eqb}
+use Rattle.wire.specs.declared.Split.{Split}
+use Rattle.wire.specs.declared.Split.the-variants.{MoreNeeded, TooLong, Frame}
+use Rattle.wire.specs.Steps.{so}
+use Rattle.wire.specs.Read.{cutOf}
+use Rattle.wire.specs.Frames.{splitOf, payloadOf}
+use Rattle.wire.specs.Promises.{OneToOne}
+use Rattle.rule.specs.declared.Millis.{Millis}
+use Rattle.table.specs.declared.State.{State}
+use Rattle.server.specs.declared.Said.{Said}
+use Rattle.server.specs.declared.Said.the-variants as said
+use Rattle.server.specs.declared.Confirmed.{Confirmed}
+use Rattle.server.specs.declared.Confirmed.the-variants as confirmed
+use Rattle.server.specs.declared.Signed.{Signed}
+use Rattle.server.specs.declared.Signed.the-variants as signed
+use Rattle.server.specs.declared.Answers.{Answers}
+use Rattle.server.specs.declared.Outcome.{Outcome}
+use Rattle.server.specs.Outcomes.{outcomeValues}
+use Rattle.server.specs.Calls.{calledOf}
+use Rattle.gateway.specs.declared.flat.FlatAnswers.{FlatAnswers}
+use Rattle.gateway.specs.declared.flat.FlatOutcome.{FlatOutcome}
+use Rattle.gateway.specs.Flat.{saidOf, confirmedOf, signedOf, answersOf, flatOf, flatSplit}
+
+-- ## Answers
+
+pub record Unspoken (n : ℕ) : Type 0 where
+  pub not-no : n ≡ 1 → ⊥
+  pub not-yes : n ≡ 2 → ⊥
+
+-- whatever stands outside in the place of an answer, only 1 and 2 are one
+pub record OthersMissing : Type 0 where
+  pub gate-and-check : (n : ℕ) → Unspoken n → saidOf n ≡ said.Missing
+  pub confirmation : (n number : ℕ) → Unspoken n → confirmedOf n number ≡ confirmed.Missing
+  pub signature : (n number : ℕ) → Unspoken n → signedOf n number ≡ signed.Missing
+
+abbrev pub saidNumber : Said → ℕ
+saidNumber said.Missing = 0
+saidNumber said.No = 1
+saidNumber said.Yes = 2
+
+abbrev pub grantNumber : Bool → ℕ
+grantNumber false = 1
+grantNumber true = 2
+
+abbrev pub confirmedNumber : Confirmed → ℕ
+confirmedNumber confirmed.Missing = 0
+confirmedNumber (confirmed.Given n granted) = grantNumber granted
+
+abbrev pub confirmedFor : Confirmed → ℕ
+confirmedFor confirmed.Missing = 0
+confirmedFor (confirmed.Given n granted) = n
+
+abbrev pub signedNumber : Signed → ℕ
+signedNumber signed.Missing = 0
+signedNumber (signed.Nothing n) = 1
+signedNumber (signed.Given n) = 2
+
+abbrev pub signedFor : Signed → ℕ
+signedFor signed.Missing = 0
+signedFor (signed.Nothing n) = n
+signedFor (signed.Given n) = n
+
+abbrev pub flatAnswers : Answers → FlatAnswers
+flatAnswers a = record {
+  gate = saidNumber (a .gate);
+  check = saidNumber (a .check);
+  confirmation = confirmedNumber (a .confirmation);
+  signature = signedNumber (a .signature);
+  «confirmation_number» = confirmedFor (a .confirmation);
+  «signature_number» = signedFor (a .signature);
+}
+
+-- all answers that can be lent can be given from outside
+abbrev pub EveryAnswer : Type 0
+EveryAnswer = (a : Answers) → answersOf (flatAnswers a) ≡ a
+
+-- ## The outcome
+
+-- 01's number and values of an outcome, read from the fields that its kind uses
+abbrev pub flatValues : FlatOutcome → List ℕ
+flatValues o =
+    so (so (so (so (o .kind ∷ o .number ∷ [])
+    (eqb (o .kind) 2) (o .kind ∷ o .from ∷ o .to ∷ []))
+    (eqb (o .kind) 4) (o .kind ∷ o .number ∷ o .from ∷ o .to ∷ o .hash ∷ []))
+    (eqb (o .kind) 5) (o .kind ∷ o .to ∷ []))
+    (eqb (o .kind) 6) (o .kind ∷ [])
+
+abbrev pub SameValues : Type 0
+SameValues = (o : Outcome) → flatValues (flatOf o) ≡ outcomeValues o
+
+abbrev pub FlatApart : Type 0
+FlatApart = OneToOne Outcome FlatOutcome flatOf
+
+-- what an outcome names lies in what was lent: a part of the reply buffer where it replies, else of the payload
+pub record NamesWithin (payload buffer : List ℕ) (o : FlatOutcome) : Type 0 where
+  pub ordered : o .from ≤ o .to
+  pub of-payload : (o .kind ≡ 5 → ⊥) → o .to ≤ length payload
+  pub of-reply : o .kind ≡ 5 → o .to ≤ length buffer
+
+-- for every call; a state's two arrays have the lengths of their types
+abbrev pub CallsNameWithin : Type 0
+CallsNameWithin =
+    (state : State) (store payload : List ℕ) (reading : Millis) (answers : Answers) (signature buffer : List ℕ)
+    → length (state .entries) ≡ 8 → length (state .lock .bytes) ≡ 1024
+    → NamesWithin payload buffer (flatOf (calledOf state store payload reading answers signature buffer .outcome))
+
+-- ## The split
+
+abbrev pub splitNumber : Split → ℕ
+splitNumber MoreNeeded = 0
+splitNumber TooLong = 1
+splitNumber Frame = 2
+
+abbrev pub SplitsApart : Type 0
+SplitsApart = OneToOne Split ℕ splitNumber
+
+-- the split's number, and a part of s that is its payload and nothing else
+pub record SplitsAs (s : List ℕ) : Type 0 where
+  pub kind : flatSplit s .kind ≡ splitNumber (splitOf s)
+  pub payload : cutOf s (flatSplit s .from) (flatSplit s .to) ≡ payloadOf s
+  pub ordered : flatSplit s .from ≤ flatSplit s .to
+  pub within : flatSplit s .to ≤ length s
+
+abbrev pub SplitRule : Type 0
+SplitRule = (s : List ℕ) → SplitsAs s

@@ -1,0 +1,578 @@
+//! compare ORACLE REQUESTS SEED OUT: random requests to the unchanged Rust and to the core, answers and states compared. ORACLE is the program
+//! `scripted`, or `standin` (one request at a time alone).
+//! ../README.md has the rest.
+use differential::requests::{any_key, comment, damaged, special, whole, Key};
+use differential::stale::{addition, Stale};
+use differential::world::{Landing, World};
+use differential::{hex, string, strings, unhex, Random};
+use key_agent::{Gateway, Hash, Reply};
+use std::collections::BTreeMap;
+use std::io::{Read, Write};
+use std::process::{Command, Stdio};
+
+/// What an output line belongs to: the request's number in its segment, or the list behind it.
+#[derive(Clone, Copy, PartialEq)]
+enum Out {
+    Request(usize),
+    Answer(usize),
+    Probe(usize),
+    /// The first part of a frame, or a frame that is too long: nothing lands.
+    Bytes(usize),
+}
+#[derive(Default)]
+struct Segment {
+    crossing: bool,
+    lines: Vec<String>,
+    outs: Vec<Out>,
+    requests: Vec<Vec<u8>>,
+}
+impl Segment {
+    fn say(&mut self, line: impl Into<String>) {
+        self.lines.push(line.into());
+    }
+    fn out(&mut self, what: Out, line: String) {
+        self.lines.push(line);
+        self.outs.push(what);
+    }
+    fn to(&mut self, conn: &str, payload: Vec<u8>) -> usize {
+        let i = self.requests.len();
+        let text = if payload.is_empty() { "-".into() } else { hex(&payload) };
+        self.out(Out::Request(i), format!("to {conn} {text}"));
+        self.requests.push(payload);
+        i
+    }
+}
+
+const MOVES: [u64; 14] = [0, 1, 1, 10, 499, 500, 501, 998, 999, 1000, 1001, 1999, 2000, 3000];
+
+/// One request at a time.
+fn serial(r: &mut Random, pool: &[Key]) -> Segment {
+    let mut s = Segment::default();
+    s.say("fresh");
+    let n = if r.percent(75) { 3 + r.below(6) } else { 9 + r.below(4) };
+    let keys: Vec<Key> = (0..n).map(|_| r.pick(pool).clone()).collect();
+    let specials = r.percent(25);
+    let length = 30 + r.below(90);
+    let mut phrases: Vec<Vec<u8>> = vec![b"ab".to_vec()];
+    let adds = r.below(keys.len().min(8) + 1);
+    for at in 0..length {
+        let mut p = if at < adds {
+            [vec![17], keys[at].fields.clone(), comment(r)].concat()
+        } else if specials && r.percent(4) {
+            special(r, &keys)
+        } else {
+            whole(r, &keys)
+        };
+        if at >= adds && r.percent(20) {
+            p = damaged(r, p);
+        }
+        let (gate, confirm) = (if r.percent(95) { 'y' } else { 'n' }, if r.percent(80) { 'y' } else { 'n' });
+        let asked = r.percent(30);
+        s.say(format!("gate-always {}", if asked { '?' } else { gate }));
+        s.say(format!("confirm-always {}", if asked { '?' } else { confirm }));
+        if let (Some(22), (w, _)) = (p.first(), strings(&p[1.min(p.len())..], 1)) {
+            if w.len() == 1 && !phrases.iter().any(|x| x == w[0]) {
+                phrases.push(w[0].to_vec());
+            }
+        }
+        let first = p.first().copied();
+        let conn = *r.pick(&["a", "b", "c"]);
+        if r.percent(2) && r.percent(10) {
+            // at the longest payload, and beyond it
+            p.resize(262_144 + r.below(2), 0);
+        }
+        let i = if p.len() > 262_144 {
+            let i = s.requests.len();
+            s.out(Out::Bytes(i), format!("to {conn} {}", hex(&p)));
+            s.requests.push(p);
+            i
+        } else if r.percent(3) {
+            let (i, f) = (s.requests.len(), string(&p));
+            let at = r.below(f.len());
+            if at > 0 {
+                s.out(Out::Bytes(i), format!("raw {conn} {}", hex(&f[..at])));
+            }
+            s.out(Out::Request(i), format!("raw {conn} {}", hex(&f[at..])));
+            s.requests.push(p);
+            i
+        } else {
+            s.to(conn, p)
+        };
+        if asked {
+            s.out(Out::Answer(i), format!("ans {conn} {gate}"));
+            s.out(Out::Answer(i), format!("ans {conn} {confirm}"));
+        }
+        if first == Some(25) {
+            // lets a timer of lifetime 0 go off in the Rust
+            s.say("adv 0");
+        }
+        s.say("gate-always y");
+        s.out(Out::Probe(i), "to z 0b".into());
+        if r.percent(25) {
+            s.say(format!("adv {}", r.pick(&MOVES)));
+        }
+    }
+    // what a lock has hidden comes out
+    s.say("confirm-always y");
+    for p in phrases {
+        let i = s.to("z", [vec![23], string(&p)].concat());
+        s.out(Out::Probe(i), "to z 0b".into());
+    }
+    s
+}
+
+/// Requests that cross: a few keys, then up to six requests with their questions left open and answered in any order.
+fn crossing(r: &mut Random, pool: &[Key]) -> Segment {
+    let mut s = Segment { crossing: true, ..Segment::default() };
+    // one half is about the lock, the other about one key and its confirmations
+    let about_lock = r.percent(50);
+    let n = if about_lock { 1 + r.below(3) } else { 1 };
+    let keys: Vec<Key> = (0..n).map(|_| r.pick(pool).clone()).collect();
+    let add = |r: &mut Random, k: &Key| {
+        let mut c = Vec::new();
+        if r.percent(40) {
+            c.extend([1, 0, 0, 0, 1 + r.below(3) as u8]);
+        }
+        if r.percent(if about_lock { 60 } else { 80 }) {
+            c.push(2);
+        }
+        [vec![25], k.fields.clone(), comment(r), c].concat()
+    };
+    s.say("fresh");
+    for k in &keys {
+        if r.percent(85) {
+            let p = add(r, k);
+            s.to("s", p);
+        }
+    }
+    let locked = about_lock && r.percent(30);
+    if locked {
+        s.to("s", [vec![22], string(b"ab")].concat());
+    }
+    s.say("gate-always ?");
+    s.say("confirm-always ?");
+    let total = 2 + r.below(5);
+    let mut slots: Vec<(String, usize, usize)> = Vec::new();
+    while s.requests.len() < 40 && (slots.len() < total || r.percent(60)) {
+        if slots.len() < total && r.percent(40) {
+            let k = r.pick(&keys).clone();
+            let p = match r.below(if locked { 26 } else if about_lock { 18 } else { 13 }) {
+                0 => vec![11],
+                1..=3 => add(r, &k),
+                4 | 5 => [vec![18], string(&k.blob)].concat(),
+                6 if r.percent(50) => vec![19],
+                6..=12 => {
+                    let flags = *r.pick(&[0u32, 2, 4]);
+                    [vec![13], string(&k.blob), string(b"data"), flags.to_be_bytes().to_vec()].concat()
+                }
+                13..=15 => [vec![22], string(*r.pick(&[&b"ab"[..], b"cd", b""]))].concat(),
+                _ => [vec![23], string(*r.pick(&[&b"ab"[..], b"ab", b"cd", b"", b"abcd", b"abab"]))].concat(),
+            };
+            let conn = format!("c{}", slots.len());
+            let i = s.to(&conn, p);
+            slots.push((conn, i, 0));
+        } else if r.percent(15) {
+            s.say(format!("adv {}", r.pick(&MOVES[1..])));
+        } else if !slots.is_empty() {
+            let at = r.below(slots.len());
+            let yes = r.percent(85);
+            let (conn, i, used) = &mut slots[at];
+            *used += 1;
+            s.out(Out::Answer(*i), format!("ans {conn} {}", if yes { 'y' } else { 'n' }));
+        }
+    }
+    while !slots.is_empty() {
+        let (conn, i, _) = slots.swap_remove(r.below(slots.len()));
+        for _ in 0..6 {
+            s.out(Out::Answer(i), format!("ans {conn} y"));
+        }
+    }
+    s.say("gate-always y");
+    s.say("confirm-always y");
+    for p in [vec![11], [vec![23], string(b"ab")].concat(), vec![11], [vec![23], string(b"cd")].concat(), vec![11]] {
+        s.to("e", p);
+    }
+    s
+}
+
+#[derive(Default)]
+struct Tally {
+    compared: u64,
+    lists: u64,
+    by_byte: BTreeMap<String, u64>,
+    kinds: BTreeMap<String, (u64, String)>,
+    dropped: u64,
+    crossing: u64,
+    crossing_differ: u64,
+    asked_again: u64,
+    crossings: BTreeMap<String, (u64, String)>,
+    replayed: u64,
+    held_replayed: u64,
+    unlisted: Vec<String>,
+    segments: (u64, u64),
+    accepted: u64,
+    signed: u64,
+}
+fn note(kinds: &mut BTreeMap<String, (u64, String)>, kind: &str, input: String) {
+    let e = kinds.entry(kind.to_string()).or_insert((0, input.clone()));
+    e.0 += 1;
+    if input.len() < e.1.len() {
+        e.1 = input;
+    }
+}
+
+const FAILURE: &str = "reply 0000000105";
+const SUCCESS: &str = "reply 0000000106";
+
+fn is_positive(d: &[u8]) -> bool {
+    match d {
+        [] => false,
+        [0, b, ..] => *b >= 128,
+        [0] => false,
+        [b, ..] => *b < 128,
+    }
+}
+
+/// A difference that docs/DIFFERENCES.md lists for one request at a time, by what stands in the payload; and whether the states part.
+fn listed(standin: bool, p: &[u8], l: &Landing, ours: &str, rust: &str) -> Option<(&'static str, bool)> {
+    if l.was_locked {
+        return None;
+    }
+    match p.first()? {
+        17 | 25 if ours == FAILURE && rust == SUCCESS => {
+            let (s, _) = strings(&p[1..], 7);
+            let length = |n: usize| s[..n].iter().map(|x| 4 + x.len()).sum::<usize>();
+            match *s.first()? {
+                // `standin` reads key fields as 01 does
+                b"ssh-ed25519" | b"ecdsa-sha2-nistp256" | b"ecdsa-sha2-nistp384" | b"ecdsa-sha2-nistp521" if standin => {}
+                t if standin && t != b"ssh-rsa" => return None,
+                b"ssh-ed25519" if s.len() > 2 => {
+                    if s[1].len() > 32 || s[2].len() > 64 {
+                        return Some(("17, 25: Ed25519 with A of more than 32 bytes, or a pair of more than 64", true));
+                    }
+                }
+                b"ecdsa-sha2-nistp256" | b"ecdsa-sha2-nistp384" | b"ecdsa-sha2-nistp521" if s.len() > 3 => {
+                    if matches!(s[2].first(), Some(2 | 3)) {
+                        return Some(("17, 25: ECDSA with Q compressed", true));
+                    }
+                    if !is_positive(s[3]) {
+                        return Some(if s[3].iter().all(|b| *b == 0) {
+                            ("17, 25: ECDSA with d zero in full size", true)
+                        } else if s[3][0] == 0 {
+                            ("17, 25: ECDSA with a needless 00 in front of d", true)
+                        } else {
+                            ("17, 25: ECDSA with d's high bit set and no sign byte", true)
+                        });
+                    }
+                }
+                b"ssh-rsa" if s.len() > 6 => {
+                    if 4 + 7 + 4 + s[1].len() + 4 + s[2].len() > 1024 {
+                        return Some(("17, 25: a blob of more than 1,024 bytes", true));
+                    }
+                    if length(7) > 3072 {
+                        return Some(("17, 25: fields of more than 3,072 bytes", true));
+                    }
+                }
+                b"ssh-ed25519" | b"ssh-rsa" => return None,
+                _ => return Some(("17, 25: a type that is none of 01's five", true)),
+            }
+            let blob = addition(p).0;
+            l.full.as_ref().is_some_and(|held| !held.contains(&blob)).then_some(("17, 25: a ninth key", true))
+        }
+        22 if ours == FAILURE && rust == SUCCESS => (strings(&p[1..], 1).0.first()?.len() > 1024).then_some(("22: a passphrase of more than 1,024 bytes", true)),
+        13 if ours == "close" && rust.len() > 16 && &rust[14..16] == "0e" => {
+            (strings(&unhex(&rust[16..]), 1).0.first()?.len() > 2048).then_some(("13: a signature of more than 2,048 bytes", false))
+        }
+        _ => None,
+    }
+}
+
+/// The hash that a signature of `scripted` was made with.
+fn hash_of(reply: &str) -> Hash {
+    let b = unhex(&reply[16..]);
+    let sig = strings(&b, 1).0[0].to_vec();
+    match strings(&sig, 1).0[0] {
+        b"rsa-sha2-256" => Hash::Sha256,
+        b"rsa-sha2-512" => Hash::Sha512,
+        _ => Hash::None,
+    }
+}
+
+fn show(s: &Segment, upto: usize) -> String {
+    // the segment's lines up to the one that gives output line `upto`
+    let mut k = 0;
+    let mut text = String::new();
+    for l in &s.lines {
+        text += l;
+        text.push('\n');
+        if l.starts_with("to ") || l.starts_with("ans ") || l.starts_with("raw ") {
+            if k == upto {
+                break;
+            }
+            k += 1;
+        }
+    }
+    text
+}
+
+fn judge_serial(standin: bool, s: &Segment, ours: &[String], rust: &[String], landings: &[Landing], t: &mut Tally) {
+    t.segments.0 += 1;
+    let mut at = 0; // the landing of this request or list
+    let mut begun = vec![0; s.requests.len()];
+    for (k, what) in s.outs.iter().enumerate() {
+        let (Out::Request(i) | Out::Answer(i) | Out::Probe(i) | Out::Bytes(i)) = *what;
+        if matches!(what, Out::Request(_)) {
+            begun[i] = at;
+            at += 1;
+        } else if matches!(what, Out::Probe(_)) {
+            at += 1;
+            t.lists += 1;
+        }
+        if matches!(what, Out::Request(_)) || s.requests[i].len() > 262_144 && matches!(what, Out::Bytes(_)) {
+            t.compared += 1;
+            *t.by_byte.entry(s.requests[i].first().map_or("empty".into(), |b| if [11, 13, 17, 18, 19, 22, 23, 25].contains(b) { b.to_string() } else { "other".into() })).or_default() += 1;
+        }
+        if ours[k] == rust[k] {
+            if ours[k].len() > 16 && &ours[k][14..16] == "0e" {
+                t.signed += 1;
+                let mine = landings[begun[i]].request.hash.expect("a signature was asked for");
+                // of `standin` the signature itself says so
+                let theirs = if standin { mine } else { hash_of(&rust[k]) };
+                if mine != theirs {
+                    let blob = strings(&s.requests[i][1..], 1).0[0];
+                    if strings(blob, 1).0[0] != b"ssh-rsa" && theirs == Hash::None {
+                        note(&mut t.kinds, "13: flags 2 or 4, key not RSA: a hash is asked for, the Rust signs without", hex(&s.requests[i]));
+                    } else {
+                        t.unlisted.push(format!("hash {mine:?} against {theirs:?}\n{}", show(s, k)));
+                    }
+                }
+            } else if ours[k] == SUCCESS && matches!(s.requests[i].first(), Some(17 | 25)) && !matches!(what, Out::Probe(_)) {
+                t.accepted += 1;
+            }
+            continue;
+        }
+        let found = match what {
+            Out::Probe(_) | Out::Bytes(_) => None,
+            _ => listed(standin, &s.requests[i], &landings[begun[i]], &ours[k], &rust[k]),
+        };
+        match found {
+            Some((kind, parts)) => {
+                note(&mut t.kinds, kind, hex(&s.requests[i]));
+                if parts {
+                    t.dropped += (s.requests.len() - 1 - i) as u64;
+                    return;
+                }
+            }
+            None => {
+                t.unlisted.push(format!("core {}\nrust {}\nscript:\n{}", ours[k], rust[k], show(s, k)));
+                return;
+            }
+        }
+    }
+}
+
+/// Demand 3 on the running code: the landed requests once more, one at a time in landing order on a fresh gateway, each with the answers lent
+/// at its landing, at the greatest reading accepted so far. Same outcomes, same replies, same end.
+fn replay(landings: &[Landing], mut end: Gateway, clock: u64) -> Result<u64, String> {
+    let mut g = Gateway::new();
+    let mut reply = Reply::new();
+    for (i, l) in landings.iter().enumerate() {
+        let o = g.call(&l.request.payload, l.clock, &l.request.answers(), &mut reply);
+        if o != l.outcome || reply.bytes() != l.reply {
+            return Err(format!("landing {i} ({}): {:?} {} alone, {:?} {} crossing", l.conn, o, hex(reply.bytes()), l.outcome, hex(&l.reply)));
+        }
+    }
+    for gateway in [&mut g, &mut end] {
+        gateway.call(&[], clock, &Default::default(), &mut reply);
+    }
+    if g != end {
+        return Err(format!("ends differ: {g:?} alone, {end:?} crossing"));
+    }
+    Ok(landings.len() as u64)
+}
+
+fn name(p: &[u8]) -> &'static str {
+    match p[0] {
+        11 => "list",
+        13 => "sign",
+        17 | 25 => "add",
+        18 => "remove",
+        19 => "remove all",
+        22 => "LOCK",
+        23 => "UNLOCK",
+        _ => "other",
+    }
+}
+
+/// The last thing that each request heard.
+fn ends(s: &Segment, lines: &[String]) -> Vec<String> {
+    let mut out = vec![String::new(); s.requests.len()];
+    for (what, line) in s.outs.iter().zip(lines) {
+        let (Out::Request(i) | Out::Answer(i) | Out::Probe(i) | Out::Bytes(i)) = *what;
+        if line != "nobody-asked" {
+            out[i] = line.clone();
+        }
+    }
+    out
+}
+
+fn judge_crossing(s: &Segment, ours: &[String], rust: &[String], predicted: &[String], landings: &[Landing], t: &mut Tally) {
+    t.segments.1 += 1;
+    if let Some(k) = (0..rust.len()).find(|k| rust[*k] != predicted[*k]) {
+        t.unlisted.push(format!("crossing: the Rust does not follow its own rule\nrust      {}\npredicted {}\nscript:\n{}", rust[k], predicted[k], show(s, k)));
+        return;
+    }
+    let (mine, theirs) = (ends(s, ours), ends(s, rust));
+    t.crossing += s.requests.len() as u64;
+    let mut earlier = false;
+    // in the order of landing here
+    for (at, l) in landings.iter().enumerate() {
+        // a connection has one request in the part that crosses; before and after it they come one at a time
+        let nth = landings[..at].iter().filter(|x| x.conn == l.conn).count();
+        let i = s.outs.iter().zip(s.lines.iter().filter(|x| x.starts_with("to ") || x.starts_with("ans "))).filter_map(|(o, line)| match o {
+            Out::Request(i) if line.split(' ').nth(1) == Some(&l.conn) => Some(*i),
+            _ => None,
+        });
+        let i = i.clone().nth(nth).expect("its request");
+        if mine[i] == theirs[i] {
+            if l.request.confirmations > 1 {
+                t.asked_again += 1;
+            }
+            continue;
+        }
+        t.crossing_differ += 1;
+        let p = &s.requests[i];
+        let asked = l.request.gate == Some(true);
+        let kind = if asked && l.was_locked && p[0] != 23 && mine[i] == FAILURE {
+            Some(format!("{} past a landed LOCK", name(p)))
+        } else if asked && !l.was_locked && p[0] == 23 && mine[i] == FAILURE {
+            Some("UNLOCK past a landed UNLOCK".to_string())
+        } else if p[0] == 13 && asked && l.request.confirmations > 0 && l.request.confirmations < 2 && l.request.signature.is_none() && mine[i] == FAILURE && l.request.confirmation.is_some_and(|c| c.answer) {
+            let blob = strings(&p[1..], 1).0[0];
+            let removed = landings[..at].iter().any(|x| {
+                x.reply == [0, 0, 0, 1, 6] && (x.request.payload[0] == 19 || x.request.payload[0] == 18 && strings(&x.request.payload[1..], 1).0[0] == blob)
+            });
+            Some(format!("sign with a key that {} while its confirmation was open", if removed { "was removed" } else { "expired" }))
+        } else if p[0] == 13 && asked && l.request.confirmation.zip(l.request.signature.as_ref()).is_some_and(|(c, s)| c.number != s.0) {
+            Some("sign with a key that was replaced by one without Confirm while its confirmation was open: the old one's no does not count".to_string())
+        } else if p[0] == 13 && asked && l.request.confirmations > 1 {
+            Some("sign with a key that was replaced while its confirmation was open: asked again".to_string())
+        } else {
+            None
+        };
+        let kind = match kind {
+            Some(k) => k,
+            // the tables or locks differ since an earlier one
+            None if earlier => "follows from an earlier one in its script".to_string(),
+            None => {
+                t.unlisted.push(format!("crossing, {}: core {} rust {}\nscript:\n{}", name(p), mine[i], theirs[i], show(s, usize::MAX)));
+                return;
+            }
+        };
+        earlier = true;
+        note(&mut t.crossings, &kind, show(s, usize::MAX));
+    }
+}
+
+fn run_oracle(oracle: &str, script: String) -> Vec<String> {
+    let mut child = Command::new(oracle).env("SORT", "1").stdin(Stdio::piped()).stdout(Stdio::piped()).spawn().expect("the oracle starts");
+    let mut input = child.stdin.take().unwrap();
+    let writer = std::thread::spawn(move || input.write_all(script.as_bytes()));
+    let mut text = String::new();
+    child.stdout.take().unwrap().read_to_string(&mut text).expect("text");
+    writer.join().unwrap().expect("the oracle reads its script");
+    assert!(child.wait().unwrap().success(), "the oracle failed");
+    text.lines().map(str::to_string).collect()
+}
+
+fn main() {
+    let a: Vec<String> = std::env::args().collect();
+    let (oracle, requests, seed, out) = (&a[1], a[2].parse::<u64>().expect("REQUESTS"), a[3].parse::<u64>().expect("SEED"), &a[4]);
+    let standin = oracle.ends_with("standin");
+    let mut r = Random(seed);
+    let mut t = Tally::default();
+    let start = std::time::Instant::now();
+        while t.compared + t.crossing < requests {
+        let pool: Vec<Key> = (0..60).map(|_| any_key(&mut r)).collect();
+        let segments: Vec<Segment> = (0..150).map(|_| if !standin && r.percent(70) { crossing(&mut r, &pool) } else { serial(&mut r, &pool) }).collect();
+        let script: String = segments.iter().flat_map(|s| &s.lines).flat_map(|l| [l, "\n"]).collect();
+        let rust = run_oracle(oracle, script);
+        let (mut w, mut held, mut stale) = (World::new(), World::new(), Stale::default());
+        (w.sort, w.standin) = (true, standin);
+        let mut at = 0;
+        for s in &segments {
+            let ours: Vec<String> = s.lines.iter().flat_map(|l| w.line(l)).collect();
+            assert_eq!(ours.len(), s.outs.len());
+            let theirs = &rust[at..at + ours.len()];
+            at += ours.len();
+            if s.crossing {
+                let predicted: Vec<String> = s.lines.iter().filter_map(|l| stale.line(l)).collect();
+                assert_eq!(w.open(), 0, "all have landed");
+                judge_crossing(s, &ours, theirs, &predicted, &w.landings, &mut t);
+                match replay(&w.landings, w.gateway.clone(), w.clock) {
+                    Ok(n) => t.replayed += n,
+                    Err(e) => t.unlisted.push(format!("demand 3: {e}\nscript:\n{}", show(s, usize::MAX))),
+                }
+                // once more with check and signature left open too, here alone
+                for l in &s.lines {
+                    match l.as_str() {
+                        "gate-always ?" => held.hold = true,
+                        "gate-always y" => held.hold = false,
+                        _ => {}
+                    }
+                    held.line(l);
+                }
+                match replay(&held.landings, held.gateway.clone(), held.clock) {
+                    Ok(n) => t.held_replayed += n,
+                    Err(e) => t.unlisted.push(format!("demand 3, all questions held: {e}\nscript:\n{}", show(s, usize::MAX))),
+                }
+            } else {
+                judge_serial(standin, s, &ours, theirs, &w.landings, &mut t);
+                for l in s.lines.iter().filter(|l| l.starts_with("adv ")) {
+                    stale.line(l);
+                    held.line(l);
+                }
+            }
+            if t.unlisted.len() > 20 {
+                break;
+            }
+        }
+        assert!(t.unlisted.len() > 20 || at == rust.len(), "lines left over");
+        if t.unlisted.len() > 20 {
+            break;
+        }
+    }
+    let mut text = String::new();
+    let say = |line: String, text: &mut String| {
+        println!("{line}");
+        *text += &line;
+        text.push('\n');
+    };
+    say(format!("{} seed {seed}: {} requests compared in {} scripts, {:.0} s", if standin { "standin," } else { "scripted," }, t.compared + t.crossing, t.segments.0 + t.segments.1, start.elapsed().as_secs_f64()), &mut text);
+    say(format!("one at a time: {} requests in {} scripts, and a list behind each ({} lists)", t.compared, t.segments.0, t.lists), &mut text);
+    let by: Vec<String> = t.by_byte.iter().map(|(k, n)| format!("{k}: {n}")).collect();
+    say(format!("  by first byte: {}", by.join(", ")), &mut text);
+    say(format!("  keys added on both sides: {}; signatures on both sides: {}", t.accepted, t.signed), &mut text);
+    say(format!("  listed differences: {}; {} requests behind one of them not compared", t.kinds.values().map(|k| k.0).sum::<u64>(), t.dropped), &mut text);
+    for (k, (n, p)) in &t.kinds {
+        say(format!("    {n:8}  {k}; smallest payload {}", if p.len() > 100 { format!("{}.. ({} bytes)", &p[..100], p.len() / 2) } else { p.clone() }), &mut text);
+    }
+    say(format!("crossing: {} requests in {} scripts; the Rust's answers as its own rule predicts; {} requests end differently", t.crossing, t.segments.1, t.crossing_differ), &mut text);
+    let mut scripts = String::new();
+    for (k, (n, script)) in &t.crossings {
+        say(format!("    {n:8}  {k}"), &mut text);
+        scripts += &format!("# {k}\n{script}\n");
+    }
+    say(format!("  replaced while its confirmation was open, asked again here and not by the Rust, and the same end: {}", t.asked_again), &mut text);
+    say(format!("  landings replayed one at a time on the core: {} (check and signature answered at once), {} (all questions held)", t.replayed, t.held_replayed), &mut text);
+    say(format!("unlisted differences: {}", t.unlisted.len()), &mut text);
+    for u in &t.unlisted {
+        say(format!("-- UNLISTED\n{u}"), &mut text);
+    }
+    std::fs::create_dir_all(out).expect("OUT");
+    std::fs::write(format!("{out}/report-{seed}{}.txt", if standin { "-standin" } else { "" }), text).expect("report");
+    if !standin {
+        std::fs::write(format!("{out}/crossings-{seed}.txt"), scripts).expect("scripts");
+    }
+    std::process::exit(if t.unlisted.is_empty() { 0 } else { 1 });
+}

@@ -1,0 +1,77 @@
+//! The core behind the oracle's script language, and what the comparison needs beside it.
+pub mod ed25519;
+pub mod requests;
+pub mod stale;
+pub mod world;
+
+/// A generator of its own (SplitMix64), so that a seed means the same requests everywhere.
+pub struct Random(pub u64);
+impl Random {
+    pub fn next(&mut self) -> u64 {
+        self.0 = self.0.wrapping_add(0x9e37_79b9_7f4a_7c15);
+        let mut z = self.0;
+        z = (z ^ (z >> 30)).wrapping_mul(0xbf58_476d_1ce4_e5b9);
+        z = (z ^ (z >> 27)).wrapping_mul(0x94d0_49bb_1331_11eb);
+        z ^ (z >> 31)
+    }
+    pub fn below(&mut self, n: usize) -> usize {
+        (self.next() % n as u64) as usize
+    }
+    /// True n times in a hundred.
+    pub fn percent(&mut self, n: usize) -> bool {
+        self.below(100) < n
+    }
+    pub fn pick<'a, T>(&mut self, items: &'a [T]) -> &'a T {
+        &items[self.below(items.len())]
+    }
+    pub fn bytes(&mut self, n: usize) -> Vec<u8> {
+        (0..n).map(|_| self.next() as u8).collect()
+    }
+}
+
+pub fn string(b: &[u8]) -> Vec<u8> {
+    [&(b.len() as u32).to_be_bytes()[..], b].concat()
+}
+pub fn hex(b: &[u8]) -> String {
+    const DIGITS: &[u8; 16] = b"0123456789abcdef";
+    let mut s = String::with_capacity(b.len() * 2);
+    for x in b {
+        s.push(DIGITS[(x >> 4) as usize] as char);
+        s.push(DIGITS[(x & 15) as usize] as char);
+    }
+    s
+}
+pub fn unhex(s: &str) -> Vec<u8> {
+    let digit = |c: u8| (c as char).to_digit(16).expect("hex") as u8;
+    let s = if s == "-" { "" } else { s };
+    s.as_bytes().chunks(2).map(|c| digit(c[0]) << 4 | digit(c[1])).collect()
+}
+/// The strings at the front of `b`, at most `n`, as far as they are whole; and what is behind them.
+pub fn strings(mut b: &[u8], n: usize) -> (Vec<&[u8]>, &[u8]) {
+    let mut out = Vec::new();
+    while out.len() < n && b.len() >= 4 {
+        let k = u32::from_be_bytes(b[..4].try_into().unwrap()) as usize;
+        if b.len() - 4 < k {
+            break;
+        }
+        out.push(&b[4..4 + k]);
+        b = &b[4 + k..];
+    }
+    (out, b)
+}
+/// A list reply with its items in the order of their bytes; other replies as they stand.
+pub fn sorted(f: &[u8]) -> Vec<u8> {
+    if f.get(4) != Some(&12) {
+        return f.to_vec();
+    }
+    let (mut at, mut items) = (9, Vec::new());
+    while at < f.len() {
+        let from = at;
+        for _ in 0..2 {
+            at += 4 + u32::from_be_bytes(f[at..at + 4].try_into().unwrap()) as usize;
+        }
+        items.push(&f[from..at]);
+    }
+    items.sort();
+    [&f[..9], &items.concat()].concat()
+}

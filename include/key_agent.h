@@ -1,0 +1,173 @@
+/* The key agent for C: what the archive of the crate gateway (`rt staticlib gateway`) exports, on x86-64 Linux.
+ *
+ * The agent decides and keeps; sockets, clock, panel, key check and signer stay on this side. Each call is handed the request's payload and
+ * the answers so far, and hands back a question, a reply, or a close. What it promises is proved of the code in the archive; it holds while
+ * this side keeps what is said below, which nothing tests:
+ *
+ *   - no pointer is null, also where the length beside it is 0;
+ *   - a pointer to bytes has as many bytes behind it as the length says, and no length is above PTRDIFF_MAX;
+ *   - store, reply and state are written: they overlap neither each other nor payload, signature or the result, and nobody else reads or
+ *     writes them while a call runs. So: one call at a time on one state. Payload and signature are only read, and may overlap;
+ *   - every bool in a state is 0 or 1, as key_agent_fresh and key_agent_call leave it. Any other fault in a state or its store is found, and
+ *     the call refused (3). Copies are fine, but state and store belong together: keep, copy and restore them as a pair.
+ *
+ * The padding of a state is not defined, so states are not to be compared by memcmp.
+ */
+#ifndef KEY_AGENT_H
+#define KEY_AGENT_H
+
+#include <stdbool.h>
+#include <stddef.h>
+#include <stdint.h>
+
+#ifdef __cplusplus
+extern "C" {
+#endif
+
+enum {
+    KEY_AGENT_STORE_BYTES = 32768,     /* the key store's exact length */
+    KEY_AGENT_REPLY_BYTES = 8265,      /* the reply buffer's least length */
+    KEY_AGENT_PAYLOAD_BYTES = 262144,  /* the longest payload */
+    KEY_AGENT_SIGNATURE_BYTES = 2048   /* the longest signature */
+};
+
+/* ---- State: kept by this side, read and written by the agent ---- */
+
+/* A clock reading in milliseconds. */
+typedef struct {
+    uint64_t count;
+} key_agent_millis;
+
+/* A lifetime in seconds. */
+typedef struct {
+    uint32_t count;
+} key_agent_seconds;
+
+typedef struct {
+    uint64_t number;
+    key_agent_millis reading;
+    bool limited;
+    key_agent_seconds seconds;
+    bool confirm;
+    size_t blob_len;
+    size_t fields_len;
+} key_agent_entry;
+
+typedef struct {
+    uint8_t bytes[1024];
+    size_t len;
+} key_agent_lock;
+
+typedef struct {
+    key_agent_entry entries[8];
+    key_agent_lock lock;
+    key_agent_millis clock;
+    uint64_t next;
+} key_agent_state;
+
+/* ---- Answers: what was found out so far for this request ---- */
+
+/* Any number but KEY_AGENT_NO and KEY_AGENT_YES is no answer. */
+enum {
+    KEY_AGENT_UNANSWERED = 0,
+    KEY_AGENT_NO = 1,  /* of the signature: the signer gave nothing */
+    KEY_AGENT_YES = 2  /* of the signature: given, its bytes are the call's signature */
+};
+
+/* Confirmation and signature count only for the key of their insertion number, the one that the question named. */
+typedef struct {
+    uint8_t gate;
+    uint8_t check;
+    uint8_t confirmation;
+    uint8_t signature;
+    uint64_t confirmation_number;
+    uint64_t signature_number;
+} key_agent_answers;
+
+/* ---- Outcome ---- */
+
+/* Each kind, and the fields that it uses; the others are 0. A part is never out of range: from <= to, and to <= payload_len, or reply_len
+ * where it is a reply. */
+enum {
+    KEY_AGENT_REFUSED = 0,       /* number: 1 reply buffer too short; 2 store of another length; 3 state not sound; 4 payload too long;
+                                    5 signature too long. Nothing was altered, the clock neither */
+    KEY_AGENT_ASK_GATE = 1,      /* number: the class. 1 list; 2 add; 3 remove; 4 remove all; 5 sign; 6 lock; 7 unlock */
+    KEY_AGENT_ASK_CHECK = 2,     /* from, to: the part of the payload with the key's fields */
+    KEY_AGENT_ASK_CONFIRM = 3,   /* number: the key's insertion number */
+    KEY_AGENT_ASK_SIGN = 4,      /* number: the key's insertion number; from, to: the part of the payload to sign; hash: 0 none, 256, 512 */
+    KEY_AGENT_REPLY = 5,         /* from is 0, to is the length: the frame to send is the first `to` bytes of the reply buffer */
+    KEY_AGENT_CLOSE = 6          /* the connection is to be closed */
+};
+
+typedef struct {
+    uint8_t kind;
+    uint16_t hash;
+    uint64_t number;
+    size_t from;
+    size_t to;
+} key_agent_outcome;
+
+/* ---- Split ---- */
+
+enum {
+    KEY_AGENT_MORE_NEEDED = 0,
+    KEY_AGENT_TOO_LONG = 1,
+    KEY_AGENT_FRAME = 2
+};
+
+typedef struct {
+    uint8_t kind;
+    size_t from;
+    size_t to;
+} key_agent_split_result;
+
+/* ---- Functions ---- */
+
+/* The state of a fresh gateway: no key, open, clock 0. Its store is KEY_AGENT_STORE_BYTES bytes, all zero. */
+key_agent_state key_agent_fresh(void);
+
+/* Are state and store sound together, as refusal 3 tests at each call? For a host that restores them; makes no call and alters nothing. */
+bool key_agent_is_sound(key_agent_state state, const uint8_t *store, size_t store_len);
+
+/* One call for a request.
+ *
+ *   state, store   as the call before left them, or fresh; altered in place. store_len must be KEY_AGENT_STORE_BYTES, else refusal 2.
+ *   payload        of the request's frame, without the length in front; at most KEY_AGENT_PAYLOAD_BYTES, else refusal 4.
+ *   reading        of a clock in milliseconds. A reading lower than an earlier one counts as that one.
+ *   answers        so far for this request; nothing carries over from call to call.
+ *   signature      read only where answers.signature is KEY_AGENT_YES; then at most KEY_AGENT_SIGNATURE_BYTES, else refusal 5.
+ *   reply          at least KEY_AGENT_REPLY_BYTES, else refusal 1. Written in front by a reply, untouched by every other outcome.
+ *
+ * A question is asked again until its answer is lent: find it out, set it in answers, and call again with the same payload. A reply or a
+ * close ends the request.
+ */
+key_agent_outcome key_agent_call(
+    key_agent_state *state,
+    uint8_t *store, size_t store_len,
+    const uint8_t *payload, size_t payload_len,
+    key_agent_millis reading,
+    key_agent_answers answers,
+    const uint8_t *signature, size_t signature_len,
+    uint8_t *reply, size_t reply_len);
+
+/* What the first bytes of a connection hold: KEY_AGENT_MORE_NEEDED; KEY_AGENT_TOO_LONG, a frame that is never to be read; or
+ * KEY_AGENT_FRAME, a whole frame, whose payload is bytes[from .. to), so that the next frame begins at bytes[to]. Else from and to are 0.
+ * Always from <= to <= bytes_len.
+ */
+key_agent_split_result key_agent_split(const uint8_t *bytes, size_t bytes_len);
+
+#ifdef __cplusplus
+}
+#endif
+
+#ifdef __STDC_VERSION__
+#if __STDC_VERSION__ >= 201112L
+_Static_assert(sizeof(key_agent_entry) == 48 && offsetof(key_agent_entry, seconds) == 20 && offsetof(key_agent_entry, blob_len) == 32, "layout of an entry");
+_Static_assert(sizeof(key_agent_state) == 1432 && offsetof(key_agent_state, lock) == 384 && offsetof(key_agent_state, clock) == 1416 && offsetof(key_agent_state, next) == 1424, "layout of a state");
+_Static_assert(sizeof(key_agent_answers) == 24 && offsetof(key_agent_answers, confirmation_number) == 8, "layout of answers");
+_Static_assert(sizeof(key_agent_outcome) == 32 && offsetof(key_agent_outcome, hash) == 2 && offsetof(key_agent_outcome, number) == 8, "layout of an outcome");
+_Static_assert(sizeof(key_agent_split_result) == 24 && offsetof(key_agent_split_result, from) == 8, "layout of a split");
+#endif
+#endif
+
+#endif

@@ -1,0 +1,198 @@
+//! A gateway loop over the proved core, in the shape of russh's agent: an `Agent` that answers questions, `serve` over a listener, a
+//! `Connection` with `run`, `read_frame` and `respond`.
+//!
+//!     cargo run --example gateway -- PATH     serves the Unix socket PATH
+//!     cargo run --example gateway             plays two crossing requests on a socket of its own, and ends
+//!
+//! The signer here is a stand-in: it writes the key's type and the data. A true one takes the key fields and signs.
+use key_agent::{split, Answers, Class, Gateway, Hash, Key, Numbered, Outcome, Question, Reply, Split};
+use std::io::{self, Read, Write};
+use std::os::unix::net::{UnixListener, UnixStream};
+use std::sync::{Arc, Mutex};
+use std::time::Instant;
+
+/// What the core asks of the outside. In russh `confirm` and `confirm_request` are in the trait, and key check and signer are a library's.
+trait Agent: Clone + Send + 'static {
+    /// May a request of this class go on?
+    fn confirm_request(&self, _class: Class) -> bool {
+        true
+    }
+    /// May this key sign?
+    fn confirm(&self, _blob: &[u8]) -> bool {
+        true
+    }
+    /// Are these key fields, from the type string on, a key?
+    fn check(&self, fields: &[u8]) -> bool;
+    /// The signature blob, or none: then the connection is closed.
+    fn sign(&self, fields: &[u8], data: &[u8], hash: Hash) -> Option<Vec<u8>>;
+}
+
+/// One gateway for all connections. Its lock is held for one call, never while a question is open.
+struct Shared {
+    gateway: Mutex<Gateway>,
+    start: Instant,
+}
+
+fn serve<A: Agent>(listener: UnixListener, agent: A) -> io::Result<()> {
+    let shared = Arc::new(Shared { gateway: Mutex::new(Gateway::new()), start: Instant::now() });
+    for stream in listener.incoming() {
+        let c = Connection { shared: shared.clone(), agent: agent.clone(), s: stream?, buf: Vec::new(), at: 0 };
+        std::thread::spawn(move || c.run());
+    }
+    Ok(())
+}
+
+struct Connection<A: Agent> {
+    shared: Arc<Shared>,
+    agent: A,
+    s: UnixStream,
+    buf: Vec<u8>,
+    /// The bytes of `buf` that are done.
+    at: usize,
+}
+
+impl<A: Agent> Connection<A> {
+    fn run(mut self) -> io::Result<()> {
+        let mut reply = Reply::new();
+        while let Some(payload) = self.read_frame()? {
+            if !self.respond(&self.buf[payload], &mut reply) {
+                break;
+            }
+            self.s.write_all(reply.bytes())?;
+        }
+        Ok(())
+    }
+
+    /// The next payload, as a part of `buf`; none at the end of the connection, or if a frame is too long.
+    fn read_frame(&mut self) -> io::Result<Option<std::ops::Range<usize>>> {
+        self.buf.drain(..self.at);
+        self.at = 0;
+        loop {
+            match split(&self.buf) {
+                Split::Frame(payload) => {
+                    self.at = payload.end;
+                    return Ok(Some(payload));
+                }
+                Split::TooLong => return Ok(None),
+                Split::MoreNeeded => {
+                    let mut chunk = [0; 4096];
+                    match self.s.read(&mut chunk)? {
+                        0 => return Ok(None),
+                        n => self.buf.extend_from_slice(&chunk[..n]),
+                    }
+                }
+            }
+        }
+    }
+
+    /// Calls until the request lands: true with a reply, false to close.
+    fn respond(&self, payload: &[u8], reply: &mut Reply) -> bool {
+        let (mut gate, mut check, mut confirmation) = (None, None, None);
+        let mut signature: Option<(u64, Option<Vec<u8>>)> = None;
+        loop {
+            let answers = Answers {
+                gate,
+                check,
+                confirmation,
+                signature: signature.as_ref().map(|(number, s)| Numbered { number: *number, answer: s.as_deref() }),
+            };
+            let reading = self.shared.start.elapsed().as_millis() as u64;
+            let mut g = self.shared.gateway.lock().unwrap();
+            let outcome = g.call(payload, reading, &answers, reply);
+            // what a question is about is looked up before the lock is given back: later the key may be gone
+            let asked = |g: &Gateway, number, part: fn(Key<'_>) -> &[u8]| g.key(number).map(part).unwrap_or(&[]).to_vec();
+            match outcome {
+                Outcome::Reply => return true,
+                Outcome::Close => return false,
+                // neither occurs: `split` gives no longer payload, and `sign` no longer signature
+                Outcome::Refused(why) => panic!("{why}"),
+                Outcome::Asks(Question::Gate(class)) => {
+                    drop(g);
+                    gate = Some(self.agent.confirm_request(class));
+                }
+                Outcome::Asks(Question::Check(fields)) => {
+                    drop(g);
+                    check = Some(self.agent.check(&payload[fields]));
+                }
+                Outcome::Asks(Question::Confirmation { number }) => {
+                    let blob = asked(&g, number, |k| k.blob);
+                    drop(g);
+                    confirmation = Some(Numbered { number, answer: self.agent.confirm(&blob) });
+                }
+                Outcome::Asks(Question::Signature { number, data, hash }) => {
+                    let fields = asked(&g, number, |k| k.fields);
+                    drop(g);
+                    let s = self.agent.sign(&fields, &payload[data], hash).filter(|s| s.len() <= key_agent::MAX_SIGNATURE);
+                    signature = Some((number, s));
+                }
+            }
+        }
+    }
+}
+
+/// Says what it is asked, and yes.
+#[derive(Clone)]
+struct Panel;
+
+fn string(b: &[u8]) -> Vec<u8> {
+    [&(b.len() as u32).to_be_bytes()[..], b].concat()
+}
+
+impl Agent for Panel {
+    fn confirm_request(&self, class: Class) -> bool {
+        println!("panel: {class:?}? yes");
+        if class == Class::RequestKeys {
+            // the head grower takes her time with this one, so that another request can land
+            std::thread::sleep(std::time::Duration::from_millis(300));
+        }
+        true
+    }
+    fn confirm(&self, blob: &[u8]) -> bool {
+        println!("panel: sign with a key of {} bytes? yes", blob.len());
+        true
+    }
+    fn check(&self, _fields: &[u8]) -> bool {
+        true
+    }
+    fn sign(&self, fields: &[u8], data: &[u8], _hash: Hash) -> Option<Vec<u8>> {
+        let n = u32::from_be_bytes(fields.get(..4)?.try_into().ok()?) as usize;
+        Some([string(fields.get(4..4 + n)?), string(data)].concat())
+    }
+}
+
+/// One request on a connection of its own.
+fn request(path: &std::path::Path, payload: &[u8]) -> io::Result<Vec<u8>> {
+    let mut s = UnixStream::connect(path)?;
+    s.write_all(&string(payload))?;
+    let mut prefix = [0; 4];
+    s.read_exact(&mut prefix)?;
+    let mut body = vec![0; u32::from_be_bytes(prefix) as usize];
+    s.read_exact(&mut body)?;
+    Ok(body)
+}
+
+fn main() -> io::Result<()> {
+    if let Some(path) = std::env::args_os().nth(1) {
+        return serve(UnixListener::bind(path)?, Panel);
+    }
+    let path = std::env::temp_dir().join(format!("key-agent-{}", std::process::id()));
+    let listener = UnixListener::bind(&path)?;
+    std::thread::spawn(move || serve(listener, Panel));
+    let q = [&[4][..], &[1; 64]].concat();
+    let blob = [string(b"ecdsa-sha2-nistp256"), string(b"nistp256"), string(&q)].concat();
+    let add = [&[25][..], &blob, &string(&[1; 32]), &string(b"comment"), &[2]].concat();
+    assert_eq!(request(&path, &add)?, [6]);
+    let signed = request(&path, &[&[13][..], &string(&blob), &string(b"data"), &[0; 4]].concat())?;
+    assert_eq!(signed[5..], [string(b"ecdsa-sha2-nistp256"), string(b"data")].concat());
+    assert_eq!(request(&path, &[11])?[..5], [12, 0, 0, 0, 1]);
+    // a list waits at the gate, a lock lands: the list finds it
+    let list = std::thread::spawn({
+        let path = path.clone();
+        move || request(&path, &[11])
+    });
+    std::thread::sleep(std::time::Duration::from_millis(100));
+    assert_eq!(request(&path, &[&[22][..], &string(b"ab")].concat())?, [6]);
+    assert_eq!(list.join().unwrap()?, [5]);
+    println!("the lock landed first: the list got FAILURE");
+    std::fs::remove_file(&path)
+}

@@ -1,0 +1,514 @@
+//! The proved key agent core for Rust programs: the rules of an SSH agent with eight places for keys, a lock, lifetimes and confirmations, and
+//! none of the rest. Sockets, signing, key mathematics and the clock stay with the caller.
+//!
+//! A request is one payload. [`Gateway::call`] works on the present state and either lands ([`Outcome::Reply`], [`Outcome::Close`]) or asks a
+//! [`Question`]. The caller finds the answer, puts it into [`Answers`] and calls again with the same payload; other requests may land between
+//! the two calls, and each call looks at lock and table afresh. That is what the core is for: the request that lands first holds.
+//!
+//! ```
+//! use key_agent::{Answers, Gateway, Outcome, Question, Reply};
+//!
+//! let mut gateway = Gateway::new();
+//! let mut reply = Reply::new();
+//! let mut answers = Answers::default();
+//! // 11: which keys are held? The gate is asked first.
+//! let first = gateway.call(&[11], 0, &answers, &mut reply);
+//! assert_eq!(first, Outcome::Asks(Question::Gate(key_agent::Class::RequestKeys)));
+//! answers.gate = Some(true);
+//! let second = gateway.call(&[11], 0, &answers, &mut reply);
+//! assert_eq!(second, Outcome::Reply);
+//! assert_eq!(reply.bytes(), [0, 0, 0, 5, 12, 0, 0, 0, 0]);
+//! ```
+//!
+//! What each call does with state, store and reply is proved in the repository's `crates/`; this crate adds the types and keeps the two promises
+//! that the archive asks of whoever links it: every part that crosses is there for its whole length, and no two of them overlap.
+#![deny(missing_docs, unsafe_op_in_unsafe_fn)]
+
+mod raw;
+
+use std::fmt;
+use std::ops::Range;
+use std::sync::OnceLock;
+
+/// The length of the key store: eight places of 4,096 bytes.
+pub const STORE_LEN: usize = 32_768;
+/// The length of a reply buffer: the longest list of eight keys is 8,265 bytes.
+pub const REPLY_LEN: usize = 8_265;
+/// The longest payload that is taken.
+pub const MAX_PAYLOAD: usize = 262_144;
+/// The longest signature that is taken.
+pub const MAX_SIGNATURE: usize = 2_048;
+
+const PLACE: usize = 4_096;
+const FIELDS_AT: usize = 1_024;
+
+/// The kind of request that waits at the gate (`MessageType` in russh).
+#[derive(Clone, Copy, Debug, PartialEq, Eq, Hash)]
+pub enum Class {
+    /// 11
+    RequestKeys,
+    /// 17, 25
+    AddKeys,
+    /// 18
+    RemoveKeys,
+    /// 19
+    RemoveAllKeys,
+    /// 13
+    Sign,
+    /// 22
+    Lock,
+    /// 23
+    Unlock,
+}
+
+impl Class {
+    /// The class's number, 1 to 7.
+    pub fn number(self) -> u8 {
+        match self {
+            Class::RequestKeys => 1,
+            Class::AddKeys => 2,
+            Class::RemoveKeys => 3,
+            Class::RemoveAllKeys => 4,
+            Class::Sign => 5,
+            Class::Lock => 6,
+            Class::Unlock => 7,
+        }
+    }
+
+    fn of(number: u64) -> Class {
+        match number {
+            1 => Class::RequestKeys,
+            2 => Class::AddKeys,
+            3 => Class::RemoveKeys,
+            4 => Class::RemoveAllKeys,
+            5 => Class::Sign,
+            6 => Class::Lock,
+            7 => Class::Unlock,
+            _ => unreachable!("the core knows seven classes"),
+        }
+    }
+}
+
+/// The hash that the request's flags choose. It follows the flags for every type of key; a signer whose key leaves no choice does not look at it.
+#[derive(Clone, Copy, Debug, PartialEq, Eq, Hash)]
+pub enum Hash {
+    /// Neither flag is set.
+    None,
+    /// Flag 2 is set.
+    Sha256,
+    /// Flag 4 is set and flag 2 is not.
+    Sha512,
+}
+
+/// What the core asks. Parts are places in the payload of the call that asked.
+#[derive(Clone, Debug, PartialEq, Eq, Hash)]
+pub enum Question {
+    /// May a request of this class go on? Answered in [`Answers::gate`].
+    Gate(Class),
+    /// Are the key fields that stand in this part of the payload a key? Answered in [`Answers::check`].
+    Check(Range<usize>),
+    /// May the key with this insertion number sign? Answered in [`Answers::confirmation`].
+    Confirmation {
+        /// The key's insertion number.
+        number: u64,
+    },
+    /// The signature of this part of the payload. Answered in [`Answers::signature`].
+    Signature {
+        /// The key's insertion number; [`Gateway::key`] has its fields.
+        number: u64,
+        /// What is signed, as a part of the payload.
+        data: Range<usize>,
+        /// The hash that the flags choose.
+        hash: Hash,
+    },
+}
+
+/// Why a call was turned away. Nothing has changed then, the clock neither.
+#[derive(Clone, Copy, Debug, PartialEq, Eq, Hash)]
+pub enum Refusal {
+    /// 4: the payload is longer than [`MAX_PAYLOAD`].
+    PayloadTooLong,
+    /// 5: the signature lent is longer than [`MAX_SIGNATURE`].
+    SignatureTooLong,
+}
+
+impl Refusal {
+    /// The refusal's number.
+    pub fn number(self) -> u8 {
+        match self {
+            Refusal::PayloadTooLong => 4,
+            Refusal::SignatureTooLong => 5,
+        }
+    }
+}
+
+impl fmt::Display for Refusal {
+    fn fmt(&self, f: &mut fmt::Formatter<'_>) -> fmt::Result {
+        match self {
+            Refusal::PayloadTooLong => write!(f, "refusal 4: the payload is longer than {MAX_PAYLOAD} bytes"),
+            Refusal::SignatureTooLong => write!(f, "refusal 5: the signature is longer than {MAX_SIGNATURE} bytes"),
+        }
+    }
+}
+
+impl std::error::Error for Refusal {}
+
+/// What a call comes to.
+#[derive(Clone, Debug, PartialEq, Eq, Hash)]
+pub enum Outcome {
+    /// The call was turned away.
+    Refused(Refusal),
+    /// An answer is missing: call again with it. Nothing has changed but clock and expiry.
+    Asks(Question),
+    /// The request has landed; [`Reply::bytes`] is the frame to send.
+    Reply,
+    /// The request has landed: close the connection.
+    Close,
+}
+
+/// An answer that counts for one insertion number alone. If the key is replaced meanwhile, the core asks again for the new number.
+#[derive(Clone, Copy, Debug, PartialEq, Eq, Hash)]
+pub struct Numbered<T> {
+    /// The number that was asked about.
+    pub number: u64,
+    /// The answer.
+    pub answer: T,
+}
+
+/// The outside answers that a request has so far, at most one of each kind. An answer that is not needed has no effect.
+#[derive(Clone, Copy, Debug, Default, PartialEq, Eq)]
+pub struct Answers<'a> {
+    /// The gate's yes or no.
+    pub gate: Option<bool>,
+    /// The key check's yes or no.
+    pub check: Option<bool>,
+    /// The confirmation's yes or no.
+    pub confirmation: Option<Numbered<bool>>,
+    /// The signer's signature blob, or nothing: then the connection is closed.
+    pub signature: Option<Numbered<Option<&'a [u8]>>>,
+}
+
+fn said(answer: Option<bool>) -> u8 {
+    match answer {
+        None => 0,
+        Some(false) => 1,
+        Some(true) => 2,
+    }
+}
+
+impl<'a> Answers<'a> {
+    fn flat(&self) -> (raw::FlatAnswers, &'a [u8]) {
+        let mut flat = raw::FlatAnswers { gate: said(self.gate), check: said(self.check), ..Default::default() };
+        if let Some(c) = self.confirmation {
+            flat.confirmation = said(Some(c.answer));
+            flat.confirmation_number = c.number;
+        }
+        let mut bytes: &[u8] = &[];
+        if let Some(s) = self.signature {
+            flat.signature = said(Some(s.answer.is_some()));
+            flat.signature_number = s.number;
+            bytes = s.answer.unwrap_or(&[]);
+        }
+        (flat, bytes)
+    }
+}
+
+/// A reply buffer. A call that replies fills its first bytes; no other call touches it.
+pub struct Reply {
+    buffer: Box<[u8; REPLY_LEN]>,
+    len: usize,
+}
+
+impl Reply {
+    /// A buffer of zeros with no reply in it.
+    pub fn new() -> Reply {
+        Reply { buffer: Box::new([0; REPLY_LEN]), len: 0 }
+    }
+
+    /// The frame of the last call that replied, its length prefix included; empty before one, and after a call that did not reply.
+    pub fn bytes(&self) -> &[u8] {
+        &self.buffer[..self.len]
+    }
+
+    /// The whole buffer: behind the frame stands what stood there before.
+    pub fn buffer(&self) -> &[u8; REPLY_LEN] {
+        &self.buffer
+    }
+}
+
+impl Default for Reply {
+    fn default() -> Reply {
+        Reply::new()
+    }
+}
+
+impl fmt::Debug for Reply {
+    fn fmt(&self, f: &mut fmt::Formatter<'_>) -> fmt::Result {
+        f.debug_tuple("Reply").field(&self.bytes()).finish()
+    }
+}
+
+/// A held key.
+#[derive(Clone, Copy, PartialEq, Eq)]
+pub struct Key<'a> {
+    /// The insertion number: each add takes a new one.
+    pub number: u64,
+    /// The kept clock when the key was added, in milliseconds.
+    pub added: u64,
+    /// The lifetime in seconds, if there is one.
+    pub lifetime: Option<u32>,
+    /// Is a confirmation asked for before each signature?
+    pub confirm: bool,
+    /// The public blob.
+    pub blob: &'a [u8],
+    /// The key fields, the private ones too, as the add request had them, from the type string on.
+    pub fields: &'a [u8],
+}
+
+impl fmt::Debug for Key<'_> {
+    // the fields stay out of every log
+    fn fmt(&self, f: &mut fmt::Formatter<'_>) -> fmt::Result {
+        f.debug_struct("Key")
+            .field("number", &self.number)
+            .field("added", &self.added)
+            .field("lifetime", &self.lifetime)
+            .field("confirm", &self.confirm)
+            .field("blob", &self.blob)
+            .finish_non_exhaustive()
+    }
+}
+
+/// The gateway: its state and its key store, owned. Both are only ever altered by the core, so a call from here is never refused for them.
+/// Two are equal if they have the same keys in the same places, the same passphrase, clock and next number.
+#[derive(Clone, PartialEq, Eq)]
+pub struct Gateway {
+    state: Box<raw::State>,
+    store: Box<[u8; STORE_LEN]>,
+}
+
+impl Gateway {
+    /// No keys, open, clock at 0. The first gateway of a program also tests that the archive and this crate agree on layout and numbers, and
+    /// panics if they do not.
+    pub fn new() -> Gateway {
+        static TESTED: OnceLock<()> = OnceLock::new();
+        TESTED.get_or_init(self_test);
+        Gateway::untested()
+    }
+
+    fn untested() -> Gateway {
+        // SAFETY: takes nothing, and fills a State, all of whose values are allowed.
+        let state = Box::new(unsafe { raw::key_agent_fresh() });
+        Gateway { state, store: vec![0; STORE_LEN].into_boxed_slice().try_into().expect("its length") }
+    }
+
+    /// One call on the present state, at the clock reading `reading` in milliseconds (a lower one than the kept clock counts as the kept one).
+    ///
+    /// `payload` is a frame without its length prefix ([`split`] cuts it out); `answers` are those that this request has so far.
+    pub fn call(&mut self, payload: &[u8], reading: u64, answers: &Answers<'_>, reply: &mut Reply) -> Outcome {
+        let (flat, signature) = answers.flat();
+        // SAFETY: every pointer comes from a reference or a slice, so it is not null, and its length goes with it; the three that are written
+        // (state, store, reply) are borrowed mutably here, so they overlap with nothing. The core reads no byte behind a length and keeps no
+        // pointer.
+        let o = unsafe {
+            raw::key_agent_call(
+                &mut *self.state,
+                self.store.as_mut_ptr(),
+                self.store.len(),
+                payload.as_ptr(),
+                payload.len(),
+                reading,
+                flat,
+                signature.as_ptr(),
+                signature.len(),
+                reply.buffer.as_mut_ptr(),
+                reply.buffer.len(),
+            )
+        };
+        reply.len = 0;
+        match o.kind {
+            0 => Outcome::Refused(match o.number {
+                4 => Refusal::PayloadTooLong,
+                5 => Refusal::SignatureTooLong,
+                n => unreachable!("refusal {n}: store and reply have their lengths, and the state is the core's"),
+            }),
+            1 => Outcome::Asks(Question::Gate(Class::of(o.number))),
+            2 => Outcome::Asks(Question::Check(o.from..o.to)),
+            3 => Outcome::Asks(Question::Confirmation { number: o.number }),
+            4 => Outcome::Asks(Question::Signature {
+                number: o.number,
+                data: o.from..o.to,
+                hash: match o.hash {
+                    0 => Hash::None,
+                    256 => Hash::Sha256,
+                    512 => Hash::Sha512,
+                    n => unreachable!("hash {n}"),
+                },
+            }),
+            5 => {
+                reply.len = o.to;
+                Outcome::Reply
+            }
+            6 => Outcome::Close,
+            n => unreachable!("outcome {n}"),
+        }
+    }
+
+    /// The key in one of the eight places.
+    fn key_in(&self, place: usize) -> Option<Key<'_>> {
+        let e = &self.state.entries[place];
+        let bytes = &self.store[place * PLACE..(place + 1) * PLACE];
+        (e.number != 0).then(|| Key {
+            number: e.number,
+            added: e.reading,
+            lifetime: (e.limited != 0).then_some(e.seconds),
+            confirm: e.confirm != 0,
+            blob: &bytes[..e.blob_len],
+            fields: &bytes[FIELDS_AT..FIELDS_AT + e.fields_len],
+        })
+    }
+
+    /// The held keys in the order of their places, which is the order of lists. Keys whose time is over stay until the next call.
+    pub fn keys(&self) -> impl Iterator<Item = Key<'_>> {
+        (0..8).filter_map(|place| self.key_in(place))
+    }
+
+    /// The held key with this insertion number: what the signer, or whoever asks for a confirmation, looks up.
+    pub fn key(&self, number: u64) -> Option<Key<'_>> {
+        self.keys().find(|k| k.number == number)
+    }
+
+    /// The soundness test that every call begins with. True of every `Gateway`; here for who measures or asserts it.
+    pub fn is_sound(&self) -> bool {
+        // SAFETY: the store is lent with its own length and only read; the state goes by value.
+        unsafe { raw::key_agent_is_sound(*self.state, self.store.as_ptr(), self.store.len()) }
+    }
+
+    /// Is the gateway locked?
+    pub fn is_locked(&self) -> bool {
+        self.state.lock.len != 0
+    }
+
+    /// The greatest reading that a call was accepted with.
+    pub fn clock(&self) -> u64 {
+        self.state.clock
+    }
+
+    /// The insertion number that the next added key takes.
+    pub fn next_number(&self) -> u64 {
+        self.state.next
+    }
+}
+
+impl Default for Gateway {
+    fn default() -> Gateway {
+        Gateway::new()
+    }
+}
+
+impl fmt::Debug for Gateway {
+    fn fmt(&self, f: &mut fmt::Formatter<'_>) -> fmt::Result {
+        f.debug_struct("Gateway")
+            .field("keys", &self.keys().collect::<Vec<_>>())
+            .field("locked", &self.is_locked())
+            .field("clock", &self.clock())
+            .finish_non_exhaustive()
+    }
+}
+
+impl Drop for Gateway {
+    // Keys and passphrase do not stay in memory that is handed back.
+    fn drop(&mut self) {
+        for b in self.store.iter_mut().chain(self.state.lock.bytes.iter_mut()) {
+            // SAFETY: a reference to one byte. Volatile, so that the write is not left out.
+            unsafe { std::ptr::write_volatile(b, 0) };
+        }
+    }
+}
+
+/// What stands at the front of a connection's bytes.
+#[derive(Clone, Debug, PartialEq, Eq, Hash)]
+pub enum Split {
+    /// No whole frame yet.
+    MoreNeeded,
+    /// The announced length is above [`MAX_PAYLOAD`]: close the connection.
+    TooLong,
+    /// A whole frame; its payload is this part of the bytes, and the next frame begins at its end.
+    Frame(Range<usize>),
+}
+
+/// Looks for one frame at the front of a connection's bytes; nothing is copied.
+pub fn split(bytes: &[u8]) -> Split {
+    // SAFETY: a slice's pointer and length; nothing is written.
+    let s = unsafe { raw::key_agent_split(bytes.as_ptr(), bytes.len()) };
+    match s.kind {
+        0 => Split::MoreNeeded,
+        1 => Split::TooLong,
+        2 => Split::Frame(s.from..s.to),
+        n => unreachable!("split {n}"),
+    }
+}
+
+/// Layout and numbers, tested against the archive that is linked: each field of each struct is written or read by the core once, and found
+/// where this crate has it. Sizes and offsets of this side are tested when the crate is compiled.
+fn self_test() {
+    let string = |b: &[u8]| [&(b.len() as u32).to_be_bytes()[..], b].concat();
+    let mut g = Gateway::untested();
+    let mut reply = Reply::new();
+    let fresh = *g.state;
+    let free = raw::Entry { number: 0, reading: 0, limited: 0, seconds: 0, confirm: 0, blob_len: 0, fields_len: 0 };
+    let lock = raw::LockRecord { bytes: [0; 1024], len: 0 };
+    assert_eq!(fresh, raw::State { entries: [free; 8], lock, clock: 0, next: 1 }, "layout of State: fresh");
+    // a P-256 key with every field of its entry set: 25, lifetime 0x01020304, Confirm
+    let blob = [string(b"ecdsa-sha2-nistp256"), string(b"nistp256"), string(&[4; 65])].concat();
+    let fields = [blob.clone(), string(&[5; 32])].concat();
+    let add = [&[25][..], &fields, &string(b""), &[1, 1, 2, 3, 4, 2]].concat();
+    let mut a = Answers::default();
+    assert_eq!(g.call(&add, 77, &a, &mut reply), Outcome::Asks(Question::Gate(Class::AddKeys)), "gate");
+    a.gate = Some(true);
+    assert_eq!(g.call(&add, 77, &a, &mut reply), Outcome::Asks(Question::Check(1..1 + fields.len())), "check");
+    a.check = Some(true);
+    assert_eq!(g.call(&add, 78, &a, &mut reply), Outcome::Reply, "add");
+    assert_eq!(reply.bytes(), [0, 0, 0, 1, 6], "reply");
+    let mut want = fresh;
+    want.entries[0] = raw::Entry {
+        number: 1,
+        reading: 78,
+        limited: 1,
+        seconds: 0x0102_0304,
+        confirm: 1,
+        blob_len: blob.len(),
+        fields_len: fields.len(),
+    };
+    want.clock = 78;
+    want.next = 2;
+    assert_eq!(*g.state, want, "layout of State: an entry");
+    assert!(g.store[..blob.len()] == blob[..] && g.store[FIELDS_AT..FIELDS_AT + fields.len()] == fields[..], "layout of the store");
+    let sign = [&[13][..], &string(&blob), &string(b"data"), &[0, 0, 0, 4]].concat();
+    let data = 1 + 4 + blob.len() + 4;
+    a = Answers { gate: Some(true), ..Answers::default() };
+    assert_eq!(g.call(&sign, 0, &a, &mut reply), Outcome::Asks(Question::Confirmation { number: 1 }), "confirmation");
+    a.confirmation = Some(Numbered { number: 1, answer: true });
+    let asks = Outcome::Asks(Question::Signature { number: 1, data: data..data + 4, hash: Hash::Sha512 });
+    assert_eq!(g.call(&sign, 0, &a, &mut reply), asks, "signature");
+    a.signature = Some(Numbered { number: 2, answer: Some(b"other") });
+    assert_eq!(g.call(&sign, 0, &a, &mut reply), asks, "an answer for another number");
+    a.signature = Some(Numbered { number: 1, answer: Some(b"sig") });
+    assert_eq!(g.call(&sign, 0, &a, &mut reply), Outcome::Reply, "signature lent");
+    assert_eq!(reply.bytes(), [0, 0, 0, 8, 14, 0, 0, 0, 3, b's', b'i', b'g'], "signature lent");
+    a.signature = Some(Numbered { number: 1, answer: None });
+    assert_eq!(g.call(&sign, 0, &a, &mut reply), Outcome::Close, "no signature");
+    a.confirmation = Some(Numbered { number: 1, answer: false });
+    assert_eq!(g.call(&sign, 0, &a, &mut reply), Outcome::Reply, "not confirmed");
+    assert_eq!(reply.bytes(), [0, 0, 0, 1, 5], "not confirmed");
+    a = Answers { gate: Some(true), ..Answers::default() };
+    assert_eq!(g.call(&[22, 0, 0, 0, 2, 97, 98], 0, &a, &mut reply), Outcome::Reply, "lock");
+    want.lock.bytes[..2].copy_from_slice(b"ab");
+    want.lock.len = 2;
+    assert_eq!(*g.state, want, "layout of State: the lock");
+    let long = [0; MAX_SIGNATURE + 1];
+    a.signature = Some(Numbered { number: 1, answer: Some(&long) });
+    assert_eq!(g.call(&[], 0, &a, &mut reply), Outcome::Refused(Refusal::SignatureTooLong), "refusal 5");
+    assert_eq!(split(&[0, 0, 0, 1, 11, 0]), Split::Frame(4..5), "split");
+    assert_eq!(split(&[0, 4, 0, 1]), Split::TooLong, "split");
+    assert_eq!(split(&[0, 4, 0, 0]), Split::MoreNeeded, "split");
+}

@@ -1,0 +1,97 @@
+//! What the archive exports, as it stands in `crates/gateway` and `crates/table`. Nothing outside this crate sees it.
+
+/// A place's entry; a free place is all zero. The two bytes that are a truth value there are 0 or 1.
+#[repr(C)]
+#[derive(Clone, Copy, Debug, PartialEq, Eq)]
+pub struct Entry {
+    pub number: u64,
+    pub reading: u64,
+    pub limited: u8,
+    pub seconds: u32,
+    pub confirm: u8,
+    pub blob_len: usize,
+    pub fields_len: usize,
+}
+
+#[repr(C)]
+#[derive(Clone, Copy, Debug, PartialEq, Eq)]
+pub struct LockRecord {
+    pub bytes: [u8; 1024],
+    pub len: usize,
+}
+
+#[repr(C)]
+#[derive(Clone, Copy, Debug, PartialEq, Eq)]
+pub struct State {
+    pub entries: [Entry; 8],
+    pub lock: LockRecord,
+    pub clock: u64,
+    pub next: u64,
+}
+
+/// 1 no or nothing given, 2 yes or given; any other number is no answer.
+#[repr(C)]
+#[derive(Clone, Copy, Debug, PartialEq, Eq, Default)]
+pub struct FlatAnswers {
+    pub gate: u8,
+    pub check: u8,
+    pub confirmation: u8,
+    pub signature: u8,
+    pub confirmation_number: u64,
+    pub signature_number: u64,
+}
+
+#[repr(C)]
+#[derive(Clone, Copy, Debug, PartialEq, Eq)]
+pub struct FlatOutcome {
+    pub kind: u8,
+    pub hash: u16,
+    pub number: u64,
+    pub from: usize,
+    pub to: usize,
+}
+
+#[repr(C)]
+#[derive(Clone, Copy, Debug, PartialEq, Eq)]
+pub struct FlatSplit {
+    pub kind: u8,
+    pub from: usize,
+    pub to: usize,
+}
+
+// A slice crosses as two words, where it begins and its length.
+extern "C" {
+    pub fn key_agent_fresh() -> State;
+    pub fn key_agent_is_sound(state: State, store: *const u8, store_len: usize) -> bool;
+    pub fn key_agent_call(
+        state: *mut State,
+        store: *mut u8,
+        store_len: usize,
+        payload: *const u8,
+        payload_len: usize,
+        reading: u64,
+        answers: FlatAnswers,
+        signature: *const u8,
+        signature_len: usize,
+        reply: *mut u8,
+        reply_len: usize,
+    ) -> FlatOutcome;
+    pub fn key_agent_split(bytes: *const u8, bytes_len: usize) -> FlatSplit;
+}
+
+// The layout that the archive was built for (64 bits; the numbers are the C rules' for these fields).
+const _: () = {
+    use std::mem::{align_of, offset_of, size_of};
+    assert!(size_of::<usize>() == 8);
+    assert!(size_of::<Entry>() == 48 && align_of::<Entry>() == 8);
+    assert!(offset_of!(Entry, number) == 0 && offset_of!(Entry, reading) == 8);
+    assert!(offset_of!(Entry, limited) == 16 && offset_of!(Entry, seconds) == 20 && offset_of!(Entry, confirm) == 24);
+    assert!(offset_of!(Entry, blob_len) == 32 && offset_of!(Entry, fields_len) == 40);
+    assert!(size_of::<LockRecord>() == 1032 && offset_of!(LockRecord, len) == 1024);
+    assert!(size_of::<State>() == 1432 && align_of::<State>() == 8);
+    assert!(offset_of!(State, lock) == 384 && offset_of!(State, clock) == 1416 && offset_of!(State, next) == 1424);
+    assert!(size_of::<FlatAnswers>() == 24 && offset_of!(FlatAnswers, confirmation_number) == 8);
+    assert!(size_of::<FlatOutcome>() == 32 && offset_of!(FlatOutcome, hash) == 2 && offset_of!(FlatOutcome, number) == 8);
+    assert!(offset_of!(FlatOutcome, from) == 16 && offset_of!(FlatOutcome, to) == 24);
+    assert!(size_of::<FlatSplit>() == 24 && offset_of!(FlatSplit, from) == 8);
+};

@@ -1,0 +1,194 @@
+//! 01's examples and the edges of the interface, through the linked archive.
+use key_agent::*;
+
+fn string(b: &[u8]) -> Vec<u8> {
+    [&(b.len() as u32).to_be_bytes()[..], b].concat()
+}
+/// A P-256 key whose point and number are made up: fields, blob.
+fn key(i: u8) -> (Vec<u8>, Vec<u8>) {
+    let mut q = vec![4];
+    q.extend([i; 64]);
+    let blob = [string(b"ecdsa-sha2-nistp256"), string(b"nistp256"), string(&q)].concat();
+    ([blob.clone(), string(&[i; 32])].concat(), blob)
+}
+fn added(i: u8, constraints: &[u8]) -> Vec<u8> {
+    [&[25][..], &key(i).0, &string(b"c"), constraints].concat()
+}
+fn signing(i: u8, flags: u32) -> Vec<u8> {
+    [&[13][..], &string(&key(i).1), &string(b"data"), &flags.to_be_bytes()].concat()
+}
+fn yes() -> Answers<'static> {
+    Answers { gate: Some(true), check: Some(true), ..Answers::default() }
+}
+/// One call with the gate's and the check's yes: the reply, or the outcome in words.
+fn reply(g: &mut Gateway, payload: &[u8], at: u64) -> Vec<u8> {
+    let mut r = Reply::new();
+    match g.call(payload, at, &yes(), &mut r) {
+        Outcome::Reply => r.bytes().to_vec(),
+        other => format!("{other:?}").into_bytes(),
+    }
+}
+const FAILURE: [u8; 5] = [0, 0, 0, 1, 5];
+const SUCCESS: [u8; 5] = [0, 0, 0, 1, 6];
+
+#[test]
+fn examples() {
+    let mut g = Gateway::new();
+    assert_eq!(reply(&mut g, &[], 0), FAILURE);
+    assert_eq!(reply(&mut g, &[11], 0), [0, 0, 0, 5, 12, 0, 0, 0, 0]);
+    assert_eq!(reply(&mut g, &[0x16, 0, 0, 0, 0], 0), SUCCESS);
+    assert!(!g.is_locked());
+    assert_eq!(reply(&mut g, &[0x16, 0, 0, 0, 2, 0x61, 0x62], 0), SUCCESS);
+    assert!(g.is_locked());
+    // wrong lock state: no question
+    assert_eq!(g.call(&[11], 0, &Answers::default(), &mut Reply::new()), Outcome::Reply);
+    assert_eq!(reply(&mut g, &[11], 0), FAILURE);
+    assert_eq!(reply(&mut g, &[0x17, 0, 0, 0, 2, 0x61, 0x63], 0), FAILURE);
+    assert_eq!(reply(&mut g, &[0x17, 0, 0, 0, 2, 0x61, 0x62, 0xff], 0), SUCCESS);
+    assert_eq!(reply(&mut g, &[0x16, 0, 0, 0, 3, 0x61, 0x62], 0), FAILURE);
+    assert!(!g.is_locked());
+    assert_eq!(g.call(&[0x0d, 0, 0, 0, 4, 0x61], 0, &yes(), &mut Reply::new()), Outcome::Close);
+    assert_eq!(reply(&mut g, &[0x0d, 0, 0, 0, 1, 0x61], 0), FAILURE);
+}
+
+#[test]
+fn flags() {
+    let mut g = Gateway::new();
+    assert_eq!(reply(&mut g, &added(1, &[]), 0), SUCCESS);
+    for (flags, want) in [(6, Hash::Sha256), (2, Hash::Sha256), (4, Hash::Sha512), (1, Hash::None), (0, Hash::None)] {
+        match g.call(&signing(1, flags), 0, &yes(), &mut Reply::new()) {
+            Outcome::Asks(Question::Signature { number: 1, data, hash }) => {
+                assert_eq!(hash, want);
+                assert_eq!(signing(1, flags)[data], *b"data");
+            }
+            other => panic!("{other:?}"),
+        }
+    }
+}
+
+#[test]
+fn two_locks_past_the_gate() {
+    let mut g = Gateway::new();
+    let mut r = Reply::new();
+    let (ab, cd) = ([0x16, 0, 0, 0, 2, 0x61, 0x62], [0x16, 0, 0, 0, 2, 0x63, 0x64]);
+    assert_eq!(g.call(&ab, 0, &Answers::default(), &mut r), Outcome::Asks(Question::Gate(Class::Lock)));
+    assert_eq!(g.call(&cd, 0, &Answers::default(), &mut r), Outcome::Asks(Question::Gate(Class::Lock)));
+    assert_eq!(reply(&mut g, &ab, 0), SUCCESS);
+    assert_eq!(reply(&mut g, &cd, 0), FAILURE);
+    assert_eq!(reply(&mut g, &[0x17, 0, 0, 0, 2, 0x61, 0x62], 0), SUCCESS);
+}
+
+#[test]
+fn a_yes_for_the_old_key_does_not_count() {
+    let mut g = Gateway::new();
+    let mut r = Reply::new();
+    assert_eq!(reply(&mut g, &added(1, &[2]), 0), SUCCESS);
+    let mut a = yes();
+    assert_eq!(g.call(&signing(1, 0), 0, &a, &mut r), Outcome::Asks(Question::Confirmation { number: 1 }));
+    assert_eq!(reply(&mut g, &added(1, &[2]), 0), SUCCESS);
+    a.confirmation = Some(Numbered { number: 1, answer: true });
+    assert_eq!(g.call(&signing(1, 0), 0, &a, &mut r), Outcome::Asks(Question::Confirmation { number: 2 }));
+    assert_eq!(g.key(1), None);
+    assert_eq!(g.key(2).unwrap().blob, key(1).1);
+}
+
+#[test]
+fn lifetimes() {
+    let mut g = Gateway::new();
+    let held = |g: &Gateway| g.keys().count();
+    assert_eq!(reply(&mut g, &added(1, &[1, 0, 0, 0, 2]), 5_000), SUCCESS);
+    reply(&mut g, &[11], 6_999);
+    assert_eq!(held(&g), 1);
+    reply(&mut g, &[11], 7_000);
+    assert_eq!((held(&g), g.clock()), (0, 7_000));
+    // a lower reading counts as the kept one
+    assert_eq!(reply(&mut g, &added(1, &[1, 0, 0, 0, 2, 2]), 10), SUCCESS);
+    let k = g.keys().next().unwrap();
+    assert_eq!((k.number, k.added, k.lifetime, k.confirm, k.fields), (2, 7_000, Some(2), true, &key(1).0[..]));
+    // lifetime 0 goes at the next call, a question too
+    assert_eq!(reply(&mut g, &added(2, &[1, 0, 0, 0, 0]), 7_000), SUCCESS);
+    assert_eq!(held(&g), 2);
+    g.call(&[11], 7_000, &Answers::default(), &mut Reply::new());
+    assert_eq!(held(&g), 1);
+}
+
+#[test]
+fn constraints() {
+    for (bytes, want) in [(&[2, 2][..], SUCCESS), (&[1, 0, 0, 0, 5, 1, 0, 0, 0, 5], FAILURE), (&[3], FAILURE), (&[255], FAILURE), (&[1, 0, 0], FAILURE)] {
+        assert_eq!(reply(&mut Gateway::new(), &added(1, bytes), 0), want, "{bytes:?}");
+    }
+}
+
+#[test]
+fn nine_keys() {
+    let mut g = Gateway::new();
+    for i in 1..9 {
+        assert_eq!(reply(&mut g, &added(i, &[]), 0), SUCCESS);
+    }
+    assert_eq!(reply(&mut g, &added(9, &[]), 0), FAILURE);
+    // a held one is replaced in its place
+    assert_eq!(reply(&mut g, &added(3, &[2]), 0), SUCCESS);
+    assert_eq!(g.keys().map(|k| k.number).collect::<Vec<_>>(), [1, 2, 9, 4, 5, 6, 7, 8]);
+    let list = reply(&mut g, &[11], 0);
+    assert_eq!(list[4..9], [12, 0, 0, 0, 8]);
+    assert_eq!(reply(&mut g, &[&[18][..], &string(&key(2).1)].concat(), 0), SUCCESS);
+    assert_eq!(reply(&mut g, &added(9, &[]), 0), SUCCESS);
+    assert_eq!(g.keys().nth(1).unwrap().blob, key(9).1);
+    assert_eq!(reply(&mut g, &[19], 0), SUCCESS);
+    assert_eq!(g.keys().count(), 0);
+}
+
+#[test]
+fn refusals_change_nothing() {
+    let mut g = Gateway::new();
+    reply(&mut g, &added(1, &[1, 0, 0, 0, 1]), 0);
+    let mut r = Reply::new();
+    let long = vec![11; MAX_PAYLOAD + 1];
+    assert_eq!(g.call(&long, 9_000, &yes(), &mut r), Outcome::Refused(Refusal::PayloadTooLong));
+    let sig = [0; MAX_SIGNATURE + 1];
+    let a = Answers { signature: Some(Numbered { number: 99, answer: Some(&sig) }), ..yes() };
+    assert_eq!(g.call(&[11], 9_000, &a, &mut r), Outcome::Refused(Refusal::SignatureTooLong));
+    assert_eq!((g.clock(), g.keys().count(), r.bytes().len(), r.buffer().iter().all(|b| *b == 0)), (0, 1, 0, true));
+    // the longest payload is taken
+    let mut whole = vec![0; MAX_PAYLOAD];
+    whole[0] = 11;
+    assert_eq!(g.call(&whole, 0, &yes(), &mut r), Outcome::Reply);
+    assert_eq!(r.bytes()[4], 12);
+}
+
+#[test]
+fn the_longest_reply_and_what_stands_behind_a_shorter_one() {
+    let mut g = Gateway::new();
+    // RSA: type, e, n with n so long that the blob has 1,024 bytes
+    for i in 1..=8u8 {
+        let n = vec![i; 1024 - 4 - 7 - 4 - 3 - 4];
+        let number = string(&[1, 0, 1]);
+        let fields = [string(b"ssh-rsa"), string(&n), number.clone(), number.clone(), number.clone(), number.clone(), number.clone()].concat();
+        assert_eq!(reply(&mut g, &[&[17][..], &fields, &string(b"")].concat(), 0), SUCCESS);
+    }
+    let mut r = Reply::new();
+    assert_eq!(g.call(&[11], 0, &yes(), &mut r), Outcome::Reply);
+    assert_eq!(r.bytes().len(), REPLY_LEN);
+    let before = *r.buffer();
+    assert_eq!(g.call(&[99], 0, &yes(), &mut r), Outcome::Reply);
+    assert_eq!(r.bytes(), FAILURE);
+    assert_eq!(r.buffer()[5..], before[5..]);
+    assert_eq!(g.call(&[11], 0, &Answers::default(), &mut r), Outcome::Asks(Question::Gate(Class::RequestKeys)));
+    assert_eq!((r.bytes().len(), &r.buffer()[5..]), (0, &before[5..]));
+}
+
+#[test]
+fn frames() {
+    assert_eq!(split(&[]), Split::MoreNeeded);
+    assert_eq!(split(&[0, 0, 0]), Split::MoreNeeded);
+    assert_eq!(split(&[0, 0, 0, 0]), Split::Frame(4..4));
+    assert_eq!(split(&[0, 0, 0, 2, 11]), Split::MoreNeeded);
+    assert_eq!(split(&[0, 0, 0, 2, 11, 1, 9]), Split::Frame(4..6));
+    assert_eq!(split(&[0, 4, 0, 0]), Split::MoreNeeded);
+    assert_eq!(split(&[0, 4, 0, 1]), Split::TooLong);
+    assert_eq!(split(&[255, 255, 255, 255]), Split::TooLong);
+    let mut whole = vec![0; 4 + MAX_PAYLOAD];
+    whole[1] = 4;
+    assert_eq!(split(&whole), Split::Frame(4..4 + MAX_PAYLOAD));
+    assert_eq!(split(&whole[..whole.len() - 1]), Split::MoreNeeded);
+}
