@@ -10,6 +10,7 @@ import argparse
 import os
 import resource
 import select
+import shlex
 import signal
 import socket
 import stat
@@ -177,7 +178,7 @@ class Panel:
         with self.mutex:
             if words == ['?']:
                 return '\n'.join(f'question {q.number}: {q.text}' for q in self.open.values()) or 'no question is open'
-            if len(words) != 2 or not words[0].isdecimal() or words[1] not in ('y', 'n', 'yes', 'no'):
+            if len(words) != 2 or not words[0].isdecimal() or len(words[0]) > 18 or words[1] not in ('y', 'n', 'yes', 'no'):
                 return 'write NUMBER y or NUMBER n; ? shows the open questions'
             q = self.open.pop(int(words[0]), None)
             if q is None:
@@ -189,9 +190,11 @@ class Panel:
 
     def read_terminal(self):
         signal.pthread_sigmask(signal.SIG_BLOCK, {signal.SIGTTIN})  # in the background a read then fails and does not stop us
+        if sys.stdin:
+            sys.stdin.reconfigure(errors='replace')
         while True:
             try:
-                line = sys.stdin.readline()
+                line = sys.stdin.readline() if sys.stdin else ''
             except OSError:
                 time.sleep(1)
                 continue
@@ -203,12 +206,7 @@ class Panel:
             if wrong:
                 self.terminal.say(wrong)
 
-    def serve(self, listener):
-        while True:
-            conn, _ = listener.accept()
-            threading.Thread(target=self.watch, args=(conn,), daemon=True).start()
-
-    def watch(self, conn):
+    def watch(self, conn, _):
         with self.mutex:
             self.watchers.append(conn)
             for q in self.open.values():
@@ -393,9 +391,9 @@ class Agent:
                 signature = self.sign(who, name, number, payload[start:end], hash_choice)
                 lent.signed, lent.sign_number, lent.signature = signature is not None, number, signature or b''
 
-    def connection(self, conn, who):
+    def connection(self, conn, n):
+        who, why = f'conn {n}', 'closed'
         self.terminal.log(who, '', 'opened')
-        why = 'closed'
         try:
             while (payload := read_frame(conn)) is not None:
                 reply = self.land(conn, who, payload)
@@ -411,22 +409,6 @@ class Agent:
         finally:
             conn.close()
             self.terminal.log(who, '', why)
-
-    def serve(self, listener):
-        n = 0
-        while True:
-            try:
-                conn, _ = listener.accept()
-            except OSError as e:  # as: too many open files
-                self.terminal.log('-', '', f'no connection taken: {e.strerror}')
-                time.sleep(0.1)
-                continue
-            n += 1
-            try:
-                threading.Thread(target=self.connection, args=(conn, f'conn {n}'), daemon=True).start()
-            except RuntimeError as e:  # no more threads
-                self.terminal.log('-', '', f'no connection taken: {e}')
-                conn.close()
 
 
 # --- Options and start
@@ -494,6 +476,24 @@ def listen(path):
     return s
 
 
+def accept(listener, serve, terminal):
+    """A thread for each connection that comes."""
+    n = 0
+    while True:
+        try:
+            conn, _ = listener.accept()
+        except OSError as e:  # as: too many open files
+            terminal.log('-', '', f'no connection taken: {e.strerror}')
+            time.sleep(0.1)
+            continue
+        n += 1
+        try:
+            threading.Thread(target=serve, args=(conn, n), daemon=True).start()
+        except RuntimeError as e:  # no more threads
+            terminal.log('-', '', f'no connection taken: {e}')
+            conn.close()
+
+
 def main():
     options = parse()
     try:
@@ -525,13 +525,13 @@ def main():
         if options.panel:
             panel_listener = listen(options.panel)
             made.append(options.panel)
-            threading.Thread(target=panel.serve, args=(panel_listener,), daemon=True).start()
+            threading.Thread(target=accept, args=(panel_listener, panel.watch, terminal), daemon=True).start()
         threading.Thread(target=agent.tick, daemon=True).start()
-        terminal.say(f'export SSH_AUTH_SOCK={options.socket}')
+        terminal.say(f'export SSH_AUTH_SOCK={shlex.quote(options.socket)}')
         terminal.say(f'agent: gate {options.gate}, confirm {options.confirm}; Ctrl-C ends it and removes the socket')
         if 'ask' in (options.gate, options.confirm):
             threading.Thread(target=panel.read_terminal, daemon=True).start()
-        threading.Thread(target=agent.serve, args=(listener,), daemon=True).start()
+        threading.Thread(target=accept, args=(listener, agent.connection, terminal), daemon=True).start()
         signal.sigwait(ends)
     finally:
         for path in made:
@@ -546,7 +546,6 @@ def main():
                 pass
         core.process.kill()
     terminal.say('agent: ended, socket removed')
-    sys.stdout.flush()
     os._exit(1 if agent.failed else 0)  # threads may still wait for their clients
 
 
