@@ -1,4 +1,4 @@
--- 01's "Rule by first byte" as a plan: what to ask, what to do with each answer, and how to land. It goes by the steps that the code takes.
+-- 01's "Rule by first byte" as a plan: what to ask, what to do with each answer, and how to land. Rows and steps stand in 01's order.
 use Prim.Native.Nat.{ℕ, _+_, _-_, _/_, _%_}
 use mathlib.Core.Bool.{Bool, true, false}
 use mathlib.Core.Option.{Option, none, some}
