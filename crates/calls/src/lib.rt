@@ -7,8 +7,8 @@
 //   02  a fresh state
 //   23  a text: its length (4 bytes), then its bytes, written as a line
 // Numbers are big-endian. A record that is cut, unknown or beyond the limits ends the run with the line `malformed`.
-pub mod head;
-pub mod say;
+mod head;
+mod say;
 
 use gateway::flat::answers_of;
 use gateway::flat::flat_of;
