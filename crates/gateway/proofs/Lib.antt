@@ -1,3 +1,4 @@
 pub mod FlatSteps
 pub mod FlatLaws
 pub mod WithinLaws
+pub mod LentLaws

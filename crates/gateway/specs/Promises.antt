@@ -22,7 +22,8 @@ use Rattle.server.specs.declared.Signed.the-variants as signed
 use Rattle.server.specs.declared.Answers.{Answers}
 use Rattle.server.specs.declared.Outcome.{Outcome}
 use Rattle.server.specs.Outcomes.{outcomeValues}
-use Rattle.server.specs.Calls.{calledOf}
+use Rattle.server.specs.Calls.{calledOf, storeOf, replyOf}
+use Rattle.server.specs.Runs.{Meets}
 use Rattle.gateway.specs.declared.flat.FlatAnswers.{FlatAnswers}
 use Rattle.gateway.specs.declared.flat.FlatOutcome.{FlatOutcome}
 use Rattle.gateway.specs.Flat.{saidOf, confirmedOf, signedOf, answersOf, flatOf, flatSplit}
@@ -109,6 +110,18 @@ CallsNameWithin =
     (state : State) (store payload : List ℕ) (reading : Millis) (answers : Answers) (signature buffer : List ℕ)
     → length (state .entries) ≡ 8 → length (state .lock .bytes) ≡ 1024
     → NamesWithin payload buffer (flatOf (calledOf state store payload reading answers signature buffer .outcome))
+
+-- ## Runs
+
+-- What a call over the lent state gave, as `serve` is proved to give it, meets the contract of `call`: so calls of that form, one after another, are
+-- a run of the code, and all of `CodePromises` holds of them.
+abbrev pub LentMeets : Type 0
+LentMeets =
+    (state : State) (store payload : List ℕ) (reading : Millis) (answers : Answers) (signature buffer : List ℕ) (outcome : Outcome) (after : State)
+    (storeAfter replyAfter : List ℕ)
+    → outcome ≡ calledOf state store payload reading answers signature buffer .outcome → after ≡ calledOf state store payload reading answers signature buffer .state
+    → storeAfter ≡ storeOf state store payload reading answers signature buffer → replyAfter ≡ replyOf state store payload reading answers signature buffer
+    → Meets state store payload reading answers signature buffer (record { called = record { outcome = outcome; state = after }; store = storeAfter; reply = replyAfter })
 
 -- ## The split
 
