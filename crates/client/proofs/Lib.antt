@@ -3,6 +3,7 @@ pub mod WriteLaws
 pub mod ConstraintLaws
 pub mod SmartcardLaws
 pub mod RoundTrips
+pub mod WriterTables
 pub mod ReadSteps
 pub mod ItemLaws
 pub mod SignatureLaws

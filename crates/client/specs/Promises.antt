@@ -1,6 +1,6 @@
 -- What frames, writers and refusals promise, as statements; the proofs are in proofs/. That no second answer meets a contract is the wire's
 -- `OneAnswer`.
-use Prim.Native.Nat.{ℕ, _^_, _≤_, _<_}
+use Prim.Native.Nat.{ℕ, _+_, _^_, _≤_, _<_}
 use mathlib.Core.Path.{_≡_}
 use mathlib.Core.List.{List, _++_}
 use lib.ListN.{length, take, drop}
@@ -19,7 +19,9 @@ use Rattle.client.specs.declared.Refusal.{Refusal}
 use Rattle.client.specs.declared.Refusal.the-variants.{OutputTooShort, Malformed, UnfitType, AgentFailure, OtherReply, NoSuchItem, PayloadTooLong, TooManyConstraints}
 use Rattle.client.specs.declared.Wrote.{Wrote}
 use Rattle.client.specs.declared.Wrote.the-variants.{Written, Refused}
+use Rattle.client.specs.declared.identities.Listing.{Listing}
 use Rattle.client.specs.Refusals.{refusalNumber}
+use Rattle.client.specs.Values.{grants, refuses, wroteSays, listingSays}
 use Rattle.client.specs.Requests.{requestIdentities, signRequest, lockRequest, unlockRequest, removeSmartcard, addSmartcard, answered, filled, removeSmartcardAnswer, removeSmartcardLeft, addSmartcardAnswer, addSmartcardLeft}
 
 -- ## Frames
@@ -61,7 +63,25 @@ AddSmartcardRule =
     (id pin : List ℕ) (cs : List Constraint) (count : ℕ) (out : List ℕ)
     → Writes (addSmartcard id pin cs count) out (addSmartcardAnswer id pin cs count out) (addSmartcardLeft id pin cs count out)
 
+-- when each answer comes: "writers 18, 12, 17, 11"
+
+-- a payload's own writer
+pub record Framed (payload out : List ℕ) (answer : Wrote) : Type 0 where
+  pub too-long : 262144 < length payload → wroteSays answer ≡ refuses 17
+  pub too-short : length payload ≤ 262144 → length out < 4 + length payload → wroteSays answer ≡ refuses 11
+  pub written : length payload ≤ 262144 → 4 + length payload ≤ length out → wroteSays answer ≡ grants (4 + length payload)
+
+abbrev pub WriterTable : Type 0
+WriterTable = (payload out : List ℕ) → Framed payload out (answered payload out)
+
 -- ## Refusals
+
+-- the values of an answer tell whether it is a refusal, and which number it has
+pub record SaysApart : Type 0 where
+  pub written : (a : Wrote) (n : ℕ) → wroteSays a ≡ grants n → a ≡ Written n
+  pub writer-refused : (a : Wrote) (n : ℕ) → wroteSays a ≡ refuses n → (r : Refusal) × (a ≡ Refused r) × (refusalNumber r ≡ n)
+  pub counted : (a : Listing) (n : ℕ) → listingSays a ≡ grants n → a ≡ Listing.Count n
+  pub list-refused : (a : Listing) (n : ℕ) → listingSays a ≡ refuses n → (r : Refusal) × (a ≡ Listing.Refused r) × (refusalNumber r ≡ n)
 
 -- a refusal without the place of its fault
 abbrev pub placeless : Refusal → Refusal

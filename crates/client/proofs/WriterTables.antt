@@ -1,0 +1,53 @@
+-- When each answer of a writer comes: each test decides once those before it have passed. Nothing is assumed of the bytes.
+use Prim.Native.Nat.{ℕ, _+_}
+use mathlib.Core.Path.{_≡_, refl}
+use native.Mathlib.Omega.{arith}
+use borrow.Author.Tests.{le-leb, lt-leb}
+use lib.ListN.{length}
+use Rattle.wire.specs.Steps.{so}
+use Rattle.client.specs.declared.Refusal.{Refusal}
+use Rattle.client.specs.declared.Wrote.{Wrote}
+use Rattle.client.specs.declared.Wrote.the-variants.{Written, Refused}
+use Rattle.client.specs.declared.identities.Listing.{Listing}
+use Rattle.client.specs.Refusals.{refusalNumber}
+use Rattle.client.specs.Values.{Says, grants, refuses, wroteSays, listingSays}
+use Rattle.client.specs.Requests.{headAnswer}
+use Rattle.client.specs.Promises.{WriterTable, SaysApart}
+
+-- ## Values
+
+-- what is granted is not refused
+granted : {B A : Type 0} {b : B} {n : ℕ} → grants b ≡ refuses n → A
+granted e = let z : _≡_ {A = ℕ} 0 1 = cc in absurd (omega arith)
+
+not-granted : {B A : Type 0} {b : B} {n : ℕ} → refuses n ≡ grants b → A
+not-granted e = let z : _≡_ {A = ℕ} 0 1 = cc in absurd (omega arith)
+
+wrote-written : (a : Wrote) (n : ℕ) → wroteSays a ≡ grants n → a ≡ Written n
+wrote-written (Written m) n e = let q : m ≡ n = cc in rw q
+wrote-written (Refused r) n e = not-granted e
+
+wrote-refused : (a : Wrote) (n : ℕ) → wroteSays a ≡ refuses n → (r : Refusal) × (a ≡ Refused r) × (refusalNumber r ≡ n)
+wrote-refused (Written m) n e = granted e
+wrote-refused (Refused r) n e = let q : refusalNumber r ≡ n = cc in (r, refl, q)
+
+listing-count : (a : Listing) (n : ℕ) → listingSays a ≡ grants n → a ≡ Listing.Count n
+listing-count (Listing.Count m) n e = let q : m ≡ n = cc in rw q
+listing-count (Listing.Refused r) n e = not-granted e
+
+listing-refused : (a : Listing) (n : ℕ) → listingSays a ≡ refuses n → (r : Refusal) × (a ≡ Listing.Refused r) × (refusalNumber r ≡ n)
+listing-refused (Listing.Count m) n e = granted e
+listing-refused (Listing.Refused r) n e = let q : refusalNumber r ≡ n = cc in (r, refl, q)
+
+pub says-apart : SaysApart
+says-apart = record { written = wrote-written; writer-refused = wrote-refused; counted = listing-count; list-refused = listing-refused }
+
+-- ## Frames
+
+pub writer-table : WriterTable
+unfolding headAnswer so
+writer-table p out = record {
+  too-long = λ h. rw (lt-leb (length p) 262144 h);
+  too-short = λ h k. rw (le-leb (length p) 262144 h, lt-leb (4 + length p) (length out) k);
+  written = λ h k. rw (le-leb (length p) 262144 h, le-leb (4 + length p) (length out) k);
+}
