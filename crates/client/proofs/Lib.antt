@@ -4,6 +4,7 @@ pub mod ConstraintLaws
 pub mod SmartcardLaws
 pub mod RoundTrips
 pub mod WriterTables
+pub mod SplitTables
 pub mod ReadSteps
 pub mod ItemLaws
 pub mod SignatureLaws
