@@ -11,3 +11,4 @@ pub mod SignatureLaws
 pub mod FormLaws
 pub mod ReadRoundTrips
 pub mod SignatureRoundTrips
+pub mod ReadTables

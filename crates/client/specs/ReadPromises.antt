@@ -14,7 +14,8 @@ use Rattle.rule.specs.Rule.{live, items, listed, signatureReply}
 use Rattle.client.specs.declared.Refusal.the-variants.{OutputTooShort}
 use Rattle.client.specs.declared.Wrote.the-variants.{Written, Refused}
 use Rattle.client.specs.declared.identities.Listing.{Listing}
-use Rattle.client.specs.Identities.{countOf, certificate, blobOfItem}
+use Rattle.client.specs.Values.{grants, refuses, listingSays, itemSays}
+use Rattle.client.specs.Identities.{countOf, certificate, itemOf, blobOfItem}
 use Rattle.client.specs.Signatures.{fits, signatureAnswer, signatureLeft}
 
 -- ## The list of keys
@@ -40,6 +41,24 @@ CountRule = (p : List ℕ) (n : ℕ) → Bytes p → (countOf (12 ∷ p) ≡ Lis
 -- and each is handed out as its blob
 abbrev pub ItemRule : Type 0
 ItemRule = (p : List ℕ) (blobs : List (List ℕ)) → Bytes p → Lists p blobs → (i : ℕ) → i < length blobs → blobOfItem (12 ∷ p) i ≡ getD blobs i []
+
+-- when each answer comes: "payload empty or not type 12: count 0"; "identities 12, 16"
+pub record ListSays (payload : List ℕ) : Type 0 where
+  pub other : ((p : List ℕ) → payload ≡ 12 ∷ p → ⊥) → listingSays (countOf payload) ≡ grants 0
+  pub faulty : (p : List ℕ) → payload ≡ 12 ∷ p → ((blobs : List (List ℕ)) → Lists p blobs → ⊥) → listingSays (countOf payload) ≡ refuses 12
+  pub counts : (p : List ℕ) (blobs : List (List ℕ)) → payload ≡ 12 ∷ p → Lists p blobs → listingSays (countOf payload) ≡ grants (length blobs)
+
+abbrev pub ListTable : Type 0
+ListTable = (payload : List ℕ) → Bytes payload → ListSays payload
+
+pub record ItemSays (payload : List ℕ) (i : ℕ) : Type 0 where
+  pub faulty : listingSays (countOf payload) ≡ refuses 12 → itemSays payload (itemOf payload i) ≡ refuses 12
+  pub beyond : (n : ℕ) → listingSays (countOf payload) ≡ grants n → n ≤ i → itemSays payload (itemOf payload i) ≡ refuses 16
+  pub item : (p : List ℕ) (blobs : List (List ℕ)) → payload ≡ 12 ∷ p → Lists p blobs → i < length blobs
+      → itemSays payload (itemOf payload i) ≡ grants (record { blob = getD blobs i []; marked = certificate (getD blobs i []) })
+
+abbrev pub ItemTable : Type 0
+ItemTable = (payload : List ℕ) (i : ℕ) → Bytes payload → ItemSays payload i
 
 -- the payload of the gateway's list reply
 abbrev pub listReply : List Entry → List ℕ
