@@ -12,3 +12,4 @@ pub mod FormLaws
 pub mod ReadRoundTrips
 pub mod SignatureRoundTrips
 pub mod ReadTables
+pub mod SignatureTables

@@ -1,9 +1,8 @@
 -- When each answer of the two readers comes: what does not have the draft's form is refused, as what is read has it; bytes are below 256.
 use Prim.Native.Nat.{ℕ, suc, _≤_, _<_}
-use mathlib.Core.Path.{_≡_, refl, sym, ap, _∙_}
+use mathlib.Core.Path.{_≡_, refl, ap}
 use mathlib.Core.List.{List, [], _∷_, _++_}
 use mathlib.Core.Logic.{_⊎_, inl, inr, ⊎-elim}
-use native.Mathlib.Omega.{arith}
 use borrow.Author.Tests.{lt-ltb, le-ltb, ne-eqb}
 use lib.Dec.{ltb, eqb}
 use lib.ListN.{length, getD}
@@ -14,8 +13,8 @@ use Rattle.wire.proofs.Format.{number-form}
 use Rattle.keys.proofs.FieldLaws.{lies-cut, inside}
 use Rattle.rule.proofs.Cases.{so-cases, number-cases}
 use Rattle.client.specs.declared.identities.Listing.{Listing}
-use Rattle.client.specs.Refusals.{refusalNumber, run}
-use Rattle.client.specs.Values.{Says, grants, refuses, listingSays, itemSays}
+use Rattle.client.specs.Refusals.{run}
+use Rattle.client.specs.Values.{grants, refuses, listingSays, itemSays}
 use Rattle.client.specs.Identities.{itemsAt, countOf, counted, itemAt, itemOf, certificate}
 use Rattle.client.specs.ReadPromises.{Lists, ListTable, ItemTable}
 use Rattle.client.proofs.ReadSteps.{run-cases}

@@ -15,7 +15,7 @@ use Rattle.client.specs.declared.Wrote.{Wrote}
 use Rattle.client.specs.declared.Wrote.the-variants.{Written, Refused}
 use Rattle.client.specs.declared.identities.Listing.{Listing}
 use Rattle.client.specs.Refusals.{refusalNumber}
-use Rattle.client.specs.Values.{Says, grants, refuses, wroteSays, listingSays}
+use Rattle.client.specs.Values.{grants, refuses, wroteSays, listingSays}
 use Rattle.client.specs.Requests.{headAnswer, plainSmartcard, constrainedSmartcard, removeSmartcard, addSmartcard, removeSmartcardAnswer, addSmartcardAnswer}
 use Rattle.client.specs.Promises.{WriterTable, RemoveSmartcardTable, AddSmartcardTable, SaysApart}
 

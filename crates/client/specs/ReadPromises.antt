@@ -10,11 +10,12 @@ use Rattle.wire.specs.Texts.{bytes}
 use Rattle.wire.specs.Abnf.{Octets}
 use Rattle.wire.specs.Write.{write, string}
 use Rattle.rule.specs.Gateway.{Entry, Place}
+use Rattle.rule.specs.Order.{Begins}
 use Rattle.rule.specs.Rule.{live, items, listed, signatureReply}
 use Rattle.client.specs.declared.Refusal.the-variants.{OutputTooShort}
 use Rattle.client.specs.declared.Wrote.the-variants.{Written, Refused}
 use Rattle.client.specs.declared.identities.Listing.{Listing}
-use Rattle.client.specs.Values.{grants, refuses, listingSays, itemSays}
+use Rattle.client.specs.Values.{grants, refuses, wroteSays, listingSays, itemSays}
 use Rattle.client.specs.Identities.{countOf, certificate, itemOf, blobOfItem}
 use Rattle.client.specs.Signatures.{fits, signatureAnswer, signatureLeft}
 
@@ -139,6 +140,30 @@ WrittenRule =
     (payload : List ℕ) (hash : ℕ) (out : List ℕ) (n : ℕ) → Bytes payload
     → (signatureAnswer payload hash out ≡ Written n)
     ↔ ((t : List ℕ) × (signature : List ℕ) × Fitting hash t × Carries payload t signature × (length (string signature) ≡ n) × (n ≤ length out))
+
+-- a reply whose string starts with the text t, and holds anything behind it
+pub record Typed (payload t : List ℕ) : Type 0 where
+  pub rest : List ℕ
+  pub behind : List ℕ
+  pub text : Octets t
+  pub small : length (string t ++ rest) < 2 ^ 32
+  pub shape : payload ≡ 14 ∷ (string (string t ++ rest) ++ behind)
+
+-- when each answer comes: "signature 14, 15, 12 (up to t), 13, 12, 11"
+pub record SignatureSays (payload : List ℕ) (hash : ℕ) (out : List ℕ) : Type 0 where
+  pub failure : Begins 5 payload → wroteSays (signatureAnswer payload hash out) ≡ refuses 14
+  pub other : (Begins 5 payload → ⊥) → (Begins 14 payload → ⊥) → wroteSays (signatureAnswer payload hash out) ≡ refuses 15
+  pub no-type : Begins 14 payload → ((t : List ℕ) → Typed payload t → ⊥) → wroteSays (signatureAnswer payload hash out) ≡ refuses 12
+  pub unfit : (t : List ℕ) → Typed payload t → (Fitting hash t → ⊥) → wroteSays (signatureAnswer payload hash out) ≡ refuses 13
+  pub no-signature : (t : List ℕ) → Typed payload t → Fitting hash t → ((signature : List ℕ) → Carries payload t signature → ⊥)
+      → wroteSays (signatureAnswer payload hash out) ≡ refuses 12
+  pub short : (t signature : List ℕ) → Fitting hash t → Carries payload t signature → length out < length (string signature)
+      → wroteSays (signatureAnswer payload hash out) ≡ refuses 11
+  pub written : (t signature : List ℕ) → Fitting hash t → Carries payload t signature → length (string signature) ≤ length out
+      → wroteSays (signatureAnswer payload hash out) ≡ grants (length (string signature))
+
+abbrev pub SignatureTable : Type 0
+SignatureTable = (payload : List ℕ) (hash : ℕ) (out : List ℕ) → Bytes payload → SignatureSays payload hash out
 
 -- the gateway's sign reply is read whole: all that stands behind the 14 is written
 abbrev pub SignatureRead : Type 0
