@@ -77,6 +77,8 @@ remove-smartcard-table id pin out = record {
 pub add-smartcard-table : AddSmartcardTable
 unfolding addSmartcardAnswer addSmartcard so
 add-smartcard-table id pin cs count out = record {
+  none-given = λ z. rw (eq-eqb count 0 z);
+  some-given = λ s. rw (ne-eqb count 0 (λ z. omega arith));
   too-many = λ h. rw (lt-leb count 4 h);
   no-text = λ h never. rw (le-leb count 4 h, ne-eqb (utf8End id) (length id) (no-text-whole id never));
   plain = λ z o. rw (le-leb count 4 (omega arith), eq-eqb (utf8End id) (length id) (text-whole id o), eq-eqb count 0 z) (writer-table (plainSmartcard id pin) out);

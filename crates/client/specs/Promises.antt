@@ -95,8 +95,10 @@ pub record CardRemoved (id pin out : List ℕ) : Type 0 where
 abbrev pub RemoveSmartcardTable : Type 0
 RemoveSmartcardTable = (id pin out : List ℕ) → CardRemoved id pin out
 
--- and before that, too many constraints
+-- and before that, too many constraints; "no constraints gives 20; one to four .. give 26"
 pub record CardAdded (id pin : List ℕ) (cs : List Constraint) (count : ℕ) (out : List ℕ) : Type 0 where
+  pub none-given : count ≡ 0 → addSmartcard id pin cs count ≡ plainSmartcard id pin
+  pub some-given : 1 ≤ count → addSmartcard id pin cs count ≡ constrainedSmartcard id pin (take count cs)
   pub too-many : 4 < count → wroteSays (addSmartcardAnswer id pin cs count out) ≡ refuses 18
   pub no-text : count ≤ 4 → (Octets id → ⊥) → wroteSays (addSmartcardAnswer id pin cs count out) ≡ refuses 12
   pub plain : count ≡ 0 → Octets id → Framed (plainSmartcard id pin) out (addSmartcardAnswer id pin cs count out)
