@@ -57,7 +57,7 @@ module _ (s : List ℕ) (small : Bytes s) where
       x .passed (length blobs) ∙ forms-passed (behind (behind at blob) comment) rest r (x .next) ∙ ap End n
 
   -- and each blob stands where the items before it end
-  forms-at : {blobs : List (List ℕ)} {forms : List ℕ} (at : ℕ) (rest : List ℕ) → ItemForms blobs forms → drop at s ≡ forms ++ rest
+  pub forms-at : {blobs : List (List ℕ)} {forms : List ℕ} (at : ℕ) (rest : List ℕ) → ItemForms blobs forms → drop at s ≡ forms ++ rest
       → (i : ℕ) → i < length blobs → (place : ℕ) × (itemsAt i s at ≡ End place) × At s place (getD blobs i [])
   unfolding itemsAt
   forms-at at rest ItemForms.none e i h = absurd (omega arith)
@@ -99,7 +99,7 @@ walked-forms s small (suc n) at end h =
 twelve : (p : List ℕ) → Bytes p → Bytes (12 ∷ p)
 twelve p small = bytes-cons 12 p (omega arith) small
 
-some-there : (b : ℕ) (p : List ℕ) → ltb 0 (length (b ∷ p)) ≡ true
+pub some-there : (b : ℕ) (p : List ℕ) → ltb 0 (length (b ∷ p)) ≡ true
 some-there b p = lt-ltb 0 (length (b ∷ p)) (omega arith)
 
 refused : {why : Refusal} {n : ℕ} {A : Type 0} → Listing.Refused why ≡ Listing.Count n → A
@@ -128,7 +128,7 @@ counted-lists p n small =
       many,
     ))
 
-lists-counted : (p : List ℕ) (blobs : List (List ℕ)) → Bytes p → Lists p blobs → countOf (12 ∷ p) ≡ Listing.Count (length blobs)
+pub lists-counted : (p : List ℕ) (blobs : List (List ℕ)) → Bytes p → Lists p blobs → countOf (12 ∷ p) ≡ Listing.Count (length blobs)
 unfolding countOf so number run
 lists-counted p blobs small l =
     let s : List ℕ = 12 ∷ p in

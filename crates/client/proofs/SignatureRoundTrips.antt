@@ -148,10 +148,10 @@ byte-place s at b k e =
     (le-or-lt (suc at) (length s))
 
 -- a signature of a type lies from a place up to another
-record Formed (s : List ℕ) (at : ℕ) (t : List ℕ) (end : ℕ) : Type 0 where
-  signature : List ℕ
-  form : SignatureForm t signature
-  lies : Lies s at signature end
+pub record Formed (s : List ℕ) (at : ℕ) (t : List ℕ) (end : ℕ) : Type 0 where
+  pub signature : List ℕ
+  pub form : SignatureForm t signature
+  pub lies : Lies s at signature end
 
 module _ (s : List ℕ) (small : Bytes s) where
   touched-taken : (at end : ℕ) → touchedEnd s at ≡ End end → (flags : ℕ) × (counter : ℕ) × (counter < 2 ^ 32) × Lies s at (flags ∷ be32 counter) end
@@ -168,7 +168,7 @@ module _ (s : List ℕ) (small : Bytes s) where
       let back : drop (k .at) s ≡ be32 counter ++ drop end s = be-shape s (k .at) small (w .within) ∙ ap₂ (λ (c i : ℕ). be32 c ++ drop i s) (sym (w .number)) n in
       (flags, counter, omega (arith, be-small s (k .at) small), record { end = omega arith; within = omega arith; shape = front ∙ ap (λ (l : List ℕ). flags ∷ l) back })
 
-  end-taken : (at m : ℕ) (t : List ℕ) (end : ℕ) → Octets t → Lies s at (string t) m → signatureEnd s m (startsIn t (bytes "sk-")) ≡ End end → Formed s at t end
+  pub end-taken : (at m : ℕ) (t : List ℕ) (end : ℕ) → Octets t → Lies s at (string t) m → signatureEnd s m (startsIn t (bytes "sk-")) ≡ End end → Formed s at t end
   unfolding signatureEnd
   end-taken at m t end o x =
       let P : Run → Type 0 = λ r. r ≡ End end → Formed s at t end in

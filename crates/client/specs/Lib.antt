@@ -1,4 +1,5 @@
 pub mod Refusals
+pub mod Values
 pub mod Requests
 pub mod Identities
 pub mod Signatures

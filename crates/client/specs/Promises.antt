@@ -1,15 +1,16 @@
 -- What frames, writers and refusals promise, as statements; the proofs are in proofs/. That no second answer meets a contract is the wire's
 -- `OneAnswer`.
-use Prim.Native.Nat.{ℕ, _^_, _≤_, _<_}
+use Prim.Native.Nat.{ℕ, _+_, _^_, _≤_, _<_}
 use mathlib.Core.Path.{_≡_}
-use mathlib.Core.List.{List, _++_}
+use mathlib.Core.List.{List, [], _++_}
 use lib.ListN.{length, take, drop}
 use Rattle.wire.specs.declared.Constraint.{Constraint}
-use Rattle.wire.specs.declared.Split.the-variants.{Frame}
+use Rattle.wire.specs.declared.Split.the-variants.{MoreNeeded, TooLong, Frame}
 use Rattle.wire.specs.declared.read.Cursor.{Cursor}
 use Rattle.wire.specs.declared.read.Number.{Number}
 use Rattle.wire.specs.declared.read.Part.the-variants.{Whole}
-use Rattle.wire.specs.Numbers.{Bytes}
+use Rattle.wire.specs.Numbers.{Bytes, be32}
+use Rattle.wire.specs.Abnf.{Octets}
 use Rattle.wire.specs.Read.{cutOf, numberAt, stringAt}
 use Rattle.wire.specs.Write.{string}
 use Rattle.wire.specs.Frames.{splitOf, payloadOf}
@@ -19,8 +20,10 @@ use Rattle.client.specs.declared.Refusal.{Refusal}
 use Rattle.client.specs.declared.Refusal.the-variants.{OutputTooShort, Malformed, UnfitType, AgentFailure, OtherReply, NoSuchItem, PayloadTooLong, TooManyConstraints}
 use Rattle.client.specs.declared.Wrote.{Wrote}
 use Rattle.client.specs.declared.Wrote.the-variants.{Written, Refused}
+use Rattle.client.specs.declared.identities.Listing.{Listing}
 use Rattle.client.specs.Refusals.{refusalNumber}
-use Rattle.client.specs.Requests.{requestIdentities, signRequest, lockRequest, unlockRequest, removeSmartcard, addSmartcard, answered, filled, removeSmartcardAnswer, removeSmartcardLeft, addSmartcardAnswer, addSmartcardLeft}
+use Rattle.client.specs.Values.{grants, refuses, wroteSays, listingSays}
+use Rattle.client.specs.Requests.{requestIdentities, signRequest, lockRequest, unlockRequest, plainSmartcard, constrainedSmartcard, removeSmartcard, addSmartcard, answered, filled, removeSmartcardAnswer, removeSmartcardLeft, addSmartcardAnswer, addSmartcardLeft}
 
 -- ## Frames
 
@@ -36,6 +39,18 @@ pub record SplitsBack (payload : List ℕ) : Type 0 where
 
 abbrev pub Splits : Type 0
 Splits = (payload : List ℕ) → length payload ≤ 262144 → SplitsBack payload
+
+-- what the splitter says of any bytes: under 4 of them; a length above 262,144, with however many behind it; fewer bytes than the length
+-- announces; and all of them. Unless a frame is whole, its payload is empty
+pub record SplitSays (s : List ℕ) : Type 0 where
+  pub few : length s < 4 → splitOf s ≡ MoreNeeded
+  pub long : (n : ℕ) (rest : List ℕ) → s ≡ be32 n ++ rest → n < 2 ^ 32 → 262144 < n → splitOf s ≡ TooLong
+  pub short : (n : ℕ) (rest : List ℕ) → s ≡ be32 n ++ rest → n ≤ 262144 → length rest < n → splitOf s ≡ MoreNeeded
+  pub whole : (n : ℕ) (rest : List ℕ) → s ≡ be32 n ++ rest → n ≤ 262144 → n ≤ length rest → Holds s (take n rest)
+  pub else-empty : (splitOf s ≡ Frame → ⊥) → payloadOf s ≡ []
+
+abbrev pub SplitTable : Type 0
+SplitTable = (s : List ℕ) → SplitSays s
 
 -- ## Writers
 
@@ -61,7 +76,46 @@ AddSmartcardRule =
     (id pin : List ℕ) (cs : List Constraint) (count : ℕ) (out : List ℕ)
     → Writes (addSmartcard id pin cs count) out (addSmartcardAnswer id pin cs count out) (addSmartcardLeft id pin cs count out)
 
+-- when each answer comes: "writers 18, 12, 17, 11"
+
+-- a payload's own writer
+pub record Framed (payload out : List ℕ) (answer : Wrote) : Type 0 where
+  pub too-long : 262144 < length payload → wroteSays answer ≡ refuses 17
+  pub too-short : length payload ≤ 262144 → length out < 4 + length payload → wroteSays answer ≡ refuses 11
+  pub written : length payload ≤ 262144 → 4 + length payload ≤ length out → wroteSays answer ≡ grants (4 + length payload)
+
+abbrev pub WriterTable : Type 0
+WriterTable = (payload out : List ℕ) → Framed payload out (answered payload out)
+
+-- before it, an id that is not UTF-8
+pub record CardRemoved (id pin out : List ℕ) : Type 0 where
+  pub no-text : (Octets id → ⊥) → wroteSays (removeSmartcardAnswer id pin out) ≡ refuses 12
+  pub framed : Octets id → Framed (removeSmartcard id pin) out (removeSmartcardAnswer id pin out)
+
+abbrev pub RemoveSmartcardTable : Type 0
+RemoveSmartcardTable = (id pin out : List ℕ) → CardRemoved id pin out
+
+-- and before that, too many constraints; "no constraints gives 20; one to four .. give 26"
+pub record CardAdded (id pin : List ℕ) (cs : List Constraint) (count : ℕ) (out : List ℕ) : Type 0 where
+  pub none-given : count ≡ 0 → addSmartcard id pin cs count ≡ plainSmartcard id pin
+  pub some-given : 1 ≤ count → addSmartcard id pin cs count ≡ constrainedSmartcard id pin (take count cs)
+  pub too-many : 4 < count → wroteSays (addSmartcardAnswer id pin cs count out) ≡ refuses 18
+  pub no-text : count ≤ 4 → (Octets id → ⊥) → wroteSays (addSmartcardAnswer id pin cs count out) ≡ refuses 12
+  pub plain : count ≡ 0 → Octets id → Framed (plainSmartcard id pin) out (addSmartcardAnswer id pin cs count out)
+  pub constrained : 1 ≤ count → count ≤ 4 → Octets id
+      → Framed (constrainedSmartcard id pin (take count cs)) out (addSmartcardAnswer id pin cs count out)
+
+abbrev pub AddSmartcardTable : Type 0
+AddSmartcardTable = (id pin : List ℕ) (cs : List Constraint) (count : ℕ) (out : List ℕ) → CardAdded id pin cs count out
+
 -- ## Refusals
+
+-- the values of an answer tell whether it is a refusal, and which number it has
+pub record SaysApart : Type 0 where
+  pub written : (a : Wrote) (n : ℕ) → wroteSays a ≡ grants n → a ≡ Written n
+  pub writer-refused : (a : Wrote) (n : ℕ) → wroteSays a ≡ refuses n → (r : Refusal) × (a ≡ Refused r) × (refusalNumber r ≡ n)
+  pub counted : (a : Listing) (n : ℕ) → listingSays a ≡ grants n → a ≡ Listing.Count n
+  pub list-refused : (a : Listing) (n : ℕ) → listingSays a ≡ refuses n → (r : Refusal) × (a ≡ Listing.Refused r) × (refusalNumber r ≡ n)
 
 -- a refusal without the place of its fault
 abbrev pub placeless : Refusal → Refusal

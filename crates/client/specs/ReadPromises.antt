@@ -10,11 +10,13 @@ use Rattle.wire.specs.Texts.{bytes}
 use Rattle.wire.specs.Abnf.{Octets}
 use Rattle.wire.specs.Write.{write, string}
 use Rattle.rule.specs.Gateway.{Entry, Place}
+use Rattle.rule.specs.Order.{Begins}
 use Rattle.rule.specs.Rule.{live, items, listed, signatureReply}
 use Rattle.client.specs.declared.Refusal.the-variants.{OutputTooShort}
 use Rattle.client.specs.declared.Wrote.the-variants.{Written, Refused}
 use Rattle.client.specs.declared.identities.Listing.{Listing}
-use Rattle.client.specs.Identities.{countOf, certificate, blobOfItem}
+use Rattle.client.specs.Values.{grants, refuses, wroteSays, listingSays, itemSays}
+use Rattle.client.specs.Identities.{countOf, certificate, itemOf, blobOfItem}
 use Rattle.client.specs.Signatures.{fits, signatureAnswer, signatureLeft}
 
 -- ## The list of keys
@@ -40,6 +42,24 @@ CountRule = (p : List ℕ) (n : ℕ) → Bytes p → (countOf (12 ∷ p) ≡ Lis
 -- and each is handed out as its blob
 abbrev pub ItemRule : Type 0
 ItemRule = (p : List ℕ) (blobs : List (List ℕ)) → Bytes p → Lists p blobs → (i : ℕ) → i < length blobs → blobOfItem (12 ∷ p) i ≡ getD blobs i []
+
+-- when each answer comes: "payload empty or not type 12: count 0"; "identities 12, 16"
+pub record ListSays (payload : List ℕ) : Type 0 where
+  pub other : ((p : List ℕ) → payload ≡ 12 ∷ p → ⊥) → listingSays (countOf payload) ≡ grants 0
+  pub faulty : (p : List ℕ) → payload ≡ 12 ∷ p → ((blobs : List (List ℕ)) → Lists p blobs → ⊥) → listingSays (countOf payload) ≡ refuses 12
+  pub counts : (p : List ℕ) (blobs : List (List ℕ)) → payload ≡ 12 ∷ p → Lists p blobs → listingSays (countOf payload) ≡ grants (length blobs)
+
+abbrev pub ListTable : Type 0
+ListTable = (payload : List ℕ) → Bytes payload → ListSays payload
+
+pub record ItemSays (payload : List ℕ) (i : ℕ) : Type 0 where
+  pub faulty : listingSays (countOf payload) ≡ refuses 12 → itemSays payload (itemOf payload i) ≡ refuses 12
+  pub beyond : (n : ℕ) → listingSays (countOf payload) ≡ grants n → n ≤ i → itemSays payload (itemOf payload i) ≡ refuses 16
+  pub item : (p : List ℕ) (blobs : List (List ℕ)) → payload ≡ 12 ∷ p → Lists p blobs → i < length blobs
+      → itemSays payload (itemOf payload i) ≡ grants (record { blob = getD blobs i []; marked = certificate (getD blobs i []) })
+
+abbrev pub ItemTable : Type 0
+ItemTable = (payload : List ℕ) (i : ℕ) → Bytes payload → ItemSays payload i
 
 -- the payload of the gateway's list reply
 abbrev pub listReply : List Entry → List ℕ
@@ -120,6 +140,30 @@ WrittenRule =
     (payload : List ℕ) (hash : ℕ) (out : List ℕ) (n : ℕ) → Bytes payload
     → (signatureAnswer payload hash out ≡ Written n)
     ↔ ((t : List ℕ) × (signature : List ℕ) × Fitting hash t × Carries payload t signature × (length (string signature) ≡ n) × (n ≤ length out))
+
+-- a reply whose string starts with the text t, and holds anything behind it
+pub record Typed (payload t : List ℕ) : Type 0 where
+  pub rest : List ℕ
+  pub behind : List ℕ
+  pub text : Octets t
+  pub small : length (string t ++ rest) < 2 ^ 32
+  pub shape : payload ≡ 14 ∷ (string (string t ++ rest) ++ behind)
+
+-- when each answer comes: "signature 14, 15, 12 (up to t), 13, 12, 11"
+pub record SignatureSays (payload : List ℕ) (hash : ℕ) (out : List ℕ) : Type 0 where
+  pub failure : Begins 5 payload → wroteSays (signatureAnswer payload hash out) ≡ refuses 14
+  pub other : (Begins 5 payload → ⊥) → (Begins 14 payload → ⊥) → wroteSays (signatureAnswer payload hash out) ≡ refuses 15
+  pub no-type : Begins 14 payload → ((t : List ℕ) → Typed payload t → ⊥) → wroteSays (signatureAnswer payload hash out) ≡ refuses 12
+  pub unfit : (t : List ℕ) → Typed payload t → (Fitting hash t → ⊥) → wroteSays (signatureAnswer payload hash out) ≡ refuses 13
+  pub no-signature : (t : List ℕ) → Typed payload t → Fitting hash t → ((signature : List ℕ) → Carries payload t signature → ⊥)
+      → wroteSays (signatureAnswer payload hash out) ≡ refuses 12
+  pub short : (t signature : List ℕ) → Fitting hash t → Carries payload t signature → length out < length (string signature)
+      → wroteSays (signatureAnswer payload hash out) ≡ refuses 11
+  pub written : (t signature : List ℕ) → Fitting hash t → Carries payload t signature → length (string signature) ≤ length out
+      → wroteSays (signatureAnswer payload hash out) ≡ grants (length (string signature))
+
+abbrev pub SignatureTable : Type 0
+SignatureTable = (payload : List ℕ) (hash : ℕ) (out : List ℕ) → Bytes payload → SignatureSays payload hash out
 
 -- the gateway's sign reply is read whole: all that stands behind the 14 is written
 abbrev pub SignatureRead : Type 0

@@ -1,0 +1,87 @@
+-- When each answer of a writer comes: each test decides once those before it have passed. Nothing is assumed of the bytes.
+use Prim.Native.Nat.{ℕ, _+_}
+use mathlib.Core.Path.{_≡_, refl}
+use mathlib.Core.List.{List}
+use native.Mathlib.Omega.{arith}
+use borrow.Author.Tests.{le-leb, lt-leb, eq-eqb, ne-eqb}
+use lib.ListN.{length, take}
+use Rattle.wire.specs.Abnf.{Octets}
+use Rattle.wire.specs.Utf8.{utf8End}
+use Rattle.wire.specs.Steps.{so}
+use Rattle.wire.proofs.Abnf.{utf8-rule}
+use Rattle.wire.proofs.Longest.{utf8-end-whole}
+use Rattle.client.specs.declared.Refusal.{Refusal}
+use Rattle.client.specs.declared.Wrote.{Wrote}
+use Rattle.client.specs.declared.Wrote.the-variants.{Written, Refused}
+use Rattle.client.specs.declared.identities.Listing.{Listing}
+use Rattle.client.specs.Refusals.{refusalNumber}
+use Rattle.client.specs.Values.{grants, refuses, wroteSays, listingSays}
+use Rattle.client.specs.Requests.{headAnswer, plainSmartcard, constrainedSmartcard, removeSmartcard, addSmartcard, removeSmartcardAnswer, addSmartcardAnswer}
+use Rattle.client.specs.Promises.{WriterTable, RemoveSmartcardTable, AddSmartcardTable, SaysApart}
+
+-- ## Values
+
+-- what is granted is not refused
+granted : {B A : Type 0} {b : B} {n : ℕ} → grants b ≡ refuses n → A
+granted e = let z : _≡_ {A = ℕ} 0 1 = cc in absurd (omega arith)
+
+not-granted : {B A : Type 0} {b : B} {n : ℕ} → refuses n ≡ grants b → A
+not-granted e = let z : _≡_ {A = ℕ} 0 1 = cc in absurd (omega arith)
+
+wrote-written : (a : Wrote) (n : ℕ) → wroteSays a ≡ grants n → a ≡ Written n
+wrote-written (Written m) n e = let q : m ≡ n = cc in rw q
+wrote-written (Refused r) n e = not-granted e
+
+wrote-refused : (a : Wrote) (n : ℕ) → wroteSays a ≡ refuses n → (r : Refusal) × (a ≡ Refused r) × (refusalNumber r ≡ n)
+wrote-refused (Written m) n e = granted e
+wrote-refused (Refused r) n e = let q : refusalNumber r ≡ n = cc in (r, refl, q)
+
+listing-count : (a : Listing) (n : ℕ) → listingSays a ≡ grants n → a ≡ Listing.Count n
+listing-count (Listing.Count m) n e = let q : m ≡ n = cc in rw q
+listing-count (Listing.Refused r) n e = not-granted e
+
+listing-refused : (a : Listing) (n : ℕ) → listingSays a ≡ refuses n → (r : Refusal) × (a ≡ Listing.Refused r) × (refusalNumber r ≡ n)
+listing-refused (Listing.Count m) n e = granted e
+listing-refused (Listing.Refused r) n e = let q : refusalNumber r ≡ n = cc in (r, refl, q)
+
+pub says-apart : SaysApart
+says-apart = record { written = wrote-written; writer-refused = wrote-refused; counted = listing-count; list-refused = listing-refused }
+
+-- ## Frames
+
+pub writer-table : WriterTable
+unfolding headAnswer so
+writer-table p out = record {
+  too-long = λ h. rw (lt-leb (length p) 262144 h);
+  too-short = λ h k. rw (le-leb (length p) 262144 h, lt-leb (4 + length p) (length out) k);
+  written = λ h k. rw (le-leb (length p) 262144 h, le-leb (4 + length p) (length out) k);
+}
+
+-- ## Smartcards
+
+-- what the ABNF derives is UTF-8 up to its end, and nothing else is
+module _ (id : List ℕ) where
+  text-whole : Octets id → utf8End id ≡ length id
+  text-whole o = utf8-end-whole id .1 (utf8-rule id .1 o)
+
+  no-text-whole : (Octets id → ⊥) → utf8End id ≡ length id → ⊥
+  no-text-whole never e = never (utf8-rule id .0 (utf8-end-whole id .0 e))
+
+pub remove-smartcard-table : RemoveSmartcardTable
+unfolding removeSmartcardAnswer so
+remove-smartcard-table id pin out = record {
+  no-text = λ never. rw (ne-eqb (utf8End id) (length id) (no-text-whole id never));
+  framed = λ o. rw (eq-eqb (utf8End id) (length id) (text-whole id o)) (writer-table (removeSmartcard id pin) out);
+}
+
+pub add-smartcard-table : AddSmartcardTable
+unfolding addSmartcardAnswer addSmartcard so
+add-smartcard-table id pin cs count out = record {
+  none-given = λ z. rw (eq-eqb count 0 z);
+  some-given = λ s. rw (ne-eqb count 0 (λ z. omega arith));
+  too-many = λ h. rw (lt-leb count 4 h);
+  no-text = λ h never. rw (le-leb count 4 h, ne-eqb (utf8End id) (length id) (no-text-whole id never));
+  plain = λ z o. rw (le-leb count 4 (omega arith), eq-eqb (utf8End id) (length id) (text-whole id o), eq-eqb count 0 z) (writer-table (plainSmartcard id pin) out);
+  constrained = λ s h o.
+      rw (le-leb count 4 h, eq-eqb (utf8End id) (length id) (text-whole id o), ne-eqb count 0 (λ z. omega arith)) (writer-table (constrainedSmartcard id pin (take count cs)) out);
+}
