@@ -15,7 +15,7 @@ use Rattle.rule.specs.Soundness.{lastNumber, EveryEntry, Apart, Distinct
 use Rattle.rule.specs.Rule.{Question, Answer, Landing, Plan, land, ask, rule}
 use Rattle.rule.specs.Calls.{lent, Call, refusal, refused, Result, follow, served, call}
 use Rattle.rule.specs.Runs.{endOf}
-use Rattle.rule.specs.Order.{SoundRule, FreshSound, CallsKeepSound, NeverRefused3, NumbersOnlyRise}
+use Rattle.rule.specs.Order.{SoundRule, SoundApart, FreshSound, CallsKeepSound, NeverRefused3, NumbersOnlyRise}
 use Rattle.rule.proofs.Cases.{given-cases, true-not-false, and-left, and-right, both-true, not-true}
 use Rattle.rule.proofs.Clock.{advance-next}
 use Rattle.rule.proofs.Plans.{EveryLanding, every-landing-imp}
@@ -105,6 +105,9 @@ sound-rule g =
           }),
       (λ s. all .1 ((s .eight-places, s .entries), (s .distinct, (s .lock-fits, (s .next-first, s .next-last))))),
     )
+
+pub sound-apart : SoundApart
+sound-apart g i j e x s n h k = let a = distinct-at (g .places) (s .distinct) i j e x n h k in (a .blobs, a .numbers)
 
 pub fresh-sound : FreshSound
 fresh-sound = record { eight-places = refl; entries = tt; distinct = tt; lock-fits = omega arith; next-first = omega arith; next-last = omega arith }

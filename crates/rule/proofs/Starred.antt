@@ -60,5 +60,7 @@ soundness-limits = record {
   two-keys = refl;
   numbers-alike = refl;
   blobs-alike = refl;
+  next-over = refl;
+  seven-places = refl;
   nine-places = refl;
 }

@@ -122,4 +122,6 @@ pub record SoundnessLimits : Type 0 where
   pub two-keys : sound (besides 2 0x62) ≡ true
   pub numbers-alike : sound (besides 1 0x62) ≡ false
   pub blobs-alike : sound (besides 2 0x61) ≡ false
+  pub next-over : sound (lockOfLength 0 0x1_0000_0000_0000_0000) ≡ false
+  pub seven-places : sound (record { places = replicate 7 none; lock = []; clock = 0; next = 1 }) ≡ false
   pub nine-places : sound (record { places = replicate 9 none; lock = []; clock = 0; next = 1 }) ≡ false

@@ -9,7 +9,7 @@ use lib.ListN.{length, getD}
 use Rattle.wire.specs.declared.read.Cursor.{Cursor}
 use Rattle.wire.specs.declared.read.Part.the-variants.{Whole}
 use Rattle.wire.specs.Read.{cutOf, stringAt}
-use Rattle.rule.specs.Gateway.{Gateway, fresh, locked, advance}
+use Rattle.rule.specs.Gateway.{Entry, Gateway, fresh, locked, advance}
 use Rattle.rule.specs.Soundness.{Sound, sound}
 use Rattle.rule.specs.Rule.{Question, gate, check, confirmation, signature, Answer, Landing, reply, FAILURE, SUCCESS, Plan, land, ask, rule}
 use Rattle.rule.specs.Calls.{given, lent, Frame, Call, refusal, Outcome, refused, asks, lands, call}
@@ -202,6 +202,12 @@ AtMostThree = (oracle : Oracle) (g : Gateway) (payload : List ℕ) → questions
 
 abbrev pub SoundRule : Type 0
 SoundRule = (g : Gateway) → (sound g ≡ true) ↔ Sound g
+
+-- "blobs distinct, insertion numbers distinct", of any two places
+abbrev pub SoundApart : Type 0
+SoundApart =
+    (g : Gateway) (i j : ℕ) (e x : Entry) → Sound g → i ≢ j → getD (g .places) i none ≡ some e → getD (g .places) j none ≡ some x
+    → (e .blob ≢ x .blob) × (e .number ≢ x .number)
 
 abbrev pub FreshSound : Type 0
 FreshSound = Sound fresh
