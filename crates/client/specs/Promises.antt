@@ -12,7 +12,7 @@ use Rattle.wire.specs.declared.read.Part.the-variants.{Whole}
 use Rattle.wire.specs.Numbers.{Bytes}
 use Rattle.wire.specs.Read.{cutOf, numberAt, stringAt}
 use Rattle.wire.specs.Write.{string}
-use Rattle.wire.specs.Frames.{splitOf, payloadOf}
+use Rattle.wire.specs.Frames.{splitOf, framePayload}
 use Rattle.rule.specs.Order.{Begins, Carries}
 use Rattle.rule.specs.Content.{SignRequest}
 use Rattle.client.specs.declared.Refusal.{Refusal}
@@ -27,7 +27,7 @@ use Rattle.client.specs.Requests.{requestIdentities, signRequest, lockRe
 -- the splitter says that a frame is whole, and hands out its payload
 pub record Holds (s payload : List ℕ) : Type 0 where
   pub frame : splitOf s ≡ Frame
-  pub payload-is : payloadOf s ≡ payload
+  pub payload-is : framePayload s ≡ payload
 
 -- a payload's frame alone, and with more bytes behind it
 pub record SplitsBack (payload : List ℕ) : Type 0 where

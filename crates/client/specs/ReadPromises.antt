@@ -14,7 +14,7 @@ use Rattle.rule.specs.Rule.{live, items, listed, signatureReply}
 use Rattle.client.specs.declared.Refusal.the-variants.{OutputTooShort}
 use Rattle.client.specs.declared.Wrote.the-variants.{Written, Refused}
 use Rattle.client.specs.declared.identities.Listing.{Listing}
-use Rattle.client.specs.Identities.{countOf, certificate, blobOfItem}
+use Rattle.client.specs.Identities.{countOf, certificateEnd, certificate, blobOfItem}
 use Rattle.client.specs.Signatures.{fits, signatureAnswer, signatureLeft}
 
 -- ## The list of keys
@@ -26,7 +26,7 @@ pub data ItemForms : List (List ℕ) → List ℕ → Type 0 where
       → ItemForms blobs forms → ItemForms (blob ∷ blobs) (string blob ++ (string comment ++ forms))
 
 -- what stands behind the 12: a count, as many items, and anything
-pub record Lists (p : List ℕ) (blobs : List (List ℕ)) : Type 0 where
+pub record ListForm (p : List ℕ) (blobs : List (List ℕ)) : Type 0 where
   pub forms : List ℕ
   pub rest : List ℕ
   pub few : length blobs < 2 ^ 32
@@ -35,11 +35,11 @@ pub record Lists (p : List ℕ) (blobs : List (List ℕ)) : Type 0 where
 
 -- n items are counted exactly where n items stand whole
 abbrev pub CountRule : Type 0
-CountRule = (p : List ℕ) (n : ℕ) → Bytes p → (countOf (12 ∷ p) ≡ Listing.Count n) ↔ ((blobs : List (List ℕ)) × Lists p blobs × (length blobs ≡ n))
+CountRule = (p : List ℕ) (n : ℕ) → Bytes p → (countOf (12 ∷ p) ≡ Listing.Count n) ↔ ((blobs : List (List ℕ)) × ListForm p blobs × (length blobs ≡ n))
 
 -- and each is handed out as its blob
 abbrev pub ItemRule : Type 0
-ItemRule = (p : List ℕ) (blobs : List (List ℕ)) → Bytes p → Lists p blobs → (i : ℕ) → i < length blobs → blobOfItem (12 ∷ p) i ≡ getD blobs i []
+ItemRule = (p : List ℕ) (blobs : List (List ℕ)) → Bytes p → ListForm p blobs → (i : ℕ) → i < length blobs → blobOfItem (12 ∷ p) i ≡ getD blobs i []
 
 -- the payload of the gateway's list reply
 abbrev pub listReply : List Entry → List ℕ
@@ -56,15 +56,12 @@ pub record ReadsList (es : List Entry) : Type 0 where
   pub blobs : (i : ℕ) → i < length es → blobOfItem (listReply es) i ≡ getD (blobsOf es) i []
 
 -- the list reply is read item by item
-abbrev pub ListRead : Type 0
-ListRead =
+abbrev pub ListReplyRead : Type 0
+ListReplyRead =
     (es : List Entry) → ((i : ℕ) → Bytes (getD (blobsOf es) i []) × (length (getD (blobsOf es) i []) < 2 ^ 32)) → length es < 2 ^ 32
     → ReadsList es
 
 -- ## The mark
-
-abbrev pub certificateEnd : List ℕ
-certificateEnd = bytes "-cert-v01@openssh.com"
 
 -- the first string is a text that ends as the type of a certificate does
 pub record Marked (blob : List ℕ) : Type 0 where
@@ -95,7 +92,7 @@ pub data SignatureForm : List ℕ → List ℕ → Type 0 where
       → SignatureForm (bytes "sk-" ++ w) (string (bytes "sk-" ++ w) ++ (string sig ++ (flags ∷ be32 counter)))
 
 -- a reply that carries one; what is left over inside its string and behind it is ignored
-pub record Carries (payload : List ℕ) (t signature : List ℕ) : Type 0 where
+pub record CarriesSignature (payload : List ℕ) (t signature : List ℕ) : Type 0 where
   pub rest : List ℕ
   pub behind : List ℕ
   pub form : SignatureForm t signature
@@ -103,7 +100,7 @@ pub record Carries (payload : List ℕ) (t signature : List ℕ) : Type 0 where
   pub shape : payload ≡ 14 ∷ (string (signature ++ rest) ++ behind)
 
 -- the signature with its length is written to the front of an output that it fits in
-pub record Writes (payload : List ℕ) (hash : ℕ) (signature out : List ℕ) : Type 0 where
+pub record WritesSignature (payload : List ℕ) (hash : ℕ) (signature out : List ℕ) : Type 0 where
   pub written : length (string signature) ≤ length out → signatureAnswer payload hash out ≡ Written (length (string signature))
   pub left : length (string signature) ≤ length out → signatureLeft payload hash out ≡ write out 0 (string signature)
   pub short : length out < length (string signature) → signatureAnswer payload hash out ≡ Refused OutputTooShort
@@ -111,21 +108,21 @@ pub record Writes (payload : List ℕ) (hash : ℕ) (signature out : List ℕ) :
 
 abbrev pub SignatureRule : Type 0
 SignatureRule =
-    (payload : List ℕ) (hash : ℕ) (t signature out : List ℕ) → Bytes payload → Fitting hash t → Carries payload t signature
-    → Writes payload hash signature out
+    (payload : List ℕ) (hash : ℕ) (t signature out : List ℕ) → Bytes payload → Fitting hash t → CarriesSignature payload t signature
+    → WritesSignature payload hash signature out
 
 -- a signature is written exactly where a reply carries it, its type fits the hash, and the output has room
 abbrev pub WrittenRule : Type 0
 WrittenRule =
     (payload : List ℕ) (hash : ℕ) (out : List ℕ) (n : ℕ) → Bytes payload
     → (signatureAnswer payload hash out ≡ Written n)
-    ↔ ((t : List ℕ) × (signature : List ℕ) × Fitting hash t × Carries payload t signature × (length (string signature) ≡ n) × (n ≤ length out))
+    ↔ ((t : List ℕ) × (signature : List ℕ) × Fitting hash t × CarriesSignature payload t signature × (length (string signature) ≡ n) × (n ≤ length out))
 
 -- the gateway's sign reply is read whole: all that stands behind the 14 is written
 abbrev pub SignatureRead : Type 0
 SignatureRead =
     (hash : ℕ) (t signature out : List ℕ) → Bytes signature → length signature < 2 ^ 32 → Fitting hash t → SignatureForm t signature
-    → Writes (14 ∷ string signature) hash signature out
+    → WritesSignature (14 ∷ string signature) hash signature out
 
 abbrev pub SignatureReplyIs : Type 0
 SignatureReplyIs = (signature : List ℕ) → signatureReply signature ≡ string (14 ∷ string signature)
