@@ -10,7 +10,7 @@ use Rattle.wire.specs.declared.read.Cursor.{Cursor}
 use Rattle.wire.specs.declared.read.Number.{Number}
 use Rattle.wire.specs.Read.{cutOf, numberAt}
 use Rattle.wire.specs.Steps.{so, number}
-use Rattle.wire.specs.Frames.{payloadOf}
+use Rattle.wire.specs.Frames.{framePayload}
 use Rattle.wire.proofs.Reading.{le-or-lt, cut-past}
 
 module _ (s : List ℕ) where
@@ -19,17 +19,17 @@ module _ (s : List ℕ) where
   nothing = rw (le-leb 0 (length s) (omega arith))
 
   module _ (r : Number) (e : r ≡ numberAt s 0) (x : List ℕ) where
-    pub payload-none : (place : ℕ) → r ≡ Number.Fault place → x ≡ cutOf s 0 0 → x ≡ payloadOf s
-    unfolding payloadOf number
+    pub payload-none : (place : ℕ) → r ≡ Number.Fault place → x ≡ cutOf s 0 0 → x ≡ framePayload s
+    unfolding framePayload number
     payload-none place f g = rw (← e, f) (g ∙ nothing)
 
     module _ (n : ℕ) (k : Cursor) (f : r ≡ Number.Value n k) where
-      pub payload-long : 262144 < n → x ≡ cutOf s 0 0 → x ≡ payloadOf s
-      unfolding payloadOf number so
+      pub payload-long : 262144 < n → x ≡ cutOf s 0 0 → x ≡ framePayload s
+      unfolding framePayload number so
       payload-long h g = rw (← e, f, lt-leb n 262144 h) (g ∙ nothing)
 
-      pub payload-part : n ≤ 262144 → x ≡ cutOf s (k .at) (k .at + n) → x ≡ payloadOf s
-      unfolding payloadOf number so
+      pub payload-part : n ≤ 262144 → x ≡ cutOf s (k .at) (k .at + n) → x ≡ framePayload s
+      unfolding framePayload number so
       payload-part h g =
           ⊎-elim
           (λ (l : k .at + n ≤ length s). rw (← e, f, le-leb n 262144 h, le-leb (k .at + n) (length s) l) g)

@@ -23,8 +23,8 @@ use Rattle.client.specs.declared.Run.{Run}
 use Rattle.client.specs.declared.Run.the-variants.{End}
 use Rattle.client.specs.declared.identities.Listing.{Listing}
 use Rattle.client.specs.Refusals.{run}
-use Rattle.client.specs.Identities.{itemsAt, countOf, counted, itemAt, itemOf, blobOfItem, certificate}
-use Rattle.client.specs.ReadPromises.{ItemForms, item, Lists, CountRule, ItemRule, blobsOf, ListedIs, ListRead, certificateEnd, Marked, MarkRule}
+use Rattle.client.specs.Identities.{itemsAt, countOf, counted, itemAt, itemOf, blobOfItem, certificate, certificateEnd}
+use Rattle.client.specs.ReadPromises.{ItemForms, item, ListForm, CountRule, ItemRule, blobsOf, ListedIs, ListReplyRead, Marked, MarkRule}
 use Rattle.client.proofs.ReadSteps.{run-cases, fault}
 use Rattle.client.proofs.FormLaws.{lies-next, bytes-cons, bytes-append, be32-bytes, string-bytes, ends-rule, text-reads, took}
 
@@ -105,11 +105,11 @@ some-there b p = lt-ltb 0 (length (b ∷ p)) (omega arith)
 refused : {why : Refusal} {n : ℕ} {A : Type 0} → Listing.Refused why ≡ Listing.Count n → A
 refused e = let z : _≡_ {A = ℕ} 0 1 = cc in absurd (omega arith)
 
-counted-lists : (p : List ℕ) (n : ℕ) → Bytes p → countOf (12 ∷ p) ≡ Listing.Count n → (blobs : List (List ℕ)) × Lists p blobs × (length blobs ≡ n)
+counted-lists : (p : List ℕ) (n : ℕ) → Bytes p → countOf (12 ∷ p) ≡ Listing.Count n → (blobs : List (List ℕ)) × ListForm p blobs × (length blobs ≡ n)
 unfolding countOf so
 counted-lists p n small =
     let s : List ℕ = 12 ∷ p in
-    let P : Listing → Type 0 = λ r. r ≡ Listing.Count n → (blobs : List (List ℕ)) × Lists p blobs × (length blobs ≡ n) in
+    let P : Listing → Type 0 = λ r. r ≡ Listing.Count n → (blobs : List (List ℕ)) × ListForm p blobs × (length blobs ≡ n) in
     rw (some-there 12 p)
     (number-cases P (numberAt s 1) (λ _ _. refused) λ m k e.
     run-cases P (itemsAt m s (k .at)) (λ _. refused) λ end d q.
@@ -128,7 +128,7 @@ counted-lists p n small =
       many,
     ))
 
-pub lists-counted : (p : List ℕ) (blobs : List (List ℕ)) → Bytes p → Lists p blobs → countOf (12 ∷ p) ≡ Listing.Count (length blobs)
+pub lists-counted : (p : List ℕ) (blobs : List (List ℕ)) → Bytes p → ListForm p blobs → countOf (12 ∷ p) ≡ Listing.Count (length blobs)
 unfolding countOf so number run
 lists-counted p blobs small l =
     let s : List ℕ = 12 ∷ p in
@@ -165,12 +165,12 @@ items-bytes (e ∷ es) h =
     (bytes-append (string (e .blob)) (string []) (string-bytes (e .blob) (h 0)) (be32-bytes 0))
     (items-bytes es (λ i. h (suc i)))
 
-pub list-read : ListRead
-list-read es h few =
+pub list-reply-read : ListReplyRead
+list-reply-read es h few =
     let p = be32 (length es) ++ items es in
     let small : Bytes p = bytes-append (be32 (length es)) (items es) (be32-bytes (length es)) (items-bytes es (λ i. h i .0)) in
     let n : length (blobsOf es) ≡ length es = length-map es (λ e. e .blob) in
-    let l : Lists p (blobsOf es) =
+    let l : ListForm p (blobsOf es) =
     record { forms = items es; rest = []; few = omega arith; whole = items-form es (λ i. h i .1); shape = rw (n, append-nil) refl } in
     record { count = rw n at (lists-counted p (blobsOf es) small l); blobs = λ i k. item-rule p (blobsOf es) small l i (omega arith) }
 

@@ -16,7 +16,7 @@ use Rattle.client.specs.declared.identities.Listing.{Listing}
 use Rattle.client.specs.Refusals.{run}
 use Rattle.client.specs.Values.{grants, refuses, listingSays, itemSays}
 use Rattle.client.specs.Identities.{itemsAt, countOf, counted, itemAt, itemOf, certificate}
-use Rattle.client.specs.ReadPromises.{Lists, ListTable, ItemTable}
+use Rattle.client.specs.ReadPromises.{ListForm, ListTable, ItemTable}
 use Rattle.client.proofs.ReadSteps.{run-cases}
 use Rattle.client.proofs.ReadRoundTrips.{some-there, forms-at, lists-counted, count-rule}
 use Rattle.client.proofs.WriterTables.{says-apart}
@@ -43,7 +43,7 @@ unfolding countOf so
 other-type [] never = refl
 other-type (b ∷ p) never = rw (some-there b p, ne-eqb b 12 (λ e. never p (ap (λ (c : ℕ). c ∷ p) e)))
 
-faulty-list : (p : List ℕ) → Bytes p → ((blobs : List (List ℕ)) → Lists p blobs → ⊥) → listingSays (countOf (12 ∷ p)) ≡ refuses 12
+faulty-list : (p : List ℕ) → Bytes p → ((blobs : List (List ℕ)) → ListForm p blobs → ⊥) → listingSays (countOf (12 ∷ p)) ≡ refuses 12
 faulty-list p small never =
     ⊎-elim (λ (n, e). let (blobs, l, _) = count-rule p n small .0 e in absurd (never blobs l)) (λ e. e) (count-or-fault (12 ∷ p))
 
@@ -64,7 +64,7 @@ item-beyond : (payload : List ℕ) (i n : ℕ) → listingSays (countOf payload)
 unfolding itemOf counted so
 item-beyond payload i n e h = rw (says-apart .counted (countOf payload) n e, le-ltb i n h)
 
-item-there : (p : List ℕ) (blobs : List (List ℕ)) (i : ℕ) → Bytes (12 ∷ p) → Lists p blobs → i < length blobs
+item-there : (p : List ℕ) (blobs : List (List ℕ)) (i : ℕ) → Bytes (12 ∷ p) → ListForm p blobs → i < length blobs
     → itemSays (12 ∷ p) (itemOf (12 ∷ p) i) ≡ grants (record { blob = getD blobs i []; marked = certificate (getD blobs i []) })
 unfolding itemOf counted so run itemAt part
 item-there p blobs i small l h =

@@ -14,7 +14,7 @@ use Rattle.wire.specs.Numbers.{Bytes, be32}
 use Rattle.wire.specs.Read.{cutOf, numberAt}
 use Rattle.wire.specs.Steps.{so, number}
 use Rattle.wire.specs.Write.{write, string}
-use Rattle.wire.specs.Frames.{splitOf, payloadOf}
+use Rattle.wire.specs.Frames.{splitOf, framePayload}
 use Rattle.wire.proofs.Reading.{number-there, cut-there}
 use Rattle.wire.proofs.Format.{be-written, number-form, string-form}
 use Rattle.rule.specs.Order.{Begins, Carries}
@@ -25,6 +25,7 @@ use Rattle.client.specs.declared.Wrote.the-variants.{Refused}
 use Rattle.client.specs.Refusals.{refusalNumber}
 use Rattle.client.specs.Requests.{signRequest, removeSmartcardAnswer, removeSmartcardLeft, addSmartcardAnswer, addSmartcardLeft}
 use Rattle.client.specs.Promises.{Holds, Splits, Sent, Writes, WriterRule, RemoveSmartcardRule, AddSmartcardRule, placeless, RefusalsApart, ListRead, LockRead, UnlockRead, SignRead}
+use Rattle.client.proofs.FormLaws.{bytes-cons, bytes-append, be32-bytes, string-bytes}
 use Rattle.client.proofs.WriteLaws.{Met, Stage, stage, untouched}
 
 -- ## Frames
@@ -43,7 +44,7 @@ module _ (p rest : List ℕ) (h : length p ≤ 262144) where
       sym (cut-there (string p ++ rest) 4 (4 + length p) (omega arith) (omega (arith, size))) ∙ rw (add-sub-cancel-left 4 (length p)) (take-at p rest (length p) refl)
 
   found : Holds (string p ++ rest) p
-  unfolding splitOf payloadOf number so
+  unfolding splitOf framePayload number so
   found =
       let s = size in
       record {
@@ -124,26 +125,11 @@ refusals-apart a b e = numbered a ∙ ap refusalOf e ∙ sym (numbered b)
 
 -- ## What the rule reads
 
-bytes-cons : (a : ℕ) (s : List ℕ) → a < 256 → Bytes s → Bytes (a ∷ s)
-bytes-cons a s h k zero = h
-bytes-cons a s h k (suc i) = k i
-
 bytes-none : Bytes []
 bytes-none i = omega arith
 
-bytes-append : (a b : List ℕ) → Bytes a → Bytes b → Bytes (a ++ b)
-bytes-append [] b h k = k
-bytes-append (x ∷ a) b h k = bytes-cons x (a ++ b) (h 0) (bytes-append a b (λ i. h (suc i)) k)
-
-bytes-number : (n : ℕ) (s : List ℕ) → Bytes s → Bytes (be32 n ++ s)
-bytes-number n s k zero = omega arith
-bytes-number n s k (suc zero) = omega arith
-bytes-number n s k (suc (suc zero)) = omega arith
-bytes-number n s k (suc (suc (suc zero))) = omega arith
-bytes-number n s k (suc (suc (suc (suc i)))) = k i
-
 bytes-string : (v rest : List ℕ) → Bytes v → Bytes rest → Bytes (string v ++ rest)
-bytes-string v rest h k = bytes-number (length v) (v ++ rest) (bytes-append v rest h k)
+bytes-string v rest h k = bytes-append (string v) rest (string-bytes v h) k
 
 begins : (byte : ℕ) (s : List ℕ) → Begins byte (byte ∷ s)
 begins byte s = record { some-byte = omega arith; first = refl }
@@ -168,8 +154,7 @@ unlock-read v h l = lock-like 23 v (omega arith) h l
 
 pub sign-read : SignRead
 sign-read blob bytes flags hb hd lb ld lf =
-    let f : Bytes (be32 flags) = bytes-number flags [] bytes-none in
-    let rest : Bytes (string bytes ++ be32 flags) = bytes-string bytes (be32 flags) hd f in
+    let rest : Bytes (string bytes ++ be32 flags) = bytes-string bytes (be32 flags) hd (be32-bytes flags) in
     let all : Bytes (signRequest blob bytes flags) = bytes-cons 13 (string blob ++ (string bytes ++ be32 flags)) (omega arith) (bytes-string blob (string bytes ++ be32 flags) hb rest) in
     let r = string-form (signRequest blob bytes flags) 1 blob (string bytes ++ be32 flags) all lb .0 refl in
     let s = string-form (signRequest blob bytes flags) (1 + 4 + length blob) bytes (be32 flags) all ld .0 (r .2) in

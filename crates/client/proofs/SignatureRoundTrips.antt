@@ -30,7 +30,7 @@ use Rattle.client.specs.declared.signature.Signature.{Signature}
 use Rattle.client.specs.declared.signature.Signature.the-variants.{Whole}
 use Rattle.client.specs.Refusals.{run}
 use Rattle.client.specs.Signatures.{wroteOf, fits, startsIn, touchedEnd, signatureEnd, signatureAt, replyAt, signatureAnswer, signatureLeft}
-use Rattle.client.specs.ReadPromises.{Fitting, any, sha256, sha512, FitRule, SignatureForm, plain, touched, Carries, Writes, SignatureRule, WrittenRule, SignatureRead, SignatureReplyIs}
+use Rattle.client.specs.ReadPromises.{Fitting, any, sha256, sha512, FitRule, SignatureForm, plain, touched, CarriesSignature, WritesSignature, SignatureRule, WrittenRule, SignatureRead, SignatureReplyIs}
 use Rattle.client.proofs.ReadSteps.{run-cases, byte-cases, fault}
 use Rattle.client.proofs.SignatureLaws.{string-short, string-fits, refused}
 use Rattle.client.proofs.FormLaws.{bytes-cons, string-bytes, starts-rule, text-reads, took, lies-to}
@@ -111,7 +111,7 @@ reply-read hash t signature rest tail small f form l =
     record { found = rw (n, a .read, lies-cut front) read; cut = lies-cut (lies-split signature rest (inside a) .0) }
 
 -- the signature is then written as a string
-replied-writes : (payload : List ℕ) (hash : ℕ) (signature out : List ℕ) → Replied payload hash signature → Writes payload hash signature out
+replied-writes : (payload : List ℕ) (hash : ℕ) (signature out : List ℕ) → Replied payload hash signature → WritesSignature payload hash signature out
 unfolding signatureAnswer signatureLeft
 replied-writes payload hash signature out r =
     let fits = string-fits signature out (length (string signature)) (write out 0 (string signature)) in
@@ -206,7 +206,7 @@ module _ (s : List ℕ) (small : Bytes s) where
 
 -- a reply carries a signature that fits
 abbrev Answered : ℕ → List ℕ → Type 0
-Answered hash payload = (t : List ℕ) × (signature : List ℕ) × Fitting hash t × Carries payload t signature
+Answered hash payload = (t : List ℕ) × (signature : List ℕ) × Fitting hash t × CarriesSignature payload t signature
 
 -- the signature was found in the reply's string
 string-taken : (b : ℕ) (p v : List ℕ) (g u hash f end : ℕ) → Bytes (b ∷ p) → b ≡ 14 → length v < 2 ^ 32 → Lies (b ∷ p) 1 (string v) u → g ≡ 5

@@ -23,7 +23,7 @@ use Rattle.client.specs.declared.signature.Signature.the-variants.{Whole
 use Rattle.client.specs.Refusals.{run}
 use Rattle.client.specs.Values.{refuses, wroteSays}
 use Rattle.client.specs.Signatures.{fits, startsIn, signatureEnd, signatureAt, replyAt, wroteOf, signatureAnswer}
-use Rattle.client.specs.ReadPromises.{Fitting, Carries, Typed, SignatureTable}
+use Rattle.client.specs.ReadPromises.{Fitting, CarriesSignature, Typed, SignatureTable}
 use Rattle.client.proofs.ReadSteps.{run-cases}
 use Rattle.client.proofs.FormLaws.{text-reads, took}
 use Rattle.client.proofs.SignatureRoundTrips.{fit-rule, signature-rule, end-taken}
@@ -122,7 +122,7 @@ module _ (payload : List ℕ) (hash : ℕ) (out : List ℕ) (small : Bytes paylo
   unfolding signatureAnswer so
   unfit-there never = rw (typed-continues .goes-on, not-fit hash t never)
 
-  none-there : Fitting hash t → ((signature : List ℕ) → Carries payload t signature → ⊥) → wroteSays (signatureAnswer payload hash out) ≡ refuses 12
+  none-there : Fitting hash t → ((signature : List ℕ) → CarriesSignature payload t signature → ⊥) → wroteSays (signatureAnswer payload hash out) ≡ refuses 12
   unfolding signatureAnswer so
   none-there fit never =
       let s : List ℕ = 14 ∷ string (string t ++ typed .rest) in

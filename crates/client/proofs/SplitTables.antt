@@ -12,7 +12,7 @@ use Rattle.wire.specs.declared.read.Number.{Number}
 use Rattle.wire.specs.Numbers.{be32, beAt}
 use Rattle.wire.specs.Read.{cutOf, numberAt}
 use Rattle.wire.specs.Steps.{so, number}
-use Rattle.wire.specs.Frames.{splitOf, payloadOf}
+use Rattle.wire.specs.Frames.{splitOf, framePayload}
 use Rattle.wire.proofs.Reading.{le-or-lt, number-there, number-cut, cut-there}
 use Rattle.wire.proofs.Format.{be-written}
 use Rattle.client.specs.Promises.{Holds, SplitTable}
@@ -32,7 +32,7 @@ module _ (n : ℕ) (rest : List ℕ) (small : n < 2 ^ 32) where
     split-short l = rw (length-read, le-leb n 262144 h, lt-leb (4 + n) (length (be32 n ++ rest)) (omega arith))
 
     split-whole : n ≤ length rest → Holds (be32 n ++ rest) (take n rest)
-    unfolding splitOf payloadOf number so
+    unfolding splitOf framePayload number so
     split-whole l =
         let cut : cutOf (be32 n ++ rest) 4 (4 + n) ≡ take n rest = sym (cut-there (be32 n ++ rest) 4 (4 + n) (omega arith) (omega arith)) ∙ rw (add-sub-cancel-left 4 n) in
         record {
@@ -45,8 +45,8 @@ module _ (s : List ℕ) where
   unfolding splitOf number
   split-few h = rw (← number-cut s 0 h)
 
-  split-empty : (splitOf s ≡ Frame → ⊥) → payloadOf s ≡ []
-  unfolding splitOf payloadOf number so
+  split-empty : (splitOf s ≡ Frame → ⊥) → framePayload s ≡ []
+  unfolding splitOf framePayload number so
   split-empty never =
       ⊎-elim
       (λ (h : 4 ≤ length s).

@@ -1,7 +1,7 @@
 -- The identities reader: "payload empty or not type 12: count 0. Else all items must be whole, comments UTF-8".
-use Prim.Native.Nat.{ℕ, zero, suc, _+_, _-_}
-use mathlib.Core.List.{List, []}
-use mathlib.Core.Bool.{Bool, false, _&&_}
+use Prim.Native.Nat.{ℕ, zero, suc, _-_}
+use mathlib.Core.List.{List}
+use mathlib.Core.Bool.{Bool, false}
 use lib.ListN.{length, getD}
 use lib.Dec.{leb, ltb, eqb}
 use Rattle.wire.specs.Texts.{bytes}
@@ -36,12 +36,15 @@ unfoldable pub counted : {A : Type 0} → (Listing → A) → Listing → (ℕ �
 counted z (Listing.Count n) next = next n
 counted z (Listing.Refused r) next = z (Listing.Refused r)
 
--- "a certificate mark if its first string is UTF-8 and ends in `-cert-v01@openssh.com`"
 unfoldable pub endsIn : List ℕ → List ℕ → Bool
 endsIn v end = so false (leb (length end) (length v)) (same (cutOf v (length v - length end) (length v)) end)
 
+-- "a certificate mark if its first string is UTF-8 and ends in `-cert-v01@openssh.com`"
+abbrev pub certificateEnd : List ℕ
+certificateEnd = bytes "-cert-v01@openssh.com"
+
 unfoldable pub certificate : List ℕ → Bool
-certificate blob = part (λ _. false) (textAt blob 0) λ f t k. endsIn (cutOf blob f t) (bytes "-cert-v01@openssh.com")
+certificate blob = part (λ _. false) (textAt blob 0) λ f t k. endsIn (cutOf blob f t) certificateEnd
 
 unfoldable pub itemAt : List ℕ → ℕ → Item
 itemAt payload at =
@@ -60,9 +63,9 @@ itemOf payload index =
     (run (λ at. Item.Refused (Malformed at)) (itemsAt index payload 5) λ at.
     itemAt payload at)
 
-abbrev pub blobIn : List ℕ → Item → List ℕ
-blobIn payload (Item.Blob f t c) = cutOf payload f t
-blobIn payload (Item.Refused r) = cutOf payload 0 0
+abbrev pub itemBlob : List ℕ → Item → List ℕ
+itemBlob payload (Item.Blob f t c) = cutOf payload f t
+itemBlob payload (Item.Refused r) = cutOf payload 0 0
 
 unfoldable pub blobOfItem : List ℕ → ℕ → List ℕ
-blobOfItem payload index = blobIn payload (itemOf payload index)
+blobOfItem payload index = itemBlob payload (itemOf payload index)

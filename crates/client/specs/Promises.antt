@@ -13,7 +13,7 @@ use Rattle.wire.specs.Numbers.{Bytes, be32}
 use Rattle.wire.specs.Abnf.{Octets}
 use Rattle.wire.specs.Read.{cutOf, numberAt, stringAt}
 use Rattle.wire.specs.Write.{string}
-use Rattle.wire.specs.Frames.{splitOf, payloadOf}
+use Rattle.wire.specs.Frames.{splitOf, framePayload}
 use Rattle.rule.specs.Order.{Begins, Carries}
 use Rattle.rule.specs.Content.{SignRequest}
 use Rattle.client.specs.declared.Refusal.{Refusal}
@@ -30,7 +30,7 @@ use Rattle.client.specs.Requests.{requestIdentities, signRequest, lockRe
 -- the splitter says that a frame is whole, and hands out its payload
 pub record Holds (s payload : List ℕ) : Type 0 where
   pub frame : splitOf s ≡ Frame
-  pub payload-is : payloadOf s ≡ payload
+  pub payload-is : framePayload s ≡ payload
 
 -- a payload's frame alone, and with more bytes behind it
 pub record SplitsBack (payload : List ℕ) : Type 0 where
@@ -47,7 +47,7 @@ pub record SplitSays (s : List ℕ) : Type 0 where
   pub long : (n : ℕ) (rest : List ℕ) → s ≡ be32 n ++ rest → n < 2 ^ 32 → 262144 < n → splitOf s ≡ TooLong
   pub short : (n : ℕ) (rest : List ℕ) → s ≡ be32 n ++ rest → n ≤ 262144 → length rest < n → splitOf s ≡ MoreNeeded
   pub whole : (n : ℕ) (rest : List ℕ) → s ≡ be32 n ++ rest → n ≤ 262144 → n ≤ length rest → Holds s (take n rest)
-  pub else-empty : (splitOf s ≡ Frame → ⊥) → payloadOf s ≡ []
+  pub else-empty : (splitOf s ≡ Frame → ⊥) → framePayload s ≡ []
 
 abbrev pub SplitTable : Type 0
 SplitTable = (s : List ℕ) → SplitSays s

@@ -16,7 +16,7 @@ use Rattle.client.specs.declared.Refusal.the-variants.{OutputTooShort}
 use Rattle.client.specs.declared.Wrote.the-variants.{Written, Refused}
 use Rattle.client.specs.declared.identities.Listing.{Listing}
 use Rattle.client.specs.Values.{grants, refuses, wroteSays, listingSays, itemSays}
-use Rattle.client.specs.Identities.{countOf, certificate, itemOf, blobOfItem}
+use Rattle.client.specs.Identities.{countOf, certificateEnd, certificate, itemOf, blobOfItem}
 use Rattle.client.specs.Signatures.{fits, signatureAnswer, signatureLeft}
 
 -- ## The list of keys
@@ -28,7 +28,7 @@ pub data ItemForms : List (List ℕ) → List ℕ → Type 0 where
       → ItemForms blobs forms → ItemForms (blob ∷ blobs) (string blob ++ (string comment ++ forms))
 
 -- what stands behind the 12: a count, as many items, and anything
-pub record Lists (p : List ℕ) (blobs : List (List ℕ)) : Type 0 where
+pub record ListForm (p : List ℕ) (blobs : List (List ℕ)) : Type 0 where
   pub forms : List ℕ
   pub rest : List ℕ
   pub few : length blobs < 2 ^ 32
@@ -37,17 +37,17 @@ pub record Lists (p : List ℕ) (blobs : List (List ℕ)) : Type 0 where
 
 -- n items are counted exactly where n items stand whole
 abbrev pub CountRule : Type 0
-CountRule = (p : List ℕ) (n : ℕ) → Bytes p → (countOf (12 ∷ p) ≡ Listing.Count n) ↔ ((blobs : List (List ℕ)) × Lists p blobs × (length blobs ≡ n))
+CountRule = (p : List ℕ) (n : ℕ) → Bytes p → (countOf (12 ∷ p) ≡ Listing.Count n) ↔ ((blobs : List (List ℕ)) × ListForm p blobs × (length blobs ≡ n))
 
 -- and each is handed out as its blob
 abbrev pub ItemRule : Type 0
-ItemRule = (p : List ℕ) (blobs : List (List ℕ)) → Bytes p → Lists p blobs → (i : ℕ) → i < length blobs → blobOfItem (12 ∷ p) i ≡ getD blobs i []
+ItemRule = (p : List ℕ) (blobs : List (List ℕ)) → Bytes p → ListForm p blobs → (i : ℕ) → i < length blobs → blobOfItem (12 ∷ p) i ≡ getD blobs i []
 
 -- when each answer comes: "payload empty or not type 12: count 0"; "identities 12, 16"
 pub record ListSays (payload : List ℕ) : Type 0 where
   pub other : ((p : List ℕ) → payload ≡ 12 ∷ p → ⊥) → listingSays (countOf payload) ≡ grants 0
-  pub faulty : (p : List ℕ) → payload ≡ 12 ∷ p → ((blobs : List (List ℕ)) → Lists p blobs → ⊥) → listingSays (countOf payload) ≡ refuses 12
-  pub counts : (p : List ℕ) (blobs : List (List ℕ)) → payload ≡ 12 ∷ p → Lists p blobs → listingSays (countOf payload) ≡ grants (length blobs)
+  pub faulty : (p : List ℕ) → payload ≡ 12 ∷ p → ((blobs : List (List ℕ)) → ListForm p blobs → ⊥) → listingSays (countOf payload) ≡ refuses 12
+  pub counts : (p : List ℕ) (blobs : List (List ℕ)) → payload ≡ 12 ∷ p → ListForm p blobs → listingSays (countOf payload) ≡ grants (length blobs)
 
 abbrev pub ListTable : Type 0
 ListTable = (payload : List ℕ) → Bytes payload → ListSays payload
@@ -55,7 +55,7 @@ ListTable = (payload : List ℕ) → Bytes payload → ListSays payload
 pub record ItemSays (payload : List ℕ) (i : ℕ) : Type 0 where
   pub faulty : listingSays (countOf payload) ≡ refuses 12 → itemSays payload (itemOf payload i) ≡ refuses 12
   pub beyond : (n : ℕ) → listingSays (countOf payload) ≡ grants n → n ≤ i → itemSays payload (itemOf payload i) ≡ refuses 16
-  pub item : (p : List ℕ) (blobs : List (List ℕ)) → payload ≡ 12 ∷ p → Lists p blobs → i < length blobs
+  pub item : (p : List ℕ) (blobs : List (List ℕ)) → payload ≡ 12 ∷ p → ListForm p blobs → i < length blobs
       → itemSays payload (itemOf payload i) ≡ grants (record { blob = getD blobs i []; marked = certificate (getD blobs i []) })
 
 abbrev pub ItemTable : Type 0
@@ -76,15 +76,12 @@ pub record ReadsList (es : List Entry) : Type 0 where
   pub blobs : (i : ℕ) → i < length es → blobOfItem (listReply es) i ≡ getD (blobsOf es) i []
 
 -- the list reply is read item by item
-abbrev pub ListRead : Type 0
-ListRead =
+abbrev pub ListReplyRead : Type 0
+ListReplyRead =
     (es : List Entry) → ((i : ℕ) → Bytes (getD (blobsOf es) i []) × (length (getD (blobsOf es) i []) < 2 ^ 32)) → length es < 2 ^ 32
     → ReadsList es
 
 -- ## The mark
-
-abbrev pub certificateEnd : List ℕ
-certificateEnd = bytes "-cert-v01@openssh.com"
 
 -- the first string is a text that ends as the type of a certificate does
 pub record Marked (blob : List ℕ) : Type 0 where
@@ -115,7 +112,7 @@ pub data SignatureForm : List ℕ → List ℕ → Type 0 where
       → SignatureForm (bytes "sk-" ++ w) (string (bytes "sk-" ++ w) ++ (string sig ++ (flags ∷ be32 counter)))
 
 -- a reply that carries one; what is left over inside its string and behind it is ignored
-pub record Carries (payload : List ℕ) (t signature : List ℕ) : Type 0 where
+pub record CarriesSignature (payload : List ℕ) (t signature : List ℕ) : Type 0 where
   pub rest : List ℕ
   pub behind : List ℕ
   pub form : SignatureForm t signature
@@ -123,7 +120,7 @@ pub record Carries (payload : List ℕ) (t signature : List ℕ) : Type 0 where
   pub shape : payload ≡ 14 ∷ (string (signature ++ rest) ++ behind)
 
 -- the signature with its length is written to the front of an output that it fits in
-pub record Writes (payload : List ℕ) (hash : ℕ) (signature out : List ℕ) : Type 0 where
+pub record WritesSignature (payload : List ℕ) (hash : ℕ) (signature out : List ℕ) : Type 0 where
   pub written : length (string signature) ≤ length out → signatureAnswer payload hash out ≡ Written (length (string signature))
   pub left : length (string signature) ≤ length out → signatureLeft payload hash out ≡ write out 0 (string signature)
   pub short : length out < length (string signature) → signatureAnswer payload hash out ≡ Refused OutputTooShort
@@ -131,15 +128,15 @@ pub record Writes (payload : List ℕ) (hash : ℕ) (signature out : List ℕ) :
 
 abbrev pub SignatureRule : Type 0
 SignatureRule =
-    (payload : List ℕ) (hash : ℕ) (t signature out : List ℕ) → Bytes payload → Fitting hash t → Carries payload t signature
-    → Writes payload hash signature out
+    (payload : List ℕ) (hash : ℕ) (t signature out : List ℕ) → Bytes payload → Fitting hash t → CarriesSignature payload t signature
+    → WritesSignature payload hash signature out
 
 -- a signature is written exactly where a reply carries it, its type fits the hash, and the output has room
 abbrev pub WrittenRule : Type 0
 WrittenRule =
     (payload : List ℕ) (hash : ℕ) (out : List ℕ) (n : ℕ) → Bytes payload
     → (signatureAnswer payload hash out ≡ Written n)
-    ↔ ((t : List ℕ) × (signature : List ℕ) × Fitting hash t × Carries payload t signature × (length (string signature) ≡ n) × (n ≤ length out))
+    ↔ ((t : List ℕ) × (signature : List ℕ) × Fitting hash t × CarriesSignature payload t signature × (length (string signature) ≡ n) × (n ≤ length out))
 
 -- a reply whose string starts with the text t, and holds anything behind it
 pub record Typed (payload t : List ℕ) : Type 0 where
@@ -155,11 +152,11 @@ pub record SignatureSays (payload : List ℕ) (hash : ℕ) (out : List ℕ) : Ty
   pub other : (Begins 5 payload → ⊥) → (Begins 14 payload → ⊥) → wroteSays (signatureAnswer payload hash out) ≡ refuses 15
   pub no-type : Begins 14 payload → ((t : List ℕ) → Typed payload t → ⊥) → wroteSays (signatureAnswer payload hash out) ≡ refuses 12
   pub unfit : (t : List ℕ) → Typed payload t → (Fitting hash t → ⊥) → wroteSays (signatureAnswer payload hash out) ≡ refuses 13
-  pub no-signature : (t : List ℕ) → Typed payload t → Fitting hash t → ((signature : List ℕ) → Carries payload t signature → ⊥)
+  pub no-signature : (t : List ℕ) → Typed payload t → Fitting hash t → ((signature : List ℕ) → CarriesSignature payload t signature → ⊥)
       → wroteSays (signatureAnswer payload hash out) ≡ refuses 12
-  pub short : (t signature : List ℕ) → Fitting hash t → Carries payload t signature → length out < length (string signature)
+  pub short : (t signature : List ℕ) → Fitting hash t → CarriesSignature payload t signature → length out < length (string signature)
       → wroteSays (signatureAnswer payload hash out) ≡ refuses 11
-  pub written : (t signature : List ℕ) → Fitting hash t → Carries payload t signature → length (string signature) ≤ length out
+  pub written : (t signature : List ℕ) → Fitting hash t → CarriesSignature payload t signature → length (string signature) ≤ length out
       → wroteSays (signatureAnswer payload hash out) ≡ grants (length (string signature))
 
 abbrev pub SignatureTable : Type 0
@@ -169,7 +166,7 @@ SignatureTable = (payload : List ℕ) (hash : ℕ) (out : List ℕ) → Bytes pa
 abbrev pub SignatureRead : Type 0
 SignatureRead =
     (hash : ℕ) (t signature out : List ℕ) → Bytes signature → length signature < 2 ^ 32 → Fitting hash t → SignatureForm t signature
-    → Writes (14 ∷ string signature) hash signature out
+    → WritesSignature (14 ∷ string signature) hash signature out
 
 abbrev pub SignatureReplyIs : Type 0
 SignatureReplyIs = (signature : List ℕ) → signatureReply signature ≡ string (14 ∷ string signature)

@@ -1,6 +1,6 @@
 -- The signature reader: "type 14, string; inside it string t (UTF-8). .. Then string sig, and if t starts `sk-` one byte and a u32."
 use Prim.Native.Nat.{ℕ, _+_}
-use mathlib.Core.List.{List, [], _∷_}
+use mathlib.Core.List.{List}
 use mathlib.Core.Bool.{Bool, true, false}
 use lib.ListN.{length, getD}
 use lib.Dec.{leb, ltb, eqb}

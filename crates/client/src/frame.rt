@@ -4,7 +4,7 @@ use wire::read::Cursor;
 use wire::read::Number;
 use wire::read::cut;
 ghost use mathlib.Core.Path.{_≡_};
-ghost use Rattle.wire.specs.Frames.{splitOf, payloadOf};
+ghost use Rattle.wire.specs.Frames.{splitOf, framePayload};
 
 pub fn read_frame(s: &[u8]) -> Split
     ensures { λ r. ⌜ r ≡ splitOf (now (s .entry)) ⌝ }
@@ -26,7 +26,7 @@ pub fn read_frame(s: &[u8]) -> Split
 
 // Empty unless a frame is whole.
 pub fn frame_payload(s: &[u8]) -> &[u8]
-    ensures { λ r. ⌜ now r ≡ payloadOf (now (s .entry)) ⌝ }
+    ensures { λ r. ⌜ now r ≡ framePayload (now (s .entry)) ⌝ }
 {
     let start = Cursor { at: 0 };
     let Number::Value(n, next) = start.number(s) else {

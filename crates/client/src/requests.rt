@@ -8,7 +8,7 @@ use wire::write::put_byte;
 use wire::write::put_number;
 use wire::write::put_string;
 ghost use mathlib.Core.Path.{_≡_};
-ghost use mathlib.Core.List.{List, [], _∷_, _++_};
+ghost use mathlib.Core.List.{[], _∷_, _++_};
 ghost use Prim.Native.Nat.{_+_, _≤_, _<_, _^_};
 ghost use lib.ListN.{length, take};
 ghost use Rattle.wire.specs.Write.{write, string};

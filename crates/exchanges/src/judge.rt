@@ -21,7 +21,7 @@ use crate::parts::read_wanted;
 use report::parts::Place;
 use report::parts::read_changed;
 use report::sections::Ran;
-use report::sections::outcome;
+use report::sections::ran_as;
 use wire::Constraint;
 use wire::read::Cursor;
 use wire::read::Number;
@@ -41,7 +41,7 @@ fn request(s: &[u8], c: Cursor) -> Ran {
     else {
         return Ran::Malformed;
     };
-    outcome(has_request(s, r, room, writing), next)
+    ran_as(has_request(s, r, room, writing), next)
 }
 
 // With its constraints: what their writer is to do.
@@ -54,7 +54,7 @@ fn constrained(s: &[u8], c: Cursor, r: Request, constraints: [Constraint; 4]) ->
     else {
         return Ran::Malformed;
     };
-    outcome(has_card(s, r, constraints, room, writing), next)
+    ran_as(has_card(s, r, constraints, room, writing), next)
 }
 
 // A request to add a smartcard, whose flags are the number of constraints, then four of these, and what its writer is to do.
@@ -85,7 +85,7 @@ fn frame(s: &[u8], c: Cursor, bytes: &[u8]) -> Ran {
     let Pieced::Value(payload, next) = read_piece(s, a) else {
         return Ran::Malformed;
     };
-    outcome(has_frame(s, bytes, kind, payload), next)
+    ran_as(has_frame(s, bytes, kind, payload), next)
 }
 
 // What is expected of a list reply.
@@ -103,7 +103,7 @@ fn list(s: &[u8], c: Cursor, payload: &[u8]) -> Ran {
     if !has_count(payload, refusal, count) {
         return Ran::Differs(next);
     }
-    outcome(has_item(payload, index, item), next)
+    ran_as(has_item(payload, index, item), next)
 }
 
 // A hash, and what the signature reader is to do with a sign reply.
@@ -119,7 +119,7 @@ fn signature(s: &[u8], c: Cursor, payload: &[u8]) -> Ran {
     else {
         return Ran::Malformed;
     };
-    outcome(has_signature(s, payload, hash, room, writing), next)
+    ran_as(has_signature(s, payload, hash, room, writing), next)
 }
 
 fn expected(s: &[u8], c: Cursor, kind: u8, bytes: &[u8]) -> Ran {

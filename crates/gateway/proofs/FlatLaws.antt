@@ -13,7 +13,7 @@ use Rattle.wire.specs.declared.Split.the-variants.{MoreNeeded, TooLong, Frame}
 use Rattle.wire.specs.Steps.{so, number}
 use Rattle.wire.specs.Numbers.{beAt}
 use Rattle.wire.specs.Read.{cutOf}
-use Rattle.wire.specs.Frames.{splitOf, payloadOf}
+use Rattle.wire.specs.Frames.{splitOf, framePayload}
 use Rattle.wire.proofs.Reading.{le-or-lt, number-there, number-cut}
 use Rattle.wire.proofs.Format.{part-length}
 use Rattle.server.specs.declared.Said.{Said}
@@ -94,7 +94,7 @@ module _ (s : List ℕ) where
   unfolding cutOf
   nothing = rw (le-leb 0 (length s) (omega arith))
 
-  more : splitOf s ≡ MoreNeeded → payloadOf s ≡ [] → SplitsAs s
+  more : splitOf s ≡ MoreNeeded → framePayload s ≡ [] → SplitsAs s
   unfolding flatSplit splitAs
   more e p = record {
     kind = rw e;
@@ -103,7 +103,7 @@ module _ (s : List ℕ) where
     within = rw e (omega arith);
   }
 
-  long : splitOf s ≡ TooLong → payloadOf s ≡ [] → SplitsAs s
+  long : splitOf s ≡ TooLong → framePayload s ≡ [] → SplitsAs s
   unfolding flatSplit splitAs
   long e p = record {
     kind = rw e;
@@ -112,10 +112,10 @@ module _ (s : List ℕ) where
     within = rw e (omega arith);
   }
 
-  framed : (n : ℕ) → splitOf s ≡ Frame → payloadOf s ≡ cutOf s 4 (4 + n) → 4 + n ≤ length s → SplitsAs s
+  framed : (n : ℕ) → splitOf s ≡ Frame → framePayload s ≡ cutOf s 4 (4 + n) → 4 + n ≤ length s → SplitsAs s
   unfolding flatSplit splitAs
   framed n e p h =
-      let l : length (payloadOf s) ≡ n = ap length p ∙ (let m = part-length s 4 (4 + n) (omega arith) h in omega arith) in
+      let l : length (framePayload s) ≡ n = ap length p ∙ (let m = part-length s 4 (4 + n) (omega arith) h in omega arith) in
       record {
         kind = rw e;
         payload = rw (e, l) (sym p);
@@ -124,24 +124,24 @@ module _ (s : List ℕ) where
       }
 
   cut-short : length s < 4 → SplitsAs s
-  unfolding splitOf payloadOf number
+  unfolding splitOf framePayload number
   cut-short h = more (rw (← number-cut s 0 h)) (rw (← number-cut s 0 h))
 
   module _ (h : 4 ≤ length s) where
     too-long : 262144 < beAt s 0 → SplitsAs s
-    unfolding splitOf payloadOf number so
+    unfolding splitOf framePayload number so
     too-long l = long (rw (← number-there s 0 h, lt-leb (beAt s 0) 262144 l)) (rw (← number-there s 0 h, lt-leb (beAt s 0) 262144 l))
 
     module _ (l : beAt s 0 ≤ 262144) where
       not-all : length s < 4 + beAt s 0 → SplitsAs s
-      unfolding splitOf payloadOf number so
+      unfolding splitOf framePayload number so
       not-all k =
           more
           (rw (← number-there s 0 h, le-leb (beAt s 0) 262144 l, lt-leb (4 + beAt s 0) (length s) k))
           (rw (← number-there s 0 h, le-leb (beAt s 0) 262144 l, lt-leb (4 + beAt s 0) (length s) k))
 
       all : 4 + beAt s 0 ≤ length s → SplitsAs s
-      unfolding splitOf payloadOf number so
+      unfolding splitOf framePayload number so
       all k =
           framed (beAt s 0)
           (rw (← number-there s 0 h, le-leb (beAt s 0) 262144 l, le-leb (4 + beAt s 0) (length s) k))

@@ -10,13 +10,14 @@ use mathlib.Core.List.{List}
 use borrow.Author.Tests.{leb-true}
 use lib.ListN.{length, getD}
 use lib.Dec.{leb, ltb, eqb}
+use Rattle.wire.specs.Numbers.{within}
 use Rattle.wire.specs.Steps.{so}
 use Rattle.wire.specs.Read.{cutOf, same, stringAt, numberAt}
 use Rattle.wire.proofs.Reading.{le-or-lt, cut-past, cut-back, string-read}
 use Rattle.keys.specs.Additions.{additionAt}
 use Rattle.rule.specs.declared.Millis.{Millis}
 use Rattle.rule.specs.Gateway.{Gateway, locked, opened, advance, seek, holds, placeFor, withEntry}
-use Rattle.rule.specs.Soundness.{lastNumber, within, sound}
+use Rattle.rule.specs.Soundness.{lastNumber, sound}
 use Rattle.rule.specs.Rule.{Question, gate, check, confirmation, signature, Answer, Landing, reply, close, SUCCESS, Plan, land, ask, fails, listing, removing, removingAll, locking, unlocking, hashOf, signed, signingData, numberIn, confirmIn, confirming, signing, entryOf, storing, adding, gated, row, table, rule}
 use Rattle.rule.specs.Calls as rule
 use Rattle.rule.specs.Calls.{lent, lentLength, Call, refused, asks, lands, follow, served, refusalOf, refusal, call}

@@ -7,7 +7,7 @@ use lib.Dec.{eqb}
 use Rattle.wire.specs.declared.Split.{Split}
 use Rattle.wire.specs.declared.Split.the-variants.{MoreNeeded, TooLong, Frame}
 use Rattle.wire.specs.Steps.{so}
-use Rattle.wire.specs.Frames.{splitOf, payloadOf}
+use Rattle.wire.specs.Frames.{splitOf, framePayload}
 use Rattle.server.specs.declared.Said.{Said}
 use Rattle.server.specs.declared.Said.the-variants as said
 use Rattle.server.specs.declared.Confirmed.{Confirmed}
@@ -70,4 +70,4 @@ splitAs TooLong n = record { kind = 1; from = 0; to = 0 }
 splitAs Frame n = record { kind = 2; from = 4; to = 4 + n }
 
 unfoldable pub flatSplit : List ℕ → FlatSplit
-flatSplit s = splitAs (splitOf s) (length (payloadOf s))
+flatSplit s = splitAs (splitOf s) (length (framePayload s))

@@ -9,7 +9,7 @@ use Rattle.wire.specs.declared.Split.{Split}
 use Rattle.wire.specs.declared.Split.the-variants.{MoreNeeded, TooLong, Frame}
 use Rattle.wire.specs.Steps.{so}
 use Rattle.wire.specs.Read.{cutOf}
-use Rattle.wire.specs.Frames.{splitOf, payloadOf}
+use Rattle.wire.specs.Frames.{splitOf, framePayload}
 use Rattle.wire.specs.Promises.{OneToOne}
 use Rattle.rule.specs.declared.Millis.{Millis}
 use Rattle.table.specs.declared.State.{State}
@@ -136,7 +136,7 @@ SplitsApart = OneToOne Split ℕ splitNumber
 -- the split's number, and a part of s that is its payload and nothing else
 pub record SplitsAs (s : List ℕ) : Type 0 where
   pub kind : flatSplit s .kind ≡ splitNumber (splitOf s)
-  pub payload : cutOf s (flatSplit s .from) (flatSplit s .to) ≡ payloadOf s
+  pub payload : cutOf s (flatSplit s .from) (flatSplit s .to) ≡ framePayload s
   pub ordered : flatSplit s .from ≤ flatSplit s .to
   pub within : flatSplit s .to ≤ length s
 

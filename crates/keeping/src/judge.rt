@@ -6,7 +6,7 @@ use crate::steps::Task;
 use crate::steps::Tasked;
 use crate::steps::read_task;
 use report::sections::Ran;
-use report::sections::outcome;
+use report::sections::ran_as;
 use table::State;
 use table::bytes::wipe;
 use table::fresh;
@@ -114,7 +114,7 @@ pub fn judge(s: &[u8], c: Cursor, state: State, store: &mut [u8]) -> Judged {
     let done = take(s, t, state, store);
     let after = done.state;
     Judged {
-        ran: outcome(done.answer == t.want as u64, next),
+        ran: ran_as(done.answer == t.want as u64, next),
         state: after,
     }
 }

@@ -19,7 +19,7 @@ use Rattle.wire.specs.declared.read.Cursor.{Cursor}
 use Rattle.wire.specs.declared.read.Number.{Number}
 use Rattle.wire.specs.Numbers.{be, be32, beAt, Bytes}
 use Rattle.wire.specs.Read.{numberAt}
-use Rattle.wire.proofs.Reading.{number-read, number-fault, number-cut}
+use Rattle.wire.proofs.Reading.{number-read, number-short, number-cut}
 use Rattle.wire.proofs.Format.{four, be-of-be32, be32-of-be}
 use Rattle.keys.specs.declared.constraints.Lifetime.{Lifetime}
 use Rattle.keys.specs.declared.constraints.Lifetime.the-variants.{Forever, For}
@@ -71,7 +71,7 @@ module _ (s : List ℕ) (at : ℕ) (l : Lifetime) (c : Bool) (w : Walk) (e : wal
         -- a fault of the seconds is where they begin
         pub cut : (place : ℕ) → n ≡ Number.Fault place → Cut place ≡ w
         cut place g =
-            let past = number-fault s (at + 1) place (sym f ∙ g) in
+            let past = number-short s (at + 1) place (sym f ∙ g) in
             let there = number-cut s (at + 1) past in
             let p : place ≡ at + 1 = cc in
             ap Cut p ∙ sym (short (at + 1) (drop (at + 1) s) c (simp length-drop (omega arith))) ∙ at-seconds k

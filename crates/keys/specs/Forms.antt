@@ -1,6 +1,6 @@
 -- Key fields as the draft lays them out (draft-ietf-sshm-ssh-agent, "Adding keys to the agent"), each beside the public blob of that key
 -- (RFC 4253, section 6.6; RFC 5656, section 3.1; RFC 8709, section 4), and constraints.
-use Prim.Native.Nat.{ℕ, suc, _^_, _≤_, _<_}
+use Prim.Native.Nat.{ℕ, _^_, _<_}
 use mathlib.Core.Path.{_≡_}
 use mathlib.Core.List.{List, [], _∷_, _++_}
 use mathlib.Core.Bool.{Bool, true}
@@ -8,7 +8,7 @@ use lib.ListN.{length}
 use Rattle.wire.specs.declared.Seconds.{Seconds}
 use Rattle.wire.specs.declared.Constraint.{Constraint}
 use Rattle.wire.specs.declared.Constraint.the-variants.{KeyLifetime, Confirm}
-use Rattle.wire.specs.Numbers.{Bytes, be32}
+use Rattle.wire.specs.Numbers.{be32}
 use Rattle.wire.specs.Texts.{bytes}
 use Rattle.wire.specs.Mpint.{Shortest}
 use Rattle.wire.specs.Write.{string}

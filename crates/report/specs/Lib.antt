@@ -1,2 +1,3 @@
+-- The definitions that contracts cite.
 pub mod Parts
 pub mod Sections

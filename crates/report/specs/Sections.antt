@@ -13,8 +13,8 @@ use Rattle.report.specs.declared.sections.Section.{Section}
 use Rattle.report.specs.declared.sections.Step.{Step}
 use Rattle.report.specs.declared.sections.Step.the-variants.{Record, End}
 
-unfoldable pub outcomeOf : Bool → Cursor → Ran
-outcomeOf agrees k = so (Differs k) agrees (Agrees k)
+unfoldable pub ranAs : Bool → Cursor → Ran
+ranAs agrees k = so (Differs k) agrees (Agrees k)
 
 -- a section: kind, name, base, and the number of its records
 unfoldable pub sectionAt : List ℕ → ℕ → Step

@@ -10,7 +10,7 @@ use wire::read::Part;
 use wire::read::cut;
 ghost use mathlib.Core.Path.{_≡_};
 ghost use Rattle.report.specs.declared.sections.Step.the-variants.{End};
-ghost use Rattle.report.specs.Sections.{outcomeOf, sectionAt, firstAt, movedOf, afterOf, nextOf};
+ghost use Rattle.report.specs.Sections.{ranAs, sectionAt, firstAt, movedOf, afterOf, nextOf};
 
 // What became of a record, with the place behind it.
 pub enum Ran {
@@ -35,8 +35,8 @@ pub enum Step {
     End,
 }
 
-pub fn outcome(agrees: bool, next: Cursor) -> Ran
-    ensures { λ r. ⌜ r ≡ outcomeOf agrees next ⌝ }
+pub fn ran_as(agrees: bool, next: Cursor) -> Ran
+    ensures { λ r. ⌜ r ≡ ranAs agrees next ⌝ }
 {
     if agrees {
         Ran::Agrees(next)

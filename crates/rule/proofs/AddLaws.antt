@@ -10,7 +10,7 @@ use borrow.Author.Tests.{le-leb, leb-true, lt-ltb}
 use lib.Dec.{leb}
 use lib.ListN.{length}
 use lib.Seq.{getD-set-same, getD-set-other}
-use Rattle.wire.specs.Numbers.{Bytes}
+use Rattle.wire.specs.Numbers.{Bytes, within}
 use Rattle.wire.specs.Read.{cutOf}
 use Rattle.wire.specs.Steps.{so}
 use Rattle.keys.specs.declared.kinds.Places.{Places}
@@ -22,7 +22,6 @@ use Rattle.keys.specs.Forms.{ed25519-key, ecdsa-key, rsa-key, KeyFields, as-ed2
 use Rattle.rule.specs.declared.Found.{Found}
 use Rattle.rule.specs.declared.Found.the-variants.{At, Nothing}
 use Rattle.rule.specs.Gateway.{Entry, Place, Gateway, locked, atClock, advance, seek, holds, isFree, found, placeFor, withEntry}
-use Rattle.rule.specs.Soundness.{within}
 use Rattle.rule.specs.Rule.{Question, gate, check, Answer, SUCCESS, added, entryOf, storing, adding}
 use Rattle.rule.specs.Calls.{lent, Call, Outcome, asks, lands, Result, follow, call}
 use Rattle.rule.specs.Order.{Begins}

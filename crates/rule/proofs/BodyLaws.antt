@@ -9,6 +9,7 @@ use mathlib.Core.List.{List, []}
 use borrow.Author.Tests.{ltb-true}
 use lib.ListN.{length}
 use lib.Dec.{leb, ltb}
+use Rattle.wire.specs.Numbers.{within}
 use Rattle.wire.specs.declared.read.Cursor.{Cursor}
 use Rattle.wire.specs.declared.read.Number.{Number}
 use Rattle.wire.specs.declared.read.Part.{Part}
@@ -20,7 +21,7 @@ use Rattle.keys.specs.declared.addition.Addition.{Addition}
 use Rattle.keys.specs.Additions.{additionAt}
 use Rattle.rule.specs.declared.Found.the-variants.{Nothing}
 use Rattle.rule.specs.Gateway.{Entry, Gateway, seek, holds, placeFor, withLock, without, withEntry}
-use Rattle.rule.specs.Soundness.{lastNumber, within}
+use Rattle.rule.specs.Soundness.{lastNumber}
 use Rattle.rule.specs.Rule.{Question, gate, check, confirmation, signature, Answer, Landing, reply, close, FAILURE, SUCCESS, Plan, land, fails, closes, listing, removing, removingAll, locking, unlocking, hashOf, signatureReply, signed, signingData, confirming, signing, entryOf, storing, adding}
 use Rattle.rule.specs.Calls.{lent, Call, asks, lands, Result, follow, call}
 use Rattle.rule.specs.Order.{Begins, Carries}

@@ -1,18 +1,18 @@
 -- Laws of the clock: to advance twice is to advance to the greater reading.
-use Prim.Native.Nat.{ℕ, _≤_, _-_, _*_, max}
+use Prim.Native.Nat.{ℕ, _≤_, _-_, max}
 use native.Mathlib.Omega.{arith}
-use mathlib.Core.Path.{_≡_, refl, ap, sym, _∙_}
-use mathlib.Core.Bool.{Bool, true, false}
-use mathlib.Core.Option.{Option, none, some}
+use mathlib.Core.Path.{_≡_, refl, ap, _∙_}
+use mathlib.Core.Bool.{true}
+use mathlib.Core.Option.{none, some}
 use mathlib.Core.List.{List, [], _∷_, map}
 use borrow.Author.Tests.{le-leb, leb-true}
 use Rattle.wire.specs.Steps.{so}
 use Rattle.keys.specs.declared.constraints.Lifetime.{Lifetime}
 use Rattle.keys.specs.declared.constraints.Lifetime.the-variants.{Forever, For}
-use Rattle.rule.specs.Gateway.{Entry, Place, Gateway, millisOf, dueAt, lasting, atClock, advance}
+use Rattle.rule.specs.Gateway.{Place, Gateway, millisOf, dueAt, lasting, atClock, advance}
 use Rattle.rule.proofs.Cases.{so-cases}
 
-pub due-later : (c d reading : ℕ) (l : Lifetime) → c ≤ d → dueAt c reading l ≡ true → dueAt d reading l ≡ true
+due-later : (c d reading : ℕ) (l : Lifetime) → c ≤ d → dueAt c reading l ≡ true → dueAt d reading l ≡ true
 unfolding dueAt
 due-later c d reading Forever h e = e
 due-later c d reading (For seconds) h e =
@@ -20,17 +20,17 @@ due-later c d reading (For seconds) h e =
     let r : millisOf seconds ≤ d - reading = omega arith in
     le-leb _ _ r
 
-pub lasting-later : (c d : ℕ) → c ≤ d → (p : Place) → lasting d (lasting c p) ≡ lasting d p
+lasting-later : (c d : ℕ) → c ≤ d → (p : Place) → lasting d (lasting c p) ≡ lasting d p
 unfolding lasting so
 lasting-later c d h none = refl
 lasting-later c d h (some e) =
     so-cases (λ p. lasting d p ≡ lasting d (some e)) (dueAt c (e .reading) (e .lifetime)) (λ t. rw (due-later c d (e .reading) (e .lifetime) h t)) (λ t. refl)
 
-pub all-lasting-later : (c d : ℕ) → c ≤ d → (ps : List Place) → map (lasting d) (map (lasting c) ps) ≡ map (lasting d) ps
+all-lasting-later : (c d : ℕ) → c ≤ d → (ps : List Place) → map (lasting d) (map (lasting c) ps) ≡ map (lasting d) ps
 all-lasting-later c d h [] = refl
 all-lasting-later c d h (p ∷ ps) = λ i. lasting-later c d h p i ∷ all-lasting-later c d h ps i
 
-pub at-clock-later : (c d : ℕ) (g : Gateway) → c ≤ d → atClock d (atClock c g) ≡ atClock d g
+at-clock-later : (c d : ℕ) (g : Gateway) → c ≤ d → atClock d (atClock c g) ≡ atClock d g
 unfolding atClock
 at-clock-later c d g h = λ i. record { places = all-lasting-later c d h (g .places) i; lock = g .lock; clock = d; next = g .next }
 

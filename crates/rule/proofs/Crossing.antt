@@ -21,7 +21,7 @@ abbrev pub landingResult : Landed → Result
 landingResult l = record { outcome = lands (l .landing); gateway = l .gateway }
 
 -- with lent answers a plan comes to a question, or lands as it does alone with an oracle that gives those answers
-pub follow-cases : (answer : (q : Question) → Option (Answer q)) (oracle : Oracle) → Agrees answer oracle → (g : Gateway) (P : Result → Type 0) (plan : Plan)
+follow-cases : (answer : (q : Question) → Option (Answer q)) (oracle : Oracle) → Agrees answer oracle → (g : Gateway) (P : Result → Type 0) (plan : Plan)
     → ((q : Question) → Needs answer plan q → P (record { outcome = asks q; gateway = g })) → P (landingResult (alone oracle plan))
     → P (follow answer g plan)
 unfolding follow alone
@@ -74,7 +74,7 @@ pub together : (m : ℕ) (g : Gateway) → m ≤ g .clock → Together false m g
 unfolding settled
 together m g h = record { same = refl; behind = h }
 
-pub together-advanced : (b : Bool) (m r : ℕ) (g h : Gateway) → Together b m g h → advance r g ≡ advance (max m r) h
+together-advanced : (b : Bool) (m r : ℕ) (g h : Gateway) → Together b m g h → advance r g ≡ advance (max m r) h
 unfolding settled
 together-advanced false m r g h t = sym (advance-heard m r g (t .behind)) ∙ ap (advance (max m r)) (t .same)
 together-advanced true m r g h t = ap (advance r) (t .same) ∙ advance-advance m r h

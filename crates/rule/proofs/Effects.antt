@@ -1,23 +1,23 @@
 -- What a landing may do to the gateway: one fact over all of 01's table, from which the others follow.
 use Prim.Native.Nat.{ℕ, _-_, _≤_, _<_, zero-le}
 use native.Mathlib.Omega.{arith}
-use mathlib.Core.Path.{_≡_, refl, sym, ap, _∙_}
+use mathlib.Core.Path.{_≡_, refl, ap}
 use mathlib.Core.Bool.{Bool, true, false}
 use mathlib.Core.Option.{Option, none, some}
 use mathlib.Core.List.{List, []}
 use borrow.Author.Tests.{leb-true, ltb-true}
 use lib.ListN.{length, getD}
 use lib.Dec.{leb, ltb, eqb}
-use Rattle.wire.specs.Steps.{so}
+use Rattle.wire.specs.Numbers.{within}
 use Rattle.wire.specs.Read.{cutOf, same, stringAt, numberAt}
 use Rattle.wire.proofs.Reading.{string-read}
 use Rattle.wire.proofs.Format.{part-length}
 use Rattle.keys.specs.Additions.{additionAt}
 use Rattle.rule.specs.declared.Found.the-variants.{At}
-use Rattle.rule.specs.Gateway.{Entry, Place, Gateway, locked, opened, seek, holds, placeFor, withLock, without, withoutAll, withEntry}
-use Rattle.rule.specs.Soundness.{lastNumber, within}
-use Rattle.rule.specs.Rule.{Landing, FAILURE, SUCCESS, Plan, land, ask, signature, fails, listing, removing, removingAll, locking, unlocking, hashOf, signed, signingData, numberIn, confirmIn, confirming, signing, entryOf, storing, adding, gated, row, table, rule}
-use Rattle.rule.proofs.Cases.{so-cases, part-cases, number-cases, found-cases, added-cases, given-cases, and-left, and-right}
+use Rattle.rule.specs.Gateway.{Entry, Gateway, locked, opened, seek, holds, placeFor, withLock, without, withoutAll, withEntry}
+use Rattle.rule.specs.Soundness.{lastNumber}
+use Rattle.rule.specs.Rule.{Landing, FAILURE, SUCCESS, Plan, listing, removing, removingAll, locking, unlocking, signed, signingData, numberIn, confirmIn, confirming, signing, entryOf, storing, adding, gated, row, table, rule}
+use Rattle.rule.proofs.Cases.{so-cases, part-cases, number-cases, found-cases, added-cases}
 use Rattle.rule.proofs.Plans.{EveryLanding}
 
 -- an entry that may be stored, at a place for it

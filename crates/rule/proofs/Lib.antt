@@ -1,3 +1,4 @@
+-- The laws that the proofs of functions cite, and the proofs of what is promised.
 pub mod Cases
 pub mod Clock
 pub mod Plans

@@ -26,7 +26,7 @@ abbrev pub EveryAsk : (Question → Type 0) → Plan → Type 0
 EveryAsk A (land l after) = Unit {0}
 EveryAsk A (ask q onwards) = A q × ((a : Answer q) → EveryAsk A (onwards a))
 
-pub needs-has : (A : Question → Type 0) {answer : (q : Question) → Option (Answer q)} {plan : Plan} {q : Question} → Needs answer plan q → EveryAsk A plan → A q
+needs-has : (A : Question → Type 0) {answer : (q : Question) → Option (Answer q)} {plan : Plan} {q : Question} → Needs answer plan q → EveryAsk A plan → A q
 needs-has A (here q onwards) h = h .0
 needs-has A (behind p onwards a q e n) h = needs-has A n (h .1 a)
 

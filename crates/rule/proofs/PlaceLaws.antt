@@ -28,7 +28,7 @@ same-entry p = cc
 abbrev pub Holds : List Place → ℕ → Entry → Type 0
 Holds ps i e = getD ps i none ≡ some e
 
-pub holds-within : (ps : List Place) (i : ℕ) (e : Entry) → Holds ps i e → i < length ps
+holds-within : (ps : List Place) (i : ℕ) (e : Entry) → Holds ps i e → i < length ps
 holds-within [] i e h = absurd (some-not-none (sym h))
 holds-within (p ∷ ps) zero e h = omega arith
 holds-within (p ∷ ps) (suc i) e h = let r = holds-within ps i e h in omega arith
@@ -53,7 +53,7 @@ every-imp P Q f ps all = every-of Q ps (λ i e h. f e (every-at P ps all i e h))
 
 -- ## Distinct entries
 
-pub apart-sym : {e x : Entry} → Apart e x → Apart x e
+apart-sym : {e x : Entry} → Apart e x → Apart x e
 apart-sym a = record { blobs = λ p. a .blobs (sym p); numbers = λ p. a .numbers (sym p) }
 
 pub distinct-at : (ps : List Place) → Distinct ps → (i j : ℕ) (e x : Entry) → i ≢ j → Holds ps i e → Holds ps j x → Apart e x
@@ -66,26 +66,13 @@ distinct-at (some y ∷ ps) d zero (suc j) e x n h k = rw (same-entry h) at (eve
 distinct-at (some y ∷ ps) d (suc i) zero e x n h k = apart-sym (rw (same-entry k) at (every-at (Apart y) ps (d .0) i e h))
 distinct-at (some y ∷ ps) d (suc i) (suc j) e x n h k = distinct-at ps (d .1) i j e x (λ p. n (ap suc p)) h k
 
-pub distinct-of : (ps : List Place) → ((i j : ℕ) (e x : Entry) → i ≢ j → Holds ps i e → Holds ps j x → Apart e x) → Distinct ps
+distinct-of : (ps : List Place) → ((i j : ℕ) (e x : Entry) → i ≢ j → Holds ps i e → Holds ps j x → Apart e x) → Distinct ps
 distinct-of [] f = tt
 distinct-of (none ∷ ps) f = distinct-of ps (λ i j e x n. f (suc i) (suc j) e x (λ p. n (omega arith)))
 distinct-of (some y ∷ ps) f = (
   every-of (Apart y) ps (λ j x k. f 0 (suc j) y x (λ p. omega arith) refl k),
   distinct-of ps (λ i j e x n. f (suc i) (suc j) e x (λ p. n (omega arith))),
 )
-
--- equal blobs, or equal numbers, stand at one place
-pub one-place : (ps : List Place) → Distinct ps → (i j : ℕ) (e x : Entry) → Holds ps i e → Holds ps j x
-    → (e .blob ≡ x .blob) ⊎ (e .number ≡ x .number) → i ≡ j
-one-place ps d i j e x h k s = by-place (eqb i j) refl
-  where
-    not-apart : Apart e x → (e .blob ≡ x .blob) ⊎ (e .number ≡ x .number) → ⊥
-    not-apart a (inl p) = a .blobs p
-    not-apart a (inr p) = a .numbers p
-
-    by-place : (b : Bool) → eqb i j ≡ b → i ≡ j
-    by-place true t = eqb-true i j t
-    by-place false t = absurd (not-apart (distinct-at ps d i j e x (eqb-false i j t) h k) s)
 
 -- ## Fewer entries: each stands where it stood
 
@@ -108,7 +95,7 @@ getD-map f free [] i = sym free
 getD-map f free (p ∷ ps) zero = refl
 getD-map f free (p ∷ ps) (suc i) = getD-map f free ps i
 
-pub frees-kept : (f : Place → Place) → Frees f → (p : Place) (e : Entry) → f p ≡ some e → p ≡ some e
+frees-kept : (f : Place → Place) → Frees f → (p : Place) (e : Entry) → f p ≡ some e → p ≡ some e
 frees-kept f frees none e h = absurd (some-not-none (sym h ∙ frees .free))
 frees-kept f frees (some x) e h = by-taken (frees .taken x)
   where
@@ -139,7 +126,7 @@ pub data AfterSet (ps : List Place) (i : ℕ) (p : Place) (j : ℕ) (x : Entry) 
   put : j ≡ i → p ≡ some x → AfterSet ps i p j x
   kept : j ≢ i → Holds ps j x → AfterSet ps i p j x
 
-pub set-holds : (ps : List Place) (i : ℕ) (p : Place) (j : ℕ) (x : Entry) → Holds (set ps i p) j x → AfterSet ps i p j x
+set-holds : (ps : List Place) (i : ℕ) (p : Place) (j : ℕ) (x : Entry) → Holds (set ps i p) j x → AfterSet ps i p j x
 set-holds ps i p j x h = by-place (eqb j i) refl
   where
     by-place : (b : Bool) → eqb j i ≡ b → AfterSet ps i p j x
@@ -192,10 +179,10 @@ pub record First (test : Place → Bool) (ps : List Place) (i : ℕ) : Type 0 wh
 abbrev pub NonePasses : (Place → Bool) → List Place → Type 0
 NonePasses test ps = (j : ℕ) → j < length ps → test (getD ps j none) ≡ false
 
-pub at-not-nothing : {i : ℕ} → At i ≡ Nothing → ⊥
+at-not-nothing : {i : ℕ} → At i ≡ Nothing → ⊥
 at-not-nothing e = let z : _≡_ {A = ℕ} 0 1 = cc in omega arith
 
-pub same-place : {i j : ℕ} → At i ≡ At j → i ≡ j
+same-place : {i j : ℕ} → At i ≡ At j → i ≡ j
 same-place e = cc
 
 module _ (test : Place → Bool) where
@@ -255,7 +242,7 @@ pub record FoundAt (blob : List ℕ) (ps : List Place) (i : ℕ) : Type 0 where
   pub there : Holds ps i entry
   pub is : entry .blob ≡ blob
 
-pub holds-true : (blob : List ℕ) (p : Place) → holds blob p ≡ true → (e : Entry) × (p ≡ some e) × (e .blob ≡ blob)
+holds-true : (blob : List ℕ) (p : Place) → holds blob p ≡ true → (e : Entry) × (p ≡ some e) × (e .blob ≡ blob)
 holds-true blob none t = absurd (true-not-false (sym t))
 holds-true blob (some e) t = (e, refl, same-rule (e .blob) blob .0 t)
 

@@ -1,11 +1,11 @@
 -- Facts on plans: what every landing of a plan has, each landing of a call has.
 use Prim.Native.Nat.{ℕ}
 use native.Mathlib.Omega.{arith}
-use mathlib.Core.Path.{_≡_, refl}
-use mathlib.Core.Option.{Option, none, some}
+use mathlib.Core.Path.{_≡_}
+use mathlib.Core.Option.{Option}
 use Rattle.rule.specs.Gateway.{Gateway, advance}
 use Rattle.rule.specs.Rule.{Question, Answer, Landing, Plan, land, ask, rule}
-use Rattle.rule.specs.Calls.{lent, Call, refusal, Outcome, refused, asks, lands, Result, follow, served, call}
+use Rattle.rule.specs.Calls.{lent, Call, refusal, refused, asks, lands, Result, follow, served, call}
 use Rattle.rule.specs.Runs.{Oracle, alone}
 use Rattle.rule.proofs.Cases.{given-cases}
 

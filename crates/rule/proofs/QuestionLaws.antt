@@ -7,11 +7,12 @@ use mathlib.Core.Option.{Option, none, some}
 use mathlib.Core.List.{List}
 use lib.ListN.{length, getD}
 use lib.Dec.{leb, ltb, eqb}
+use Rattle.wire.specs.Numbers.{within}
 use Rattle.wire.specs.Read.{cutOf, same, stringAt, numberAt}
 use Rattle.wire.specs.Steps.{so}
 use Rattle.keys.specs.Additions.{additionAt}
 use Rattle.rule.specs.Gateway.{Gateway, locked, opened, advance, seek, holds, placeFor}
-use Rattle.rule.specs.Soundness.{lastNumber, within}
+use Rattle.rule.specs.Soundness.{lastNumber}
 use Rattle.rule.specs.Rule.{Question, gate, check, confirmation, signature, Answer, Landing, Plan, land, ask, fails, listing, removing, removingAll, locking, unlocking, hashOf, signed, signingData, numberIn, confirmIn, confirming, signing, entryOf, storing, adding, gated, row, table, rule}
 use Rattle.rule.specs.Calls.{given, lent, asks, Result, follow, served, refusal, call}
 use Rattle.rule.specs.Runs.{Oracle}
@@ -123,7 +124,7 @@ module _ (lent : (q : Question) → Option (Answer q)) (g : Gateway) (q : Questi
       (λ a given e. let (needed, unlent) = asked-needed (onwards a) e in (behind p onwards a q given needed, unlent))
 
 -- and what is needed and not lent is asked
-pub needed-asked : {lent : (q : Question) → Option (Answer q)} (g : Gateway) {plan : Plan} {q : Question}
+needed-asked : {lent : (q : Question) → Option (Answer q)} (g : Gateway) {plan : Plan} {q : Question}
     → Needs lent plan q → lent q ≡ none → follow lent g plan .outcome ≡ asks q
 unfolding follow
 needed-asked g (here q onwards) unlent = rw unlent

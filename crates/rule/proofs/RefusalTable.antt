@@ -1,6 +1,6 @@
 -- The refusals in their order: each test decides once those before it have passed.
-use Prim.Native.Nat.{ℕ, _≤_, _<_}
-use mathlib.Core.Path.{_≡_, refl, sym, _∙_}
+use Prim.Native.Nat.{ℕ, _≤_}
+use mathlib.Core.Path.{_≡_, refl}
 use mathlib.Core.Bool.{Bool, true, false}
 use mathlib.Core.Option.{Option, none, some}
 use mathlib.Core.List.{List}
@@ -10,8 +10,8 @@ use lib.ListN.{length}
 use Rattle.wire.specs.Steps.{so}
 use Rattle.rule.specs.Gateway.{Gateway}
 use Rattle.rule.specs.Soundness.{Sound, sound}
-use Rattle.rule.specs.Calls.{Numbered, lentLength, refusalOf, Call, refusal}
-use Rattle.rule.specs.Content.{RefusalTable, RefusalRule}
+use Rattle.rule.specs.Calls.{Numbered, lentLength, refusalOf, refusal}
+use Rattle.rule.specs.Content.{RefusalRule}
 use Rattle.rule.proofs.SoundLaws.{sound-rule}
 
 not-sound : (g : Gateway) → (Sound g → ⊥) → sound g ≡ false

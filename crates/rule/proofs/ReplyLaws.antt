@@ -7,13 +7,14 @@ use mathlib.Core.Option.{Option, none, some}
 use mathlib.Core.List.{List, [], _∷_}
 use lib.ListN.{length, getD, length-append}
 use lib.Dec.{leb, ltb, eqb}
+use Rattle.wire.specs.Numbers.{within}
 use Rattle.wire.specs.Read.{cutOf, same, stringAt, numberAt}
 use Rattle.wire.specs.Steps.{so}
 use Rattle.wire.specs.Write.{string}
 use Rattle.keys.specs.Additions.{additionAt}
 use Rattle.rule.specs.declared.Hash.{Hash}
 use Rattle.rule.specs.Gateway.{Place, Gateway, locked, opened, advance, seek, holds, placeFor, withEntry}
-use Rattle.rule.specs.Soundness.{lastNumber, EveryEntry, SoundEntry, Sound, within}
+use Rattle.rule.specs.Soundness.{lastNumber, EveryEntry, SoundEntry, Sound}
 use Rattle.rule.specs.Rule.{Question, gate, check, confirmation, signature, Answer, Landing, reply, close, FAILURE, SUCCESS, Plan, land, ask, fails, closes, live, items, listed, listing, removing, removingAll, locking, unlocking, hashOf, signatureReply, signed, signingData, numberIn, confirmIn, confirming, signing, entryOf, storing, adding, gated, row, table, rule}
 use Rattle.rule.specs.Calls.{given, Numbered, forNumber, lent, lentLength, Call, lands, Result, follow, served, refusal, call}
 use Rattle.rule.specs.Order.{RepliesFit}

@@ -36,13 +36,13 @@ use Rattle.rule.proofs.Cases.{part-cases}
 
 -- ## A payload and its first byte
 
-pub first-shape : {byte : ℕ} {payload : List ℕ} → Begins byte payload → payload ≡ byte ∷ drop 1 payload
+first-shape : {byte : ℕ} {payload : List ℕ} → Begins byte payload → payload ≡ byte ∷ drop 1 payload
 first-shape {byte} {payload} b = drop-cons payload 0 0 (b .some-byte) ∙ ap (λ (n : ℕ). n ∷ drop 1 payload) (b .first)
 
-pub shape-first : {byte : ℕ} {payload rest : List ℕ} → payload ≡ byte ∷ rest → Begins byte payload
+shape-first : {byte : ℕ} {payload rest : List ℕ} → payload ≡ byte ∷ rest → Begins byte payload
 shape-first {byte} {payload} e = rw e (record { some-byte = omega arith; first = refl })
 
-pub drop-bytes : (at : ℕ) (s : List ℕ) → Bytes s → Bytes (drop at s)
+drop-bytes : (at : ℕ) (s : List ℕ) → Bytes s → Bytes (drop at s)
 drop-bytes at s bytes i = rw (getD-drop at s i 0) (bytes (at + i))
 
 -- a payload carries one string, and one place is behind it

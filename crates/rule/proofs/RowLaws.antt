@@ -21,7 +21,7 @@ use Rattle.rule.proofs.Effects.{success-not-failure}
 pub same-landing : {l m : Landing} → lands l ≡ lands m → l ≡ m
 same-landing e = cc
 
-pub same-question : {p q : Question} → asks p ≡ asks q → p ≡ q
+same-question : {p q : Question} → asks p ≡ asks q → p ≡ q
 same-question e = cc
 
 -- ## The rule by its rows
@@ -42,22 +42,22 @@ abbrev pub fitting : Bool → Gateway → Bool
 fitting false g = opened g
 fitting true g = locked g
 
-pub fitting-fit : (needs : Bool) (g : Gateway) → locked g ≡ needs → fitting needs g ≡ true
+fitting-fit : (needs : Bool) (g : Gateway) → locked g ≡ needs → fitting needs g ≡ true
 fitting-fit false g h = ap not h
 fitting-fit true g h = h
 
-pub fit-fitting : (needs : Bool) (g : Gateway) → fitting needs g ≡ true → locked g ≡ needs
+fit-fitting : (needs : Bool) (g : Gateway) → fitting needs g ≡ true → locked g ≡ needs
 fit-fitting false g h = not-true _ h
 fit-fitting true g h = h
 
-pub unfitting : (needs : Bool) (g : Gateway) → locked g ≢ needs → fitting needs g ≡ false
+unfitting : (needs : Bool) (g : Gateway) → locked g ≢ needs → fitting needs g ≡ false
 unfitting needs g n = by-test (fitting needs g) refl
   where
     by-test : (b : Bool) → fitting needs g ≡ b → b ≡ false
     by-test true t = absurd (n (fit-fitting needs g t))
     by-test false t = refl
 
-pub rule-row : {byte : ℕ} {needs : Bool} {class : ℕ} (r : Row byte needs class) (g : Gateway) (payload : List ℕ) → Begins byte payload
+rule-row : {byte : ℕ} {needs : Bool} {class : ℕ} (r : Row byte needs class) (g : Gateway) (payload : List ℕ) → Begins byte payload
     → rule g payload ≡ gated g (fitting needs g) class (bodyOf r g payload)
 unfolding rule table row so
 rule-row list g payload b = rw (lt-ltb _ _ (b .some-byte), b .first)
@@ -70,7 +70,7 @@ rule-row lock g payload b = rw (lt-ltb _ _ (b .some-byte), b .first)
 rule-row unlock g payload b = rw (lt-ltb _ _ (b .some-byte), b .first)
 
 -- a rule fails at once, or is that of a row
-pub rule-cases : (P : Plan → Type 0) (g : Gateway) (payload : List ℕ) → P (fails g)
+rule-cases : (P : Plan → Type 0) (g : Gateway) (payload : List ℕ) → P (fails g)
     → ((byte : ℕ) (needs : Bool) (class : ℕ) (r : Row byte needs class) → Begins byte payload → P (gated g (fitting needs g) class (bodyOf r g payload)))
     → P (rule g payload)
 unfolding rule table row
@@ -106,7 +106,7 @@ no-row g payload none-begins = rule-cases (λ plan. plan ≡ land FAILURE g) g p
 
 -- ## Past the gate
 
-pub advance-locked : (reading : ℕ) (g : Gateway) → locked (advance reading g) ≡ locked g
+advance-locked : (reading : ℕ) (g : Gateway) → locked (advance reading g) ≡ locked g
 unfolding advance atClock
 advance-locked reading g = refl
 

@@ -9,9 +9,10 @@ use mathlib.Core.List.{List, [], _∷_}
 use borrow.Author.Tests.{leb-true, ltb-true, eqb-true, eqb-false, le-leb, lt-ltb, eq-eqb, ne-eqb}
 use lib.Dec.{leb, ltb, eqb}
 use lib.ListN.{length, length-set, length-map}
+use Rattle.wire.specs.Numbers.{within}
 use Rattle.wire.specs.Read.{same}
 use Rattle.rule.specs.Gateway.{Entry, Place, Gateway, lasting, atClock, advance, withLock, without, withoutAll, withEntry, vacate}
-use Rattle.rule.specs.Soundness.{lastNumber, EveryEntry, Apart, Distinct, SoundEntry, Sound, within, everyEntry, apart, distinct, soundEntry, sound}
+use Rattle.rule.specs.Soundness.{lastNumber, EveryEntry, Apart, Distinct, SoundEntry, Sound, everyEntry, apart, distinct, soundEntry, sound}
 use Rattle.rule.specs.Rule.{Question, Answer, Landing, Plan, land, ask, rule}
 use Rattle.rule.specs.Calls.{lent, Call, refusal, refused, Result, follow, served, call}
 use Rattle.rule.specs.Runs.{endOf}
@@ -174,7 +175,7 @@ sound-entry g e i h s =
       next-last = omega arith;
     }
 
-pub sound-effect : {g after : Gateway} {l : Landing} → Sound g → Effect g l after → Sound after
+sound-effect : {g after : Gateway} {l : Landing} → Sound g → Effect g l after → Sound after
 sound-effect s (leaves e) = rw e s
 sound-effect {g} s (removes blob i _ _ e) =
     rw e (sound-fewer g (without i g) (length-set (g .places) i none) (set-none-fewer (g .places) i) refl (omega arith) refl s)

@@ -1,6 +1,5 @@
 -- 01's starred examples, and soundness at its limits, by computation.
 use mathlib.Core.Path.{refl}
-use native.Mathlib.Omega.{arith}
 use Rattle.wire.specs.Numbers.{beAt}
 use Rattle.wire.specs.Read.{cutOf, same, numberAt, stringAt}
 use Rattle.wire.specs.Steps.{so, part, number}

@@ -1,5 +1,5 @@
 -- The promises of content, as statements, in another form than the rule: over the draft's forms of requests, held entries and the lent answers.
-use Prim.Native.Nat.{ℕ, suc, _+_, _-_, _*_, _%_, _^_, max, _≤_, _<_}
+use Prim.Native.Nat.{ℕ, _+_, _-_, _*_, _%_, _^_, max, _≤_, _<_}
 use mathlib.Core.Path.{_≡_}
 use mathlib.Core.Logic.{_↔_, _⊎_, _≢_}
 use mathlib.Core.Bool.{Bool, true, false}
@@ -19,7 +19,7 @@ use Rattle.rule.specs.declared.Hash.{Hash}
 use Rattle.rule.specs.declared.Hash.the-variants.{Plain, Sha256, Sha512}
 use Rattle.rule.specs.Gateway.{Entry, Place, Gateway, locked, advance}
 use Rattle.rule.specs.Soundness.{Sound}
-use Rattle.rule.specs.Rule.{Question, gate, check, confirmation, signature, Answer, Landing, reply, close, FAILURE, SUCCESS, Plan, land, ask, hashOf, rule}
+use Rattle.rule.specs.Rule.{gate, check, confirmation, signature, Landing, reply, close, FAILURE, SUCCESS, Plan, land, ask, rule}
 use Rattle.rule.specs.Calls.{Numbered, Answers, lent, Call, refusal, asks, lands, call}
 use Rattle.rule.specs.Order.{Begins, Carries}
 

@@ -107,6 +107,17 @@ vacate p = none
 abbrev pub withoutAll : Gateway → Gateway
 withoutAll g = withPlaces (map vacate (g .places)) g
 
+-- the entry of a new key: the next number, the kept clock as reading
+abbrev pub newEntry : Gateway → Lifetime → Bool → List ℕ → List ℕ → Entry
+newEntry g lifetime confirm blob fields = record {
+  number = g .next;
+  reading = g .clock;
+  lifetime = lifetime;
+  confirm = confirm;
+  blob = blob;
+  fields = fields;
+}
+
 -- "stored, next number taken"
 abbrev pub withEntry : ℕ → Entry → Gateway → Gateway
 withEntry i e g = record { places = set (g .places) i (some e); lock = g .lock; clock = g .clock; next = g .next + 1 }

@@ -1,7 +1,7 @@
 -- The promises of order, as statements: demand 3, the time between a lock and an unlock, what each outcome leaves, questions, soundness.
-use Prim.Native.Nat.{ℕ, suc, max, _≤_, _<_}
+use Prim.Native.Nat.{ℕ, suc, _≤_, _<_}
 use mathlib.Core.Path.{_≡_}
-use mathlib.Core.Logic.{_↔_, _⊎_, _≢_}
+use mathlib.Core.Logic.{_↔_, _≢_}
 use mathlib.Core.Bool.{Bool, true, false}
 use mathlib.Core.Option.{Option, none, some}
 use mathlib.Core.List.{List, [], _∷_}

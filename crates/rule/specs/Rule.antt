@@ -5,7 +5,7 @@ use mathlib.Core.Option.{Option, none, some}
 use mathlib.Core.List.{List, [], _∷_, _++_}
 use lib.ListN.{length, getD}
 use lib.Dec.{leb, ltb, eqb}
-use Rattle.wire.specs.Numbers.{be32}
+use Rattle.wire.specs.Numbers.{be32, within}
 use Rattle.wire.specs.Read.{cutOf, same, stringAt, numberAt}
 use Rattle.wire.specs.Steps.{so, part, number}
 use Rattle.wire.specs.Write.{string}
@@ -16,8 +16,8 @@ use Rattle.keys.specs.Kinds.{blobOf}
 use Rattle.keys.specs.Additions.{additionAt}
 use Rattle.rule.specs.declared.Hash.{Hash}
 use Rattle.rule.specs.declared.Hash.the-variants.{Plain, Sha256, Sha512}
-use Rattle.rule.specs.Gateway.{Entry, Place, Gateway, locked, opened, seek, holds, found, placeFor, withLock, without, withoutAll, withEntry}
-use Rattle.rule.specs.Soundness.{lastNumber, within}
+use Rattle.rule.specs.Gateway.{Entry, Place, Gateway, locked, opened, seek, holds, found, placeFor, withLock, without, withoutAll, newEntry, withEntry}
+use Rattle.rule.specs.Soundness.{lastNumber}
 
 -- ## Questions, landings, plans ("One call, six outcomes")
 
@@ -148,14 +148,7 @@ added z (Addition.Fault at) next = z
 
 -- the entry that an add request makes
 abbrev pub entryOf : Gateway → List ℕ → Places → Lifetime → Bool → Entry
-entryOf g payload p lifetime confirm = record {
-  number = g .next;
-  reading = g .clock;
-  lifetime = lifetime;
-  confirm = confirm;
-  blob = blobOf payload 1 p;
-  fields = cutOf payload 1 (p .end);
-}
+entryOf g payload p lifetime confirm = newEntry g lifetime confirm (blobOf payload 1 p) (cutOf payload 1 (p .end))
 
 -- "FAILURE if a length limit is passed, the next insertion number is 2^64-1, or the blob is new and no place is free. Then the key
 -- check; no is FAILURE. Else stored, next number taken, SUCCESS."

@@ -1,6 +1,5 @@
 -- Runs of calls, and the one-at-a-time rule (demand 3).
 use Prim.Native.Nat.{ℕ, max}
-use mathlib.Core.Option.{Option, none, some}
 use mathlib.Core.List.{List, [], _∷_, _++_}
 use Rattle.rule.specs.Gateway.{Gateway, advance}
 use Rattle.rule.specs.Rule.{Question, Answer, Landing, Plan, land, ask, rule}

@@ -1,12 +1,13 @@
 -- 01's soundness, as far as it is not byte layout: as facts, and as the test that refusal 3 makes.
-use Prim.Native.Nat.{ℕ, _≤_, _<_, _^_}
+use Prim.Native.Nat.{ℕ, _≤_, _<_}
 use mathlib.Core.Path.{_≡_}
 use mathlib.Core.Logic.{_≢_}
-use mathlib.Core.Bool.{Bool, true, false, _&&_, not}
-use mathlib.Core.Option.{Option, none, some}
+use mathlib.Core.Bool.{Bool, true, _&&_, not}
+use mathlib.Core.Option.{none, some}
 use mathlib.Core.List.{List, [], _∷_}
 use lib.ListN.{length}
 use lib.Dec.{leb, ltb, eqb}
+use Rattle.wire.specs.Numbers.{within}
 use Rattle.wire.specs.Read.{same}
 use Rattle.rule.specs.Gateway.{Entry, Place, Gateway}
 
@@ -49,9 +50,6 @@ pub record Sound (g : Gateway) : Type 0 where
   pub next-last : g .next ≤ lastNumber
 
 -- ## The test
-
-abbrev pub within : ℕ → ℕ → ℕ → Bool
-within low high n = leb low n && leb n high
 
 unfoldable pub everyEntry : (Entry → Bool) → List Place → Bool
 everyEntry test [] = true

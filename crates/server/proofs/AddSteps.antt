@@ -10,6 +10,7 @@ use borrow.Author.Tests.{le-leb, lt-leb, leb-true, leb-false}
 use lib.Dec.{leb, ltb}
 use lib.ListN.{length, take, drop}
 use lib.Seq.{take-at}
+use Rattle.wire.specs.Numbers.{within}
 use Rattle.wire.specs.Steps.{so}
 use Rattle.wire.specs.Write.{write}
 use Rattle.wire.proofs.Reading.{le-or-lt}
@@ -22,21 +23,21 @@ use Rattle.keys.specs.declared.constraints.Lifetime.{Lifetime}
 use Rattle.keys.specs.Kinds.{blobOf, blobAnswer, blobLeft}
 use Rattle.rule.specs.declared.Found.{Found}
 use Rattle.rule.specs.declared.Found.the-variants.{At}
-use Rattle.rule.specs.Gateway.{Gateway, placeFor}
-use Rattle.rule.specs.Soundness.{lastNumber, within}
+use Rattle.rule.specs.Gateway.{Gateway, placeFor, newEntry}
+use Rattle.rule.specs.Soundness.{lastNumber}
 use Rattle.rule.specs.Rule.{Question, Answer, Plan, ask, check, storing}
 use Rattle.rule.specs.Calls as rule
 use Rattle.rule.specs.Calls.{lent, follow}
 use Rattle.table.specs.declared.State.{State}
 use Rattle.table.specs.Meaning.{gatewayOf}
 use Rattle.table.specs.Soundness.{Sound}
-use Rattle.table.specs.Changes.{newKey, MayPut}
+use Rattle.table.specs.Changes.{MayPut}
 use Rattle.table.specs.Promises.{PlaceForPut}
 use Rattle.server.specs.declared.Said.{Said}
 use Rattle.server.specs.declared.Said.the-variants.{Missing, No, Yes}
 use Rattle.server.specs.declared.Called.{Called}
 use Rattle.server.specs.declared.Outcome.the-variants.{Check}
-use Rattle.server.specs.Outcomes.{heard, code}
+use Rattle.server.specs.Outcomes.{grantOf, code}
 use Rattle.server.specs.Calls.{Ends}
 use Rattle.server.proofs.EndSteps.{ends, added-whole, added-fault, asked, answered, asked-ends}
 
@@ -71,10 +72,10 @@ module _ (s : State) (x : List ℕ) where
 
 -- ## The key check
 
-module _ (a : rule.Answers) (w : Said) (said : a .check ≡ heard w) (buffer : List ℕ) (r : Called) (x out : List ℕ) (from to : ℕ) (F : Bool → Plan) where
-  checker-says : (v : Said) → w ≡ v → lent a (check from to) ≡ heard v
+module _ (a : rule.Answers) (w : Said) (said : a .check ≡ grantOf w) (buffer : List ℕ) (r : Called) (x out : List ℕ) (from to : ℕ) (F : Bool → Plan) where
+  checker-says : (v : Said) → w ≡ v → lent a (check from to) ≡ grantOf v
   unfolding lent
-  checker-says v e = said ∙ ap heard e
+  checker-says v e = said ∙ ap grantOf e
 
   pub checker-asked : (s : State) → w ≡ Missing → r ≡ record { outcome = Check from to; state = s } → out ≡ buffer → Sound s x
       → Ends buffer r x out (follow (lent a) (gatewayOf s x) (ask (check from to) F))
@@ -131,6 +132,6 @@ module _ (s : List ℕ) (at : ℕ) (p : Places) (room : List ℕ) (w : Blob) (an
 
 -- the entry of bytes that calls gave is the entry of what they are
 pub stored-as : (buffer : List ℕ) (r : Called) (x out : List ℕ) (answers : (q : Question) → Option (Answer q)) (g : Gateway) (lifetime : Lifetime) (confirm : Bool) (to : ℕ) (blob fields blob′ fields′ : List ℕ)
-    → blob ≡ blob′ → fields ≡ fields′ → Ends buffer r x out (follow answers g (storing g (newKey g lifetime confirm blob fields) to))
-    → Ends buffer r x out (follow answers g (storing g (newKey g lifetime confirm blob′ fields′) to))
+    → blob ≡ blob′ → fields ≡ fields′ → Ends buffer r x out (follow answers g (storing g (newEntry g lifetime confirm blob fields) to))
+    → Ends buffer r x out (follow answers g (storing g (newEntry g lifetime confirm blob′ fields′) to))
 stored-as buffer r x out answers g lifetime confirm to blob fields blob′ fields′ e f h = rw (← e, ← f) h

@@ -16,7 +16,7 @@ use Rattle.wire.specs.declared.read.Part.the-variants.{Whole}
 use Rattle.wire.specs.Numbers.{be32}
 use Rattle.wire.specs.Read.{cutOf, same}
 use Rattle.wire.specs.Steps.{so, part, number}
-use Rattle.wire.specs.Write.{write}
+use Rattle.wire.specs.Write.{string, write}
 use Rattle.wire.proofs.Reading.{cut-there, cut-past, cut-back, le-or-lt}
 use Rattle.wire.proofs.Writing.{write-behind}
 use Rattle.wire.proofs.Steps.{leb-yes, leb-no, plain, string-order}
@@ -37,7 +37,7 @@ use Rattle.server.specs.declared.Called.{Called}
 use Rattle.server.specs.declared.Outcome.{Outcome}
 use Rattle.server.specs.declared.Outcome.the-variants.{Reply, Close}
 use Rattle.server.specs.Outcomes.{code, written}
-use Rattle.server.specs.Calls.{fiveBytes, Ends}
+use Rattle.server.specs.Calls.{Ends}
 
 -- ## The steps of a plan
 
@@ -120,7 +120,7 @@ asked-ends buffer store o s q e m = record { outcome = e; means = record { gatew
 
 -- the length of one byte, and the byte
 pub five : (o m out : List ℕ) (s : State) (k at n : ℕ) → m ≡ write o 0 (be32 1) → at ≡ 0 + 4 → out ≡ write m at (k ∷ []) → n ≡ at + 1 → 5 ≤ length o
-    → (_≡_ {A = Called} (record { outcome = Reply n; state = s }) (record { outcome = Reply 5; state = s })) × (out ≡ write o 0 (fiveBytes k))
+    → (_≡_ {A = Called} (record { outcome = Reply n; state = s }) (record { outcome = Reply 5; state = s })) × (out ≡ write o 0 (string (k ∷ [])))
 five o m out s k at n e a f l h =
     let five : n ≡ 5 = omega arith in
     (ap (λ (n : ℕ). record { outcome = Reply n; state = s }) five, write-behind o 0 (be32 1) m at (k ∷ []) out e f (omega arith) (omega arith))

@@ -37,7 +37,7 @@ use Rattle.server.specs.declared.Called.{Called}
 use Rattle.server.specs.declared.Outcome.the-variants.{Refused, Reply}
 use Rattle.server.specs.Outcomes.{signatureOf, lentOf, code, written, outcomeOf}
 use Rattle.server.specs.Calls.{Done, laidOut, callOf, Ends}
-use Rattle.server.specs.Runs.{Meets, NoSecondAnswer, Unchanged, CodeRefusalLeaves, Step, stateAfter, storeAfter, MeetsCall, asCall, ended}
+use Rattle.server.specs.Runs.{Meets, NoSecondAnswer, Unchanged, CodeRefusalLeaves, Step, stateAfter, storeAfter, MeetsCall, asCall, outcomeAfter}
 use Rattle.server.specs.Runs.{CodeRefusals, OnlyClock, CodeQuestionLeaves, CodeCloseLeaves, CodeFailureLeaves, CodeReplyLeaves, Fills, CodeReplyBytes, CodeOthersStay}
 use Rattle.server.proofs.OutcomeLaws.{outcomes-read}
 use Rattle.server.proofs.CallLaws.{sound-passed, refusalHere, refuses-1, refuses-2, refuses-3, refuses-4, refuses-5, none-applies}
@@ -127,7 +127,7 @@ module _ (state : State) (store : List ℕ) (S : Sound state store) (k : Step) w
       (step-is state store k m ∙ ap (λ (o : Option ℕ). given o (laidOut (k .buffer) (servedHere state store k)) (refusedDone state store (k .buffer))) same-refusal)
 
 -- a step's outcome and reply say how the rule's call ended
-pub ended-is : (k : Step) (r : Result) → StepEnds k r → ended k ≡ r .outcome
+pub ended-is : (k : Step) (r : Result) → StepEnds k r → outcomeAfter k ≡ r .outcome
 ended-is k r e = rw (e .outcome, e .bytes) (outcomes-read (r .outcome) (k .buffer))
 
 -- ## The refusals in order
@@ -179,7 +179,7 @@ module _ (state : State) (store : List ℕ) (k : Step) (S : Sound state store) (
   ends : StepEnds k ruled
   ends = step-ends state store S k m
 
-  ruled-is : (o : calls.Outcome) → ended k ≡ o → ruled .outcome ≡ o
+  ruled-is : (o : calls.Outcome) → outcomeAfter k ≡ o → ruled .outcome ≡ o
   ruled-is o e = sym (ended-is k ruled ends) ∙ e
 
   only-clock : ruled .gateway ≡ advance (k .reading .count) g → OnlyClock state store k

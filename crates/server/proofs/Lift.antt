@@ -32,7 +32,7 @@ use Rattle.server.specs.declared.Outcome.the-variants.{Refused, Gate, Ch
 use Rattle.server.specs.Outcomes.{outcomeOf}
 use Rattle.server.specs.Runs.{Unchanged}
 use Rattle.server.specs.Runs.{Step, MeetsCall, stateAfter, storeAfter, CodeRun, endState, endStore, EveryStep, asCall, RuleRun, IsARun, CodeIsARun}
-use Rattle.server.specs.Runs.{ended, isAccepted, Accepted, heardAt, heardOver, turnsOver, turnsOf, askedOver, acceptedOver, acceptedSteps}
+use Rattle.server.specs.Runs.{outcomeAfter, isAccepted, Accepted, heardAt, heardOver, turnsOver, turnsOf, askedOver, acceptedOver, acceptedSteps}
 use Rattle.server.specs.Runs.{CodeAsOneAtATime, CodeDemand3, CodeAsLent, CodeRefusedDropOut, NeverFallOver, CodeOwnReadings, CodeOnlyExpiry, CodeWhileLocked, CodeBetweenLockAndUnlock, CodeNeverRefused3, CodePromises}
 use Rattle.server.proofs.Leavings.{no-second-answer, code-refusals, code-refusal-leaves, StepEnds, step-ends, ended-is}
 use Rattle.server.proofs.Leavings.{code-question-leaves, code-close-leaves, code-failure-leaves, code-reply-leaves, code-reply-bytes, code-others-stay}
@@ -70,7 +70,7 @@ accepted-if g c =
     own-cases g c (λ (o : Option ℕ) (r : Result). o ≡ none → isAccepted (r .outcome) ≡ true) (λ n never. absurd (some-not-none never)) (λ q needs _. refl) (λ _. refl)
 
 module _ (k : Step) (g : Gateway) (e : StepEnds k (call g (asCall k))) where
-  accepts-step : {A : Type 0} (z a : A) → so z (isAccepted (ended k)) a ≡ given (refusal g (asCall k)) a λ n. z
+  accepts-step : {A : Type 0} (z a : A) → so z (isAccepted (outcomeAfter k)) a ≡ given (refusal g (asCall k)) a λ n. z
   accepts-step z a = rw (ended-is k (call g (asCall k)) e) (accepts g (asCall k) z a)
 
   heard-is : (m : ℕ) → heardAt m k ≡ heard m g (asCall k)
@@ -139,7 +139,7 @@ drop-out : (ks : List Step) (m : ℕ) (state : State) (store : List ℕ) → Cod
 unfolding acceptedSteps
 drop-out [] m state store run = record { run = tt; same-turns = refl; same-heard = refl; same-state = refl; same-store = refl }
 drop-out (k ∷ ks) m state store run =
-    so-cases (λ xs. Alike m state store xs (k ∷ ks)) (isAccepted (ended k))
+    so-cases (λ xs. Alike m state store xs (k ∷ ks)) (isAccepted (outcomeAfter k))
     (λ _. alike-with m state store k _ ks (run .0) (drop-out ks (heardAt m k) (stateAfter k) (storeAfter k) (run .1)))
     (λ no-step.
     let (n, e) = refused-by-name (k .done .called .outcome) (k .done .reply) no-step in
@@ -169,7 +169,7 @@ never-fall (k ∷ ks) m g run low = (
 )
 
 asked-steps : (P : Call → Question → Type 0) (ks : List Step) (g : Gateway) → RuleRun g ks → EveryQuestion P g (map asCall ks)
-    → EveryStep (λ k. (q : Question) → ended k ≡ asks q → P (asCall k) q) ks
+    → EveryStep (λ k. (q : Question) → outcomeAfter k ≡ asks q → P (asCall k) q) ks
 asked-steps P [] g run all = tt
 asked-steps P (k ∷ ks) g run all = (
   (λ q e. all .0 q (sym (ended-is k (call g (asCall k)) (run .0)) ∙ e)),

@@ -1,14 +1,14 @@
 -- The rows of the first byte: each row of the code is the rule's, since both go by the same tests in the same order.
-use Prim.Native.Nat.{ℕ, _≤_, _<_}
+use Prim.Native.Nat.{ℕ}
 use mathlib.Core.Path.{_≡_, refl, sym, ap, _∙_, subst}
 use mathlib.Core.Bool.{Bool, true, false, not}
-use mathlib.Core.Option.{Option, none, some}
+use mathlib.Core.Option.{Option}
 use mathlib.Core.List.{List}
 use native.Mathlib.Omega.{arith}
 use native.Mathlib.Nat.{pos-of-ne-zero}
 use borrow.Author.Needs.{needs}
 use borrow.Author.Tests.{not-true, not-false}
-use lib.Dec.{ltb, eqb}
+use lib.Dec.{eqb}
 use lib.ListN.{length, getD}
 use Rattle.wire.specs.Steps.{so}
 use Rattle.wire.proofs.Steps.{steps, ltb-yes, ltb-no}
@@ -28,7 +28,7 @@ use Rattle.server.specs.declared.call.Row.{Row}
 use Rattle.server.specs.declared.call.Row.the-variants as rows
 use Rattle.server.specs.declared.Called.{Called}
 use Rattle.server.specs.declared.Outcome.the-variants.{Gate}
-use Rattle.server.specs.Outcomes.{heard, signatureOf, lentOf, code}
+use Rattle.server.specs.Outcomes.{grantOf, signatureOf, lentOf, code}
 use Rattle.server.specs.Calls.{Ends}
 use Rattle.server.specs.Rows.{bySaid, gatedRow, rowOf}
 use Rattle.server.proofs.EndSteps.{asked-ends}
@@ -73,9 +73,9 @@ module _ (a : rule.Answers) (g : Gateway) (p : List ℕ) where
   resultOf rows.Lock = follow (lent a) g (locking g p)
   resultOf rows.Unlock = follow (lent a) g (unlocking g p)
 
-  module _ (s : Said) (says : a .gate ≡ heard s) where
+  module _ (s : Said) (says : a .gate ≡ grantOf s) where
     said-row : (class : ℕ) (body : Plan) (go : Row) → follow (lent a) g body ≡ resultOf go → (v : Said)
-        → given (heard v) (record { outcome = asks (gate class); gateway = g }) (λ granted. follow (lent a) g (so (fails g) granted body)) ≡ resultOf (bySaid v (rows.Asks class) go)
+        → given (grantOf v) (record { outcome = asks (gate class); gateway = g }) (λ granted. follow (lent a) g (so (fails g) granted body)) ≡ resultOf (bySaid v (rows.Asks class) go)
     unfolding so follow bySaid
     said-row class body go e Missing = refl
     said-row class body go e No = refl
@@ -118,7 +118,7 @@ module _ (a : rule.Answers) (g : Gateway) (p : List ℕ) where
 
 -- ## What is served
 
-pub check-lent : (answers : Answers) (bytes : List ℕ) → lentOf answers bytes .check ≡ heard (answers .check)
+pub check-lent : (answers : Answers) (bytes : List ℕ) → lentOf answers bytes .check ≡ grantOf (answers .check)
 unfolding lentOf
 check-lent answers bytes = refl
 
@@ -137,7 +137,7 @@ module _ (s : State) (x p : List ℕ) (answers : Answers) (bytes buffer : List �
   served-empty e h = rw (← ltb-no 0 (length p) (omega arith)) h
 
   module _ (w : Row) (b : Bool) (some-byte : length p ≡ 0 → ⊥) (known : (z : List ℕ) → b ≡ locked (gatewayOf s z)) (by : w ≡ rowOf (getD p 0 0) b (answers .gate)) where
-    says : a .gate ≡ heard (answers .gate)
+    says : a .gate ≡ grantOf (answers .gate)
     unfolding lentOf
     says = refl
 

@@ -24,7 +24,7 @@ use Rattle.server.specs.declared.Said.the-variants.{Missing, No, Yes}
 use Rattle.server.specs.declared.Answers.{Answers}
 use Rattle.server.specs.declared.Called.{Called}
 use Rattle.server.specs.declared.Outcome.the-variants.{Confirm, Sign, Reply}
-use Rattle.server.specs.Outcomes.{heard, confirmationOf, signatureOf, lentOf, handed, code}
+use Rattle.server.specs.Outcomes.{grantOf, confirmationOf, signatureOf, lentOf, handed, code}
 use Rattle.server.specs.Calls.{Ends}
 use Rattle.server.proofs.EndSteps.{ends, so-yes, so-no, landed, asked, answered, replied, asked-ends, means-itself}
 
@@ -93,10 +93,10 @@ module _ (answers : Answers) (bytes : List ℕ) (s : State) (x buffer : List ℕ
   unfolding confirming
   unconfirmed e h = rw (← number) (so-no _ _ _ _ _ _ _ _ _ (sym (not-true b e) ∙ confirm) h)
 
-  module _ (w : Said) (must : not b ≡ false) (says : forNumber n (confirmationOf (answers .confirmation)) ≡ heard w) where
-    confirmer-says : (v : Said) → w ≡ v → lent (lentOf answers bytes) (confirmation n) ≡ heard v
+  module _ (w : Said) (must : not b ≡ false) (says : forNumber n (confirmationOf (answers .confirmation)) ≡ grantOf w) where
+    confirmer-says : (v : Said) → w ≡ v → lent (lentOf answers bytes) (confirmation n) ≡ grantOf v
     unfolding lent lentOf
-    confirmer-says v e = says ∙ ap heard e
+    confirmer-says v e = says ∙ ap grantOf e
 
     confirmer-next : Confirms asking → Confirms here
     unfolding confirming

@@ -1,11 +1,10 @@
 -- What one call gives: outcome, state, and every byte of store and reply buffer.
 use Prim.Native.Nat.{ℕ}
 use mathlib.Core.Path.{_≡_}
-use mathlib.Core.Option.{Option, none, some}
 use mathlib.Core.List.{List, [], _∷_}
 use lib.ListN.{length}
 use Rattle.rule.specs.declared.Millis.{Millis}
-use Rattle.rule.specs.Gateway.{Gateway, advance}
+use Rattle.rule.specs.Gateway.{advance}
 use Rattle.rule.specs.Calls as rule
 use Rattle.rule.specs.Calls.{given, lentLength, refusalOf, served}
 use Rattle.table.specs.declared.State.{State}
@@ -58,7 +57,3 @@ abbrev pub EndsDecides : Type 0
 EndsDecides =
     (buffer : List ℕ) (result : rule.Result) (r s : Called) (x y out other : List ℕ) → Ends buffer r x out result → Ends buffer s y other result
     → (r ≡ s) × (x ≡ y) × (out ≡ other)
-
--- the frame of a payload of one byte
-abbrev pub fiveBytes : ℕ → List ℕ
-fiveBytes kind = 0 ∷ 0 ∷ 0 ∷ 1 ∷ kind ∷ []

@@ -5,6 +5,7 @@ use mathlib.Core.Bool.{Bool, true, false}
 use mathlib.Core.Option.{Option, none, some}
 use mathlib.Core.List.{List, [], _∷_}
 use lib.ListN.{length, take}
+use Rattle.wire.specs.Promises.{OneToOne}
 use Rattle.wire.specs.Write.{write}
 use Rattle.rule.specs.declared.Hash.{Hash}
 use Rattle.rule.specs.declared.Hash.the-variants.{Plain, Sha256, Sha512}
@@ -23,10 +24,10 @@ use Rattle.server.specs.declared.Outcome.the-variants.{Refused, Gate, Ch
 
 -- ## The answers that are lent; a signature's bytes stand beside them
 
-abbrev pub heard : Said → Option Bool
-heard said.Missing = none
-heard said.No = some false
-heard said.Yes = some true
+abbrev pub grantOf : Said → Option Bool
+grantOf said.Missing = none
+grantOf said.No = some false
+grantOf said.Yes = some true
 
 abbrev pub confirmationOf : Confirmed → Option (Numbered Bool)
 confirmationOf confirmed.Missing = none
@@ -38,7 +39,7 @@ signatureOf (signed.Nothing n) bytes = some (record { number = n; answer = none 
 signatureOf (signed.Given n) bytes = some (record { number = n; answer = some bytes })
 
 unfoldable pub lentOf : Answers → List ℕ → rule.Answers
-lentOf a bytes = record { gate = heard (a .gate); check = heard (a .check); confirmation = confirmationOf (a .confirmation); signature = signatureOf (a .signature) bytes }
+lentOf a bytes = record { gate = grantOf (a .gate); check = grantOf (a .check); confirmation = confirmationOf (a .confirmation); signature = signatureOf (a .signature) bytes }
 
 -- what the signer handed over, if its answer counts
 abbrev pub handed : Said → List ℕ → Option (Option (List ℕ))
@@ -99,4 +100,4 @@ outcomeValues (Reply n) = 5 ∷ n ∷ []
 outcomeValues Close = 6 ∷ []
 
 abbrev pub OutcomesApart : Type 0
-OutcomesApart = (a b : Outcome) → outcomeValues a ≡ outcomeValues b → a ≡ b
+OutcomesApart = OneToOne Outcome (List ℕ) outcomeValues

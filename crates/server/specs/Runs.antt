@@ -115,8 +115,8 @@ CodeIsARun = (state : State) (store : List ℕ) (ks : List Step) → Sound state
 -- ## Read off what the code gave
 
 -- how a step ended, in the rule's words
-abbrev pub ended : Step → Outcome
-ended k = outcomeOf (k .done .called .outcome) (k .done .reply)
+abbrev pub outcomeAfter : Step → Outcome
+outcomeAfter k = outcomeOf (k .done .called .outcome) (k .done .reply)
 
 unfoldable pub isAccepted : Outcome → Bool
 isAccepted (refused n) = false
@@ -124,11 +124,11 @@ isAccepted (asks q) = true
 isAccepted (lands l) = true
 
 abbrev pub Accepted : Step → Type 0
-Accepted k = isAccepted (ended k) ≡ true
+Accepted k = isAccepted (outcomeAfter k) ≡ true
 
 -- the greatest reading accepted so far, with this step
 abbrev pub heardAt : ℕ → Step → ℕ
-heardAt greatest k = so greatest (isAccepted (ended k)) (max greatest (k .reading .count))
+heardAt greatest k = so greatest (isAccepted (outcomeAfter k)) (max greatest (k .reading .count))
 
 unfoldable pub heardOver : ℕ → List Step → ℕ
 heardOver greatest [] = greatest
@@ -136,7 +136,7 @@ heardOver greatest (k ∷ ks) = heardOver (heardAt greatest k) ks
 
 unfoldable pub turnsOver : ℕ → List Step → List Turn
 turnsOver reading [] = []
-turnsOver reading (k ∷ ks) = turn (heardAt reading k) (asCall k) (ended k) ++ turnsOver (heardAt reading k) ks
+turnsOver reading (k ∷ ks) = turn (heardAt reading k) (asCall k) (outcomeAfter k) ++ turnsOver (heardAt reading k) ks
 
 -- the greatest reading accepted in a run, and its landings, in landing order
 abbrev pub greatestOf : List Step → ℕ
@@ -148,12 +148,12 @@ turnsOf ks = turnsOver 0 ks
 -- have accepted steps only asked since the last landing?
 unfoldable pub askedOver : Bool → List Step → Bool
 askedOver before [] = before
-askedOver before (k ∷ ks) = askedOver (asked before (ended k)) ks
+askedOver before (k ∷ ks) = askedOver (asked before (outcomeAfter k)) ks
 
 -- has a step been accepted?
 unfoldable pub acceptedOver : Bool → List Step → Bool
 acceptedOver before [] = before
-acceptedOver before (k ∷ ks) = acceptedOver (so before (isAccepted (ended k)) true) ks
+acceptedOver before (k ∷ ks) = acceptedOver (so before (isAccepted (outcomeAfter k)) true) ks
 
 -- ## What one call does
 
@@ -186,7 +186,7 @@ pub record Quiet (state : State) (store : List ℕ) (k : Step) : Type 0 where
 -- "Questions and closing alter nothing but clock and expiry"
 abbrev pub CodeQuestionLeaves : Type 0
 CodeQuestionLeaves =
-    (state : State) (store : List ℕ) (k : Step) (q : Question) → Sound state store → MeetsCall state store k → ended k ≡ asks q → Quiet state store k
+    (state : State) (store : List ℕ) (k : Step) (q : Question) → Sound state store → MeetsCall state store k → outcomeAfter k ≡ asks q → Quiet state store k
 
 abbrev pub CodeCloseLeaves : Type 0
 CodeCloseLeaves =
@@ -201,12 +201,12 @@ pub record Failed (state : State) (store : List ℕ) (k : Step) : Type 0 where
 
 abbrev pub CodeFailureLeaves : Type 0
 CodeFailureLeaves =
-    (state : State) (store : List ℕ) (k : Step) → Sound state store → MeetsCall state store k → ended k ≡ lands FAILURE → Failed state store k
+    (state : State) (store : List ℕ) (k : Step) → Sound state store → MeetsCall state store k → outcomeAfter k ≡ lands FAILURE → Failed state store k
 
 -- nor does any reply but SUCCESS
 abbrev pub CodeReplyLeaves : Type 0
 CodeReplyLeaves =
-    (state : State) (store : List ℕ) (k : Step) (l : Landing) → Sound state store → MeetsCall state store k → ended k ≡ lands l → l ≢ SUCCESS
+    (state : State) (store : List ℕ) (k : Step) (l : Landing) → Sound state store → MeetsCall state store k → outcomeAfter k ≡ lands l → l ≢ SUCCESS
     → OnlyClock state store k
 
 -- "A reply fills the first bytes of the reply buffer; all its other bytes .. stay."
@@ -257,7 +257,7 @@ CodeAsLent =
 -- the run without its refused steps
 unfoldable pub acceptedSteps : List Step → List Step
 acceptedSteps [] = []
-acceptedSteps (k ∷ ks) = so (acceptedSteps ks) (isAccepted (ended k)) (k ∷ acceptedSteps ks)
+acceptedSteps (k ∷ ks) = so (acceptedSteps ks) (isAccepted (outcomeAfter k)) (k ∷ acceptedSteps ks)
 
 pub record CodeDropsOut (state : State) (store : List ℕ) (ks : List Step) : Type 0 where
   pub still-a-run : CodeRun state store (acceptedSteps ks)
@@ -287,7 +287,7 @@ pub record CodeOnlyExpiry (state : State) (store : List ℕ) (ks : List Step) : 
   pub all-fail : EveryTurn (λ t. t .landing ≡ FAILURE) (turnsOf ks)
   pub only-expiry : advance (greatestOf ks) (gatewayOf (endState state ks) (endStore store ks)) ≡ advance (greatestOf ks) (gatewayOf state store)
   pub exactly : Means (endState state ks) (endStore store ks) (settled (acceptedOver false ks) (greatestOf ks) (gatewayOf state store))
-  pub only-gate-7 : EveryStep (λ k. (q : Question) → ended k ≡ asks q → (q ≡ gate 7) × Begins 23 (k .payload)) ks
+  pub only-gate-7 : EveryStep (λ k. (q : Question) → outcomeAfter k ≡ asks q → (q ≡ gate 7) × Begins 23 (k .payload)) ks
 
 abbrev pub CodeWhileLocked : Type 0
 CodeWhileLocked =
@@ -299,7 +299,7 @@ abbrev pub CodeBetweenLockAndUnlock : Type 0
 CodeBetweenLockAndUnlock =
     (state : State) (store : List ℕ) (before : List Step) (lock : Step) (ks : List Step) (passphrase : List ℕ) → Sound state store
     → CodeRun state store (before ++ lock ∷ ks) → Begins 22 (lock .payload) → Carries passphrase (lock .payload) → 0 < length passphrase
-    → ended lock ≡ lands SUCCESS → NoUnlocking (turnsOf ks) → CodeOnlyExpiry (stateAfter lock) (storeAfter lock) ks
+    → outcomeAfter lock ≡ lands SUCCESS → NoUnlocking (turnsOf ks) → CodeOnlyExpiry (stateAfter lock) (storeAfter lock) ks
 
 -- ## Refusals that never occur
 

@@ -18,13 +18,13 @@ use wire::read::cut;
 ghost use mathlib.Core.Path.{_≡_};
 ghost use Prim.Native.Nat.{_≤_};
 ghost use lib.ListN.{length};
+ghost use Rattle.rule.specs.Gateway.{newEntry};
 ghost use Rattle.rule.specs.Rule.{entryOf, storing, adding};
 ghost use Rattle.rule.specs.Calls as rule;
 ghost use Rattle.rule.specs.Calls.{lent, follow};
 ghost use Rattle.table.specs.Meaning.{gatewayOf};
-ghost use Rattle.table.specs.Changes.{newKey};
 ghost use Rattle.table.specs.Soundness.{Sound};
-ghost use Rattle.server.specs.Outcomes.{heard};
+ghost use Rattle.server.specs.Outcomes.{grantOf};
 ghost use Rattle.server.specs.Calls.{Ends};
 
 // The entry is stored, if its limits, the numbers, a place and the key check allow it. `to` is where its fields end in the payload.
@@ -40,7 +40,7 @@ fn store_key(
     reply: &mut [u8],
 ) -> Called
     requires { ⌜ (5 ≤ length (now reply)) × Sound state (now store) ⌝ }
-    ensures { λ r. ⌜ ((a : rule.Answers) → a .check ≡ heard check → Ends (now (reply .entry)) r (now (store .exit)) (now (reply .exit)) (follow (lent a) (gatewayOf state (now (store .entry))) (storing (gatewayOf state (now (store .entry))) (newKey (gatewayOf state (now (store .entry))) lifetime confirm (now (blob .entry)) (now (fields .entry))) to))) ⌝ }
+    ensures { λ r. ⌜ ((a : rule.Answers) → a .check ≡ grantOf check → Ends (now (reply .entry)) r (now (store .exit)) (now (reply .exit)) (follow (lent a) (gatewayOf state (now (store .entry))) (storing (gatewayOf state (now (store .entry))) (newEntry (gatewayOf state (now (store .entry))) lifetime confirm (now (blob .entry)) (now (fields .entry))) to))) ⌝ }
 {
     if blob.len() < 1 {
         return failure(state, reply);
@@ -85,7 +85,7 @@ fn store_fields(
     reply: &mut [u8],
 ) -> Called
     requires { ⌜ (5 ≤ length (now reply)) × Sound state (now store) ⌝ }
-    ensures { λ r. ⌜ ((a : rule.Answers) → a .check ≡ heard check → Ends (now (reply .entry)) r (now (store .exit)) (now (reply .exit)) (follow (lent a) (gatewayOf state (now (store .entry))) (storing (gatewayOf state (now (store .entry))) (entryOf (gatewayOf state (now (store .entry))) (now (payload .entry)) at lifetime confirm) (at .end)))) ⌝ }
+    ensures { λ r. ⌜ ((a : rule.Answers) → a .check ≡ grantOf check → Ends (now (reply .entry)) r (now (store .exit)) (now (reply .exit)) (follow (lent a) (gatewayOf state (now (store .entry))) (storing (gatewayOf state (now (store .entry))) (entryOf (gatewayOf state (now (store .entry))) (now (payload .entry)) at lifetime confirm) (at .end)))) ⌝ }
 {
     let end = at.end;
     let mut room = [0u8; 1024];
@@ -115,7 +115,7 @@ pub fn add_key(
     reply: &mut [u8],
 ) -> Called
     requires { ⌜ (5 ≤ length (now reply)) × Sound state (now store) ⌝ }
-    ensures { λ r. ⌜ ((a : rule.Answers) → a .check ≡ heard check → Ends (now (reply .entry)) r (now (store .exit)) (now (reply .exit)) (follow (lent a) (gatewayOf state (now (store .entry))) (adding constrained (gatewayOf state (now (store .entry))) (now (payload .entry))))) ⌝ }
+    ensures { λ r. ⌜ ((a : rule.Answers) → a .check ≡ grantOf check → Ends (now (reply .entry)) r (now (store .exit)) (now (reply .exit)) (follow (lent a) (gatewayOf state (now (store .entry))) (adding constrained (gatewayOf state (now (store .entry))) (now (payload .entry))))) ⌝ }
 {
     match addition_at(payload, 1, constrained) {
         Addition::Fault(_) => failure(state, reply),

@@ -20,7 +20,7 @@ use table::soundness::is_sound;
 use wire::msg;
 ghost use mathlib.Core.Path.{_≡_};
 ghost use mathlib.Core.List.{List};
-ghost use Prim.Native.Nat.{ℕ, _≤_};
+ghost use Prim.Native.Nat.{_≤_};
 ghost use lib.ListN.{length};
 ghost use Rattle.rule.specs.Calls.{lentLength, served};
 ghost use Rattle.table.specs.Meaning.{gatewayOf};

@@ -6,20 +6,20 @@ use wire::msg;
 use wire::write::put_byte;
 use wire::write::put_number;
 ghost use mathlib.Core.Path.{_≡_};
-ghost use mathlib.Core.List.{List};
+ghost use mathlib.Core.List.{List, [], _∷_};
 ghost use Prim.Native.Nat.{ℕ, _≤_};
 ghost use lib.ListN.{length};
 ghost use Rattle.rule.specs.Gateway.{Gateway};
 ghost use Rattle.rule.specs.Rule.{FAILURE, SUCCESS, close};
 ghost use Rattle.rule.specs.Calls.{lands};
 ghost use Rattle.table.specs.Soundness.{Means};
-ghost use Rattle.wire.specs.Write.{write};
-ghost use Rattle.server.specs.Calls.{fiveBytes, Ends};
+ghost use Rattle.wire.specs.Write.{string, write};
+ghost use Rattle.server.specs.Calls.{Ends};
 
 // The five bytes of a reply whose payload is `kind` alone. Refusal 1 has left room.
 fn answer(state: State, kind: u8, reply: &mut [u8]) -> Called
     requires { ⌜ 5 ≤ length (now reply) ⌝ }
-    ensures { λ r. ⌜ (r ≡ record { outcome = Outcome.Reply 5; state = state }) × (now (reply .exit) ≡ write (now (reply .entry)) 0 (fiveBytes kind)) ⌝ }
+    ensures { λ r. ⌜ (r ≡ record { outcome = Outcome.Reply 5; state = state }) × (now (reply .exit) ≡ write (now (reply .entry)) 0 (string (kind ∷ []))) ⌝ }
 {
     let at = put_number(reply, 0, 1);
     let len = put_byte(reply, at, kind);

@@ -28,7 +28,7 @@ ghost use Rattle.rule.specs.Rule.{hashOf, signatureReply, signingData, signing}
 ghost use Rattle.rule.specs.Calls.{lent, forNumber, lentLength, follow};
 ghost use Rattle.table.specs.Meaning.{gatewayOf};
 ghost use Rattle.table.specs.Soundness.{Sound};
-ghost use Rattle.server.specs.Outcomes.{confirmationOf, signatureOf, heard, handed, lentOf};
+ghost use Rattle.server.specs.Outcomes.{confirmationOf, signatureOf, grantOf, handed, lentOf};
 ghost use Rattle.server.specs.Calls.{Ends};
 
 // Flag 2 set: SHA-256; else flag 4: SHA-512; else none.
@@ -46,7 +46,7 @@ fn hash_of(flags: u32) -> Hash
 
 // The confirmation that counts for this insertion number.
 fn confirmed_for(c: Confirmed, number: u64) -> Said
-    ensures { λ r. ⌜ forNumber number (confirmationOf c) ≡ heard r ⌝ }
+    ensures { λ r. ⌜ forNumber number (confirmationOf c) ≡ grantOf r ⌝ }
 {
     match c {
         Confirmed::Missing => Said::Missing,

@@ -1,5 +1,4 @@
 -- What owning a state tells: the lengths of its two arrays.
-use Prim.Native.Nat.{ℕ}
 use mathlib.Core.Path.{_≡_}
 use mathlib.Core.List.{List}
 use mir.Val.{Val}

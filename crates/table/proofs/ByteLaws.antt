@@ -13,17 +13,17 @@ use lib.Dec.{eqb}
 use lib.ListN.{length, take, drop, getD, set, replicate, length-append, length-drop, length-replicate, drop-of-length-le, take-append-drop, replicate-append-replicate}
 use lib.Seq.{drop-cons, take-all, take-at, drop-at, length-take-le, take-append-seam, drop-append-seam}
 use Rattle.wire.specs.Read.{same}
-use Rattle.rule.proofs.Cases.{and-left, and-right, both-true}
-use Rattle.table.specs.Bytes.{allZero, Zeros, greatest, padded}
+use Rattle.rule.proofs.Cases.{and-left, and-right}
+use Rattle.table.specs.Bytes.{allZero, Zeros, greatestByte, padded}
 
 -- ## Zeros
 
-pub zeros-zero : (n : ℕ) → allZero (replicate n 0) ≡ true
+zeros-zero : (n : ℕ) → allZero (replicate n 0) ≡ true
 unfolding allZero
 zeros-zero zero = refl
 zeros-zero (suc n) = zeros-zero n
 
-pub all-zeros : (bs : List ℕ) → allZero bs ≡ true → Zeros bs
+all-zeros : (bs : List ℕ) → allZero bs ≡ true → Zeros bs
 unfolding allZero
 all-zeros [] h = refl
 all-zeros (b ∷ bs) h =
@@ -36,27 +36,27 @@ zeros-say bs = (all-zeros bs, (λ z. ap allZero z ∙ zeros-zero (length bs)))
 
 -- ## The greatest byte
 
-pub greatest-step : (bs : List ℕ) (i most : ℕ) → i < length bs → max most (greatest (drop i bs)) ≡ max (max most (getD bs i 0)) (greatest (drop (i + 1) bs))
-unfolding greatest
+pub greatest-step : (bs : List ℕ) (i most : ℕ) → i < length bs → max most (greatestByte (drop i bs)) ≡ max (max most (getD bs i 0)) (greatestByte (drop (i + 1) bs))
+unfolding greatestByte
 greatest-step bs i most h = rw (add-one, drop-cons bs i 0) (omega arith)
 
-pub greatest-end : (bs : List ℕ) (i most : ℕ) → length bs ≤ i → max most (greatest (drop i bs)) ≡ most
-unfolding greatest
+pub greatest-end : (bs : List ℕ) (i most : ℕ) → length bs ≤ i → max most (greatestByte (drop i bs)) ≡ most
+unfolding greatestByte
 greatest-end bs i most h = rw (drop-of-length-le bs h) (omega arith)
 
 -- all bytes are zero exactly where the greatest is
-pub zero-greatest : (bs : List ℕ) → eqb (greatest bs) 0 ≡ allZero bs
-unfolding greatest allZero
+pub zero-greatest : (bs : List ℕ) → eqb (greatestByte bs) 0 ≡ allZero bs
+unfolding greatestByte allZero
 zero-greatest [] = refl
-zero-greatest (b ∷ bs) = both (eqb b 0) (eqb (greatest bs) 0) refl refl ∙ ap (λ (t : Bool). eqb b 0 && t) (zero-greatest bs)
+zero-greatest (b ∷ bs) = both (eqb b 0) (eqb (greatestByte bs) 0) refl refl ∙ ap (λ (t : Bool). eqb b 0 && t) (zero-greatest bs)
   where
-    both : (t u : Bool) → eqb b 0 ≡ t → eqb (greatest bs) 0 ≡ u → eqb (max b (greatest bs)) 0 ≡ t && u
+    both : (t u : Bool) → eqb b 0 ≡ t → eqb (greatestByte bs) 0 ≡ u → eqb (max b (greatestByte bs)) 0 ≡ t && u
     both true true p q =
         let x = eqb-true b 0 p in
-        let y = eqb-true (greatest bs) 0 q in
-        eq-eqb (max b (greatest bs)) 0 (omega arith)
-    both true false p q = let y = eqb-false (greatest bs) 0 q in ne-eqb (max b (greatest bs)) 0 (λ (e : max b (greatest bs) ≡ 0). y (omega arith))
-    both false u p q = let x = eqb-false b 0 p in ne-eqb (max b (greatest bs)) 0 (λ (e : max b (greatest bs) ≡ 0). x (omega arith))
+        let y = eqb-true (greatestByte bs) 0 q in
+        eq-eqb (max b (greatestByte bs)) 0 (omega arith)
+    both true false p q = let y = eqb-false (greatestByte bs) 0 q in ne-eqb (max b (greatestByte bs)) 0 (λ (e : max b (greatestByte bs) ≡ 0). y (omega arith))
+    both false u p q = let x = eqb-false b 0 p in ne-eqb (max b (greatestByte bs)) 0 (λ (e : max b (greatestByte bs) ≡ 0). x (omega arith))
 
 -- ## The loops that fill and copy
 

@@ -10,13 +10,12 @@ use native.Mathlib.Nat.{not-suc-le-zero, le-of-suc-le-suc}
 use native.Mathlib.Numerals.{add-one}
 use borrow.Rule.Slice.PartMut.{midOf, putMid}
 use lib.Dec.{eqb}
-use lib.ListN.{length, take, drop, getD, set, replicate, length-drop, length-map, length-set}
+use lib.ListN.{length, drop, getD, set, replicate, length-drop, length-map, length-set}
 use lib.Seq.{length-take-le}
 use Rattle.wire.specs.Steps.{so}
 use Rattle.keys.specs.declared.constraints.Lifetime.{Lifetime}
 use Rattle.rule.specs.declared.Millis.{Millis}
-use Rattle.rule.specs.declared.Found.the-variants.{At}
-use Rattle.rule.specs.Gateway.{Entry as Key, Place, Gateway, dueAt, lasting, atClock, advance, placeFor, vacate, withLock, without, withoutAll, withEntry}
+use Rattle.rule.specs.Gateway.{Entry as Key, Place, Gateway, dueAt, lasting, atClock, advance, vacate, withLock, without, withoutAll, newEntry, withEntry}
 use Rattle.rule.specs.Soundness.{lastNumber, EveryEntry, SoundEntry, Apart}
 use Rattle.rule.specs.Soundness as rule
 use Rattle.rule.proofs.Cases.{so-cases}
@@ -25,15 +24,15 @@ use Rattle.rule.proofs.SoundLaws.{sound-fewer, sound-lock, sound-advance}
 use Rattle.table.specs.declared.Entry.{Entry}
 use Rattle.table.specs.declared.LockRecord.{LockRecord}
 use Rattle.table.specs.declared.State.{State}
-use Rattle.table.specs.Meaning.{lifetimeOf, keyOf, placeOf, view, gatewayOf, freeEntry, heldEntry, heldBytes, entryFor, bytesFor, laid, lockOf, stateOf, layout, Written}
+use Rattle.table.specs.Meaning.{lifetimeOf, placeOf, view, gatewayOf, heldEntry, heldBytes, entryFor, bytesFor, laid, lockOf, stateOf, layout, Written}
 use Rattle.table.specs.Soundness.{Sound, Means}
-use Rattle.table.specs.Changes.{Standing, newKey, NoOther, MayPut}
+use Rattle.table.specs.Changes.{Standing, NoOther, MayPut}
 use Rattle.table.specs.Promises.{PlaceForPut}
 use Rattle.table.proofs.LayoutLaws.{Fits, free-size, key-size, laid-size, laid-at, laid-set, entries-set, laid-free, entries-free}
-use Rattle.table.proofs.WritingLaws.{Writing, sound-writing, sound-meaning, sound-canonical, key-fits, key-back, free-back, lock-written, means-of}
+use Rattle.table.proofs.WritingLaws.{Writing, sound-writing, sound-meaning, key-fits, key-back, free-back, lock-written, means-of}
 
 -- a state written field by field as a sound gateway is means it
-pub written-means : (g : Gateway) (es : List Entry) (l : LockRecord) (x : List ℕ) → rule.Sound g → es ≡ map entryFor (g .places) → l ≡ lockOf (g .lock) → x ≡ laid (g .places)
+written-means : (g : Gateway) (es : List Entry) (l : LockRecord) (x : List ℕ) → rule.Sound g → es ≡ map entryFor (g .places) → l ≡ lockOf (g .lock) → x ≡ laid (g .places)
     → Means (record { entries = es; lock = l; clock = record { count = g .clock }; next = g .next }) x g
 unfolding stateOf layout
 written-means g es l x G entries lock store =
@@ -141,10 +140,10 @@ module _ (s : State) (x : List ℕ) (S : Sound s x) (i from to : ℕ) (h : i < 8
   -- "stored, next number taken"
   pub stored : (lifetime : Lifetime) (confirm : Bool) (blob fields : List ℕ) (e : Entry) (p : List ℕ) → MayPut s x i blob fields
       → e ≡ heldEntry (s .next) (s .clock) lifetime confirm (length blob) (length fields) → p ≡ heldBytes blob fields
-      → Means (record { entries = set (s .entries) i e; lock = s .lock; clock = s .clock; next = s .next + 1 }) (putMid from (to - from) x p) (withEntry i (newKey g lifetime confirm blob fields) g)
+      → Means (record { entries = set (s .entries) i e; lock = s .lock; clock = s .clock; next = s .next + 1 }) (putMid from (to - from) x p) (withEntry i (newEntry g lifetime confirm blob fields) g)
   unfolding gatewayOf entryFor bytesFor
   stored lifetime confirm blob fields e p may entry bytes =
-      let k = newKey g lifetime confirm blob fields in
+      let k = newEntry g lifetime confirm blob fields in
       changed (some k) e p (s .next + 1) (record { entry = entry; bytes = bytes }) (sound-put g i k (sound-meaning s x S) (record { number = refl; reading = refl; blob-some = may .blob-some; blob-fits = may .blob-fits; fields-some = may .fields-some; fields-fit = may .fields-fit }) (may .numbers-left) (may .alone))
 
 -- ## All places, and the lock

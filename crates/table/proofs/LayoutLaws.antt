@@ -1,11 +1,11 @@
 -- Laws of the layout: every place has its 4,096 bytes, what stands at each place, and what a place put back leaves.
 use Prim.Native.Nat.{ℕ, zero, suc, _+_, _*_, _-_, _≤_, _<_}
-use mathlib.Core.Path.{_≡_, refl, sym, ap, _∙_}
+use mathlib.Core.Path.{_≡_, refl, sym, ap}
 use mathlib.Core.Option.{none, some}
 use mathlib.Core.List.{List, [], _∷_, _++_, map, append-assoc}
 use native.Mathlib.Omega.{arith}
 use native.Mathlib.Nat.{not-suc-le-zero, le-of-suc-le-suc, zero-mul, suc-mul}
-use borrow.Rule.Slice.PartMut.{midOf, putMid}
+use borrow.Rule.Slice.PartMut.{putMid}
 use lib.ListN.{length, take, drop, getD, set, replicate, length-append, length-replicate, replicate-append-replicate}
 use lib.Seq.{take-at, drop-at, drop-drop, take-append-add, drop-append-add}
 use Rattle.rule.specs.Gateway.{Entry as Key, Place, vacate}
@@ -19,7 +19,7 @@ pub record Fits (k : Key) : Type 0 where
   pub blob-fits : length (k .blob) ≤ 1024
   pub fields-fit : length (k .fields) ≤ 3072
 
-pub held-size : (blob fields : List ℕ) → length blob ≤ 1024 → length fields ≤ 3072 → length (heldBytes blob fields) ≡ 4096
+held-size : (blob fields : List ℕ) → length blob ≤ 1024 → length fields ≤ 3072 → length (heldBytes blob fields) ≡ 4096
 unfolding heldBytes
 held-size blob fields h g = rw (length-append, padded-size 1024 blob h, padded-size 3072 fields g)
 
@@ -36,7 +36,7 @@ pub record FitsFirst (p : Place) (ps : List Place) : Type 0 where
   pub first : length (bytesFor p) ≡ 4096
   pub rest : EveryEntry Fits ps
 
-pub fits-first : (p : Place) (ps : List Place) → EveryEntry Fits (p ∷ ps) → FitsFirst p ps
+fits-first : (p : Place) (ps : List Place) → EveryEntry Fits (p ∷ ps) → FitsFirst p ps
 fits-first none ps all = record { first = free-size; rest = all }
 fits-first (some k) ps all = record { first = key-size k (all .0); rest = all .1 }
 

@@ -1,11 +1,11 @@
 -- What is read of one place: its entry and its part of the store are the place that the meaning has there.
-use Prim.Native.Nat.{ℕ, zero, suc, _+_, _*_, _-_, _≤_, _<_}
+use Prim.Native.Nat.{ℕ, zero, suc, _*_, _-_, _≤_, _<_}
 use mathlib.Core.Path.{_≡_, refl, sym, ap, _∙_}
 use mathlib.Core.Bool.{Bool, true, false, not, and-true, and-false}
 use mathlib.Core.Option.{none, some}
 use mathlib.Core.List.{List, [], _∷_}
 use native.Mathlib.Omega.{arith}
-use borrow.Author.Tests.{lt-ltb, eq-eqb, ne-eqb, eqb-true, eqb-false}
+use borrow.Author.Tests.{lt-ltb, eq-eqb, ne-eqb, eqb-true}
 use lib.Dec.{eqb, ltb}
 use lib.ListN.{length, take, drop, getD, length-drop}
 use lib.Seq.{length-take-le}
@@ -40,9 +40,6 @@ module _ (es : List Entry) (x : List ℕ) (eight : length es ≡ 8) where
 
   pub view-at : (i : ℕ) → i < 8 → getD (view es x) i none ≡ placeOf (getD es i freeEntry) (partAt x i)
   view-at i h = each-at size placeOf es x i freeEntry none (omega arith) ∙ rw (start i h)
-
-  pub said-at : (test : Entry → List ℕ → Bool) (i : ℕ) → i < 8 → getD (each test size es x) i true ≡ test (getD es i freeEntry) (partAt x i)
-  said-at test i h = each-at size test es x i freeEntry true (omega arith) ∙ rw (start i h)
 
   pub sound-at : (clock next i : ℕ) → i < 8 → Each (SoundPlace clock next) size es x → SoundPlace clock next (getD es i freeEntry) (partAt x i)
   sound-at clock next i h all = rw (start i h) at (every-at size (SoundPlace clock next) es x i freeEntry (omega arith) all)
@@ -85,7 +82,7 @@ module _ (clock next : ℕ) (e : Entry) (p : List ℕ) (whole : length p ≡ 409
       by-seen (seen-free is entry _) = ap (λ (x : Entry). take (x .«blob_len») p) entry ∙ rw is
       by-seen (seen-held is _ _ _) = rw is
 
-pub sound-blob-fits : (clock next : ℕ) (e : Entry) (p : List ℕ) → SoundPlace clock next e p → e .«blob_len» ≤ 1024
+sound-blob-fits : (clock next : ℕ) (e : Entry) (p : List ℕ) → SoundPlace clock next e p → e .«blob_len» ≤ 1024
 sound-blob-fits clock next e p (free f _) = let h : e .«blob_len» ≡ 0 = ap (λ (x : Entry). x .«blob_len») f in omega arith
 sound-blob-fits clock next e p (held s) = s .blob-fits
 
@@ -115,10 +112,6 @@ some-taken (suc n) (b ∷ bs) m l = lt-ltb 0 (suc n) (omega arith) ∙ sym (lt-l
 -- ## Two places
 
 module _ (e : Entry) (p : List ℕ) where
-  pub unlike-free : (q : Place) → e .number ≡ 0 → true ≡ unlike (placeOf e p) (q ∷ [])
-  unfolding unlike
-  unlike-free q h = rw (place-free e p h)
-
   module _ (f : Entry) (q : List ℕ) where
     pub unlike-of-free : f .number ≡ 0 → true ≡ unlike (placeOf e p) (placeOf f q ∷ [])
     unfolding unlike everyEntry

@@ -1,22 +1,21 @@
 -- Each test of soundness is passed exactly where its fact holds; so the whole test says soundness.
-use Prim.Native.Nat.{ℕ, _≤_, _<_}
-use mathlib.Core.Path.{_≡_, refl, sym, ap, _∙_}
-use mathlib.Core.Logic.{_↔_}
-use mathlib.Core.Bool.{Bool, true, false, _&&_, _||_, not}
-use mathlib.Core.List.{List, []}
+use Prim.Native.Nat.{ℕ}
+use mathlib.Core.Path.{_≡_, refl, ap}
+use mathlib.Core.Bool.{Bool, true, false, _||_, not}
+use mathlib.Core.List.{List}
 use native.Mathlib.Omega.{arith}
-use borrow.Author.Tests.{eqb-true, eqb-false, eq-eqb, ne-eqb}
+use borrow.Author.Tests.{eqb-true, eqb-false, eq-eqb}
 use lib.Dec.{eqb}
 use lib.ListN.{length, take, drop}
 use Rattle.wire.specs.Steps.{so}
 use Rattle.rule.proofs.Cases.{not-true}
 use Rattle.rule.proofs.SoundLaws.{Says, both-say, le-says, lt-says, eq-says, within-says, distinct-says}
-use Rattle.rule.specs.Soundness.{lastNumber, within}
+use Rattle.rule.specs.Soundness.{lastNumber}
 use Rattle.table.specs.declared.Entry.{Entry}
 use Rattle.table.specs.declared.LockRecord.{LockRecord}
-use Rattle.table.specs.Bytes.{allZero, Zeros}
+use Rattle.table.specs.Bytes.{Zeros}
 use Rattle.table.specs.Meaning.{size, view, freeEntry}
-use Rattle.table.specs.Soundness.{soundFree, soundLifetime, soundHeld, soundPlace, soundPlaces, soundLock, soundState, SoundHeld, SoundPlace, free, held, SoundLock, Sound}
+use Rattle.table.specs.Soundness.{soundFree, soundLifetime, soundHeld, soundPlace, soundPlaces, soundLock, soundState, SoundHeld, SoundPlace, free, held, SoundLock}
 use Rattle.table.specs.Promises.{SoundStateRule}
 use Rattle.table.proofs.ByteLaws.{zeros-say}
 use Rattle.table.proofs.EachLaws.{each-says}

@@ -1,6 +1,6 @@
 -- A sound state and store are written in one way: place by place, entry and bytes are those of what they mean, and a sound gateway written
 -- so is sound and means itself.
-use Prim.Native.Nat.{ℕ, zero, suc, _+_, _*_, _-_, _≤_, _<_}
+use Prim.Native.Nat.{ℕ, _+_, _*_, _-_, _≤_}
 use mathlib.Core.Path.{_≡_, refl, sym, ap, _∙_}
 use mathlib.Core.Bool.{Bool, true, false}
 use mathlib.Core.Option.{none, some}
@@ -8,10 +8,8 @@ use mathlib.Core.List.{List, [], _∷_, _++_, map}
 use native.Mathlib.Omega.{arith}
 use native.Mathlib.Nat.{zero-mul, suc-mul}
 use borrow.Author.Tests.{ne-eqb}
-use lib.Dec.{eqb}
 use lib.ListN.{length, take, drop, replicate, length-drop, length-map, length-take, length-replicate, take-append-drop}
-use lib.Seq.{length-take-le, take-take, take-at, drop-at, take-append-le, take-length}
-use Rattle.wire.specs.declared.Seconds.{Seconds}
+use lib.Seq.{length-take-le, take-take, take-at, drop-at, take-append-le}
 use Rattle.wire.specs.Steps.{so}
 use Rattle.keys.specs.declared.constraints.Lifetime.{Lifetime}
 use Rattle.keys.specs.declared.constraints.Lifetime.the-variants.{Forever, For}
@@ -23,11 +21,11 @@ use Rattle.rule.proofs.SoundLaws.{fresh-sound}
 use Rattle.table.specs.declared.Entry.{Entry}
 use Rattle.table.specs.declared.LockRecord.{LockRecord}
 use Rattle.table.specs.declared.State.{State}
-use Rattle.table.specs.Bytes.{Zeros, padded}
+use Rattle.table.specs.Bytes.{padded}
 use Rattle.table.specs.Each.{each, Each}
-use Rattle.table.specs.Meaning.{size, lifetimeOf, keyOf, placeOf, view, passphrase, gatewayOf, freeEntry, isLimited, secondsIn, heldEntry, heldBytes, entryFor, bytesFor, laid, lockOf, stateOf, layout}
-use Rattle.table.specs.Soundness.{SoundHeld, SoundPlace, free, held, SoundLock, Sound, Means}
-use Rattle.table.specs.Promises.{SoundMeaning, Canonical, SoundCanonical, OneWriting, EveryGateway, FreshMeans}
+use Rattle.table.specs.Meaning.{size, lifetimeOf, keyOf, placeOf, view, passphrase, gatewayOf, isLimited, keptSeconds, heldEntry, heldBytes, entryFor, bytesFor, laid, lockOf, stateOf, layout}
+use Rattle.table.specs.Soundness.{SoundPlace, free, held, SoundLock, Sound, Means}
+use Rattle.table.specs.Promises.{SoundMeaning, SoundCanonical, OneWriting, EveryGateway, FreshMeans}
 use Rattle.table.proofs.ByteLaws.{padded-size, padded-front, padded-rest, zeros-padded}
 use Rattle.table.proofs.EachLaws.{each-length}
 use Rattle.table.proofs.LayoutLaws.{Fits, free-size, key-size, laid-size, laid-free}
@@ -35,11 +33,11 @@ use Rattle.table.proofs.LayoutLaws.{Fits, free-size, key-size, laid-siz
 -- ## One place
 
 -- a lifetime is kept as a flag and seconds
-lifetime-kept : (e : Entry) → (e .limited ≡ false → e .seconds .count ≡ 0) → (e .limited ≡ isLimited (lifetimeOf e)) × (e .seconds ≡ secondsIn (lifetimeOf e))
+lifetime-kept : (e : Entry) → (e .limited ≡ false → e .seconds .count ≡ 0) → (e .limited ≡ isLimited (lifetimeOf e)) × (e .seconds ≡ keptSeconds (lifetimeOf e))
 unfolding so
 lifetime-kept e none-without = by-limit (e .limited) refl
   where
-    by-limit : (b : Bool) → e .limited ≡ b → (b ≡ isLimited (so Forever b (For (e .seconds)))) × (e .seconds ≡ secondsIn (so Forever b (For (e .seconds))))
+    by-limit : (b : Bool) → e .limited ≡ b → (b ≡ isLimited (so Forever b (For (e .seconds)))) × (e .seconds ≡ keptSeconds (so Forever b (For (e .seconds))))
     by-limit true _ = (refl, refl)
     by-limit false b = let zero-seconds : e .seconds .count ≡ 0 = none-without b in (refl, (λ j. record { count = zero-seconds j }))
 
@@ -151,7 +149,7 @@ one-writing s t x y S T e =
 
 -- ## From what is meant to what is written
 
-lifetime-back : (l : Lifetime) → so Forever (isLimited l) (For (secondsIn l)) ≡ l
+lifetime-back : (l : Lifetime) → so Forever (isLimited l) (For (keptSeconds l)) ≡ l
 unfolding so
 lifetime-back Forever = refl
 lifetime-back (For seconds) = refl
@@ -201,7 +199,7 @@ module _ (clock next : ℕ) (k : Key) (s : SoundEntry clock next k) where
     fields-rest = rw fields-part (padded-rest 3072 (k .fields));
   })
     where
-      no-seconds : (l : Lifetime) → isLimited l ≡ false → secondsIn l .count ≡ 0
+      no-seconds : (l : Lifetime) → isLimited l ≡ false → keptSeconds l .count ≡ 0
       no-seconds Forever _ = refl
       no-seconds (For seconds) never = let z : _≡_ {A = ℕ} 0 1 = cc in absurd (omega arith)
 
@@ -230,7 +228,7 @@ module _ (clock next : ℕ) where
       let l = key-size k (key-fits clock next k (all .0)) in
       rw (take-at (bytesFor (some k)) (laid ps) 4096 l, drop-at (bytesFor (some k)) (laid ps) 4096 l) (key-sound clock next k (all .0), each-back ps (all .1))
 
-pub keys-fit : (g : Gateway) → rule.Sound g → EveryEntry Fits (g .places)
+keys-fit : (g : Gateway) → rule.Sound g → EveryEntry Fits (g .places)
 keys-fit g G = every-imp (SoundEntry (g .clock) (g .next)) Fits (key-fits (g .clock) (g .next)) (g .places) (G .entries)
 
 lock-sound : (p : List ℕ) → length p ≤ 1024 → SoundLock (lockOf p)

@@ -14,9 +14,9 @@ abbrev pub Zeros : List ℕ → Type 0
 Zeros bs = bs ≡ replicate (length bs) 0
 
 -- 0 where there is no byte
-unfoldable pub greatest : List ℕ → ℕ
-greatest [] = 0
-greatest (b ∷ bs) = max b (greatest bs)
+unfoldable pub greatestByte : List ℕ → ℕ
+greatestByte [] = 0
+greatestByte (b ∷ bs) = max b (greatestByte bs)
 
 -- n bytes: these, and zeros behind them
 unfoldable pub padded : ℕ → List ℕ → List ℕ

@@ -1,13 +1,11 @@
--- What the changes ask for, and the key that `put` makes.
+-- What the changes ask for.
 use Prim.Native.Nat.{ℕ, _≤_, _<_}
 use mathlib.Core.Path.{_≡_}
 use mathlib.Core.Logic.{_≢_}
-use mathlib.Core.Bool.{Bool}
 use mathlib.Core.Option.{none, some}
 use mathlib.Core.List.{List}
 use lib.ListN.{length, getD}
-use Rattle.keys.specs.declared.constraints.Lifetime.{Lifetime}
-use Rattle.rule.specs.Gateway.{Entry as Key, Place, Gateway}
+use Rattle.rule.specs.Gateway.{Entry as Key, Place}
 use Rattle.rule.specs.Soundness.{lastNumber}
 use Rattle.table.specs.declared.Entry.{Entry}
 use Rattle.table.specs.declared.State.{State}
@@ -19,17 +17,6 @@ pub record Standing (clock : ℕ) (e : Entry) (p : List ℕ) : Type 0 where
   pub whole : length p ≡ 4096
   pub reading-past : e .reading .count ≤ clock
   pub written : Written e p (placeOf e p)
-
--- the next number, the kept clock as reading
-abbrev pub newKey : Gateway → Lifetime → Bool → List ℕ → List ℕ → Key
-newKey g lifetime confirm blob fields = record {
-  number = g .next;
-  reading = g .clock;
-  lifetime = lifetime;
-  confirm = confirm;
-  blob = blob;
-  fields = fields;
-}
 
 -- no other place than i holds the blob
 abbrev pub NoOther : ℕ → List ℕ → List Place → Type 0

@@ -76,16 +76,16 @@ abbrev pub isLimited : Lifetime → Bool
 isLimited Forever = false
 isLimited (For seconds) = true
 
-abbrev pub secondsIn : Lifetime → Seconds
-secondsIn Forever = record { count = 0 }
-secondsIn (For seconds) = seconds
+abbrev pub keptSeconds : Lifetime → Seconds
+keptSeconds Forever = record { count = 0 }
+keptSeconds (For seconds) = seconds
 
 unfoldable pub heldEntry : ℕ → Millis → Lifetime → Bool → ℕ → ℕ → Entry
 heldEntry number reading lifetime confirm blobLen fieldsLen = record {
   number = number;
   reading = reading;
   limited = isLimited lifetime;
-  seconds = secondsIn lifetime;
+  seconds = keptSeconds lifetime;
   confirm = confirm;
   «blob_len» = blobLen;
   «fields_len» = fieldsLen;

@@ -5,7 +5,6 @@ use mathlib.Core.Bool.{true}
 use mathlib.Core.List.{List}
 use mathlib.Core.Logic.{_↔_}
 use lib.ListN.{length, replicate}
-use lib.Dec.{ltb}
 use Rattle.rule.specs.declared.Found.the-variants.{At}
 use Rattle.rule.specs.Gateway.{Gateway, fresh, placeFor}
 use Rattle.rule.specs.Soundness as rule

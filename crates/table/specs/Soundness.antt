@@ -6,9 +6,10 @@ use mathlib.Core.Option.{none, some}
 use mathlib.Core.List.{List, [], _∷_}
 use lib.ListN.{length, getD, take, drop}
 use lib.Dec.{leb, ltb, eqb}
+use Rattle.wire.specs.Numbers.{within}
 use Rattle.wire.specs.Steps.{so}
 use Rattle.rule.specs.Gateway.{Place, Gateway}
-use Rattle.rule.specs.Soundness.{lastNumber, within, everyEntry, apart, distinct, Distinct}
+use Rattle.rule.specs.Soundness.{lastNumber, everyEntry, apart, distinct, Distinct}
 use Rattle.table.specs.declared.Entry.{Entry}
 use Rattle.table.specs.declared.LockRecord.{LockRecord}
 use Rattle.table.specs.declared.State.{State}

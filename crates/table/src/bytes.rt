@@ -4,7 +4,7 @@ ghost use mathlib.Core.Bool.{_&&_};
 ghost use Prim.Native.Nat.{_≤_, max, min};
 ghost use lib.ListN.{length, replicate};
 ghost use Rattle.wire.specs.Read.{same};
-ghost use Rattle.table.specs.Bytes.{allZero, greatest, padded};
+ghost use Rattle.table.specs.Bytes.{allZero, greatestByte, padded};
 
 // All bytes of the part become zero.
 pub fn wipe(p: &mut [u8])
@@ -50,7 +50,7 @@ fn greater(a: u8, b: u8) -> u8
 
 // Goes over all bytes with no early exit, so that it is compiled to vector code.
 fn greatest_byte(p: &[u8]) -> u8
-    ensures { λ r. ⌜ r ≡ greatest (now (p .entry)) ⌝ }
+    ensures { λ r. ⌜ r ≡ greatestByte (now (p .entry)) ⌝ }
 {
     let mut most = 0;
     let mut i = 0;

@@ -9,13 +9,12 @@ use keys::constraints::Lifetime;
 use rule::Millis;
 use wire::Seconds;
 ghost use mathlib.Core.Path.{_≡_};
-ghost use mathlib.Core.Option.{some};
 ghost use Prim.Native.Nat.{_≤_, _<_, max};
 ghost use lib.ListN.{length};
-ghost use Rattle.rule.specs.Gateway.{millisOf, dueAt, lasting, advance, without, withoutAll, withEntry};
+ghost use Rattle.rule.specs.Gateway.{millisOf, dueAt, lasting, advance, without, withoutAll, newEntry, withEntry};
 ghost use Rattle.table.specs.Meaning.{lifetimeOf, gatewayOf, placeOf, heldEntry, heldBytes, Written};
 ghost use Rattle.table.specs.Soundness.{Sound, Means};
-ghost use Rattle.table.specs.Changes.{Standing, newKey, MayPut};
+ghost use Rattle.table.specs.Changes.{Standing, MayPut};
 
 // Lifetimes count seconds and the clock counts milliseconds.
 pub fn millis_of(seconds: Seconds) -> Millis
@@ -124,7 +123,7 @@ pub fn remove_all(state: State, store: &mut [u8]) -> State
 }
 
 // The entry of a key; what it keeps of its lifetime is a flag and seconds.
-fn entry_for(
+fn held_entry(
     number: u64,
     reading: Millis,
     lifetime: Lifetime,
@@ -176,14 +175,14 @@ pub fn put(
     fields: &[u8],
 ) -> State
     requires { ⌜ MayPut state (now store) i (now blob) (now fields) ⌝ }
-    ensures { λ r. ⌜ Means r (now (store .exit)) (withEntry i (newKey (gatewayOf state (now (store .entry))) lifetime confirm (now (blob .entry)) (now (fields .entry))) (gatewayOf state (now (store .entry)))) ⌝ }
+    ensures { λ r. ⌜ Means r (now (store .exit)) (withEntry i (newEntry (gatewayOf state (now (store .entry))) lifetime confirm (now (blob .entry)) (now (fields .entry))) (gatewayOf state (now (store .entry)))) ⌝ }
 {
     let from = start_of(i);
     let to = start_of(i + 1);
     fill_place(&mut store[from..to], blob, fields);
     let clock = state.clock;
     let mut es = state.entries;
-    es[i] = entry_for(
+    es[i] = held_entry(
         state.next,
         clock,
         lifetime,

@@ -14,7 +14,7 @@ use report::parts::read_changed;
 use report::parts::read_flag;
 use report::parts::read_place;
 use report::sections::Ran;
-use report::sections::outcome;
+use report::sections::ran_as;
 use wire::read::Cursor;
 use wire::read::Part;
 use wire::read::cut;
@@ -29,7 +29,7 @@ fn mpint(s: &[u8], c: Cursor) -> Ran {
     let Flag::Value(yes, after) = read_flag(s, next) else {
         return Ran::Malformed;
     };
-    outcome(is_mpint(cut(s, from, to)) == yes, after)
+    ran_as(is_mpint(cut(s, from, to)) == yes, after)
 }
 
 // Bytes, a place in them, and where the contents of the mpint there lie.
@@ -51,7 +51,7 @@ fn mpint_string(s: &[u8], c: Cursor) -> Ran {
     let Place::Value(to, next) = read_place(s, d) else {
         return Ran::Malformed;
     };
-    outcome(has_mpint(cut(s, bf, bt), at, from, to), next)
+    ran_as(has_mpint(cut(s, bf, bt), at, from, to), next)
 }
 
 // Bytes, and where their longest part of UTF-8 ends.
@@ -62,18 +62,18 @@ fn utf8(s: &[u8], c: Cursor) -> Ran {
     let Place::Value(end, after) = read_place(s, next) else {
         return Ran::Malformed;
     };
-    outcome(utf8_end(cut(s, from, to)) == end, after)
+    ran_as(utf8_end(cut(s, from, to)) == end, after)
 }
 
 // What is expected of the key fields of a payload.
 fn key(s: &[u8], c: Cursor, payload: &[u8]) -> Ran {
     let want = read_fields(s, c);
     match want {
-        Fields::Fault(next) => outcome(has_no_fields(payload), next),
+        Fields::Fault(next) => ran_as(has_no_fields(payload), next),
         Fields::Whole { end, blob, next } => {
             let from = blob.from;
             let to = blob.to;
-            outcome(has_fields(payload, end, cut(s, from, to)), next)
+            ran_as(has_fields(payload, end, cut(s, from, to)), next)
         }
         Fields::Malformed => Ran::Malformed,
     }
@@ -87,7 +87,7 @@ fn addition(s: &[u8], c: Cursor, payload: &[u8]) -> Ran {
     let Limited::Value(want, next) = read_limits(s, a) else {
         return Ran::Malformed;
     };
-    outcome(has_addition(payload, constrained, want), next)
+    ran_as(has_addition(payload, constrained, want), next)
 }
 
 fn expected(s: &[u8], c: Cursor, payload: &[u8], is_key: bool) -> Ran {
@@ -131,7 +131,7 @@ fn constraints(s: &[u8], c: Cursor) -> Ran {
     let Limited::Value(want, next) = read_limits(s, b) else {
         return Ran::Malformed;
     };
-    outcome(has_constraints(cut(s, bf, bt), from, want), next)
+    ran_as(has_constraints(cut(s, bf, bt), from, want), next)
 }
 
 pub fn judge(s: &[u8], c: Cursor, kind: u8, base: &[u8]) -> Ran {

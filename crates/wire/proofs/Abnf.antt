@@ -9,24 +9,25 @@ use borrow.Author.Tests.{le-leb, leb-true, ne-eqb, eqb-true}
 use lib.Dec.{leb}
 use Rattle.wire.specs.declared.utf8.Utf.{Utf}
 use Rattle.wire.specs.declared.utf8.Utf.the-variants.{Tails, Bad}
-use Rattle.wire.specs.Utf8.{between, leadOf, stepOf, walkOf, ended, start, utf8}
+use Rattle.wire.specs.Numbers.{within}
+use Rattle.wire.specs.Utf8.{leadOf, stepOf, stepsOf, ended, start, utf8}
 use Rattle.wire.specs.Abnf.{In, Tail, Char, Octets, utf8-1, utf8-2, utf8-3a, utf8-3b, utf8-3c, utf8-3d, utf8-4a, utf8-4b, utf8-4c, none, more}
 use Rattle.wire.specs.Promises.{Utf8Rule}
 use Rattle.wire.proofs.Bytewise.{OneRow, lead-in}
 
 -- ## What the ABNF derives is accepted
 
-first : (low high a : ℕ) (s : List ℕ) → OneRow low high → In low high a → walkOf start (a ∷ s) ≡ walkOf (leadOf low) s
-unfolding walkOf stepOf
+first : (low high a : ℕ) (s : List ℕ) → OneRow low high → In low high a → stepsOf start (a ∷ s) ≡ stepsOf (leadOf low) s
+unfolding stepsOf stepOf
 first low high a s t h = rw (lead-in low high a t h)
 
-next : (n low high b : ℕ) (s : List ℕ) → In low high b → walkOf (Tails (suc n) low high) (b ∷ s) ≡ walkOf (Tails n 0x80 0xBF) s
-unfolding walkOf stepOf
+next : (n low high b : ℕ) (s : List ℕ) → In low high b → stepsOf (Tails (suc n) low high) (b ∷ s) ≡ stepsOf (Tails n 0x80 0xBF) s
+unfolding stepsOf stepOf
 next n low high b s h =
     let e : suc n - 1 ≡ n = omega arith in
     rw (ne-eqb (suc n) 0 (suc-ne-zero n), le-leb low b (h .0), le-leb b high (h .1), e)
 
-walk-char : {c : List ℕ} → Char c → (s : List ℕ) → walkOf start (c ++ s) ≡ walkOf start s
+walk-char : {c : List ℕ} → Char c → (s : List ℕ) → stepsOf start (c ++ s) ≡ stepsOf start s
 unfolding leadOf
 walk-char (utf8-1 a h) s = rw (first 0x00 0x7F a _ tt h)
 walk-char (utf8-2 a b h h₁) s = rw (first 0xC2 0xDF a _ tt h, next)
@@ -38,8 +39,8 @@ walk-char (utf8-4a a b c d h h₁ h₂ h₃) s = rw (first 0xF0 0xF0 a _ tt h, n
 walk-char (utf8-4b a b c d h h₁ h₂ h₃) s = rw (first 0xF1 0xF3 a _ tt h, next, next, next)
 walk-char (utf8-4c a b c d h h₁ h₂ h₃) s = rw (first 0xF4 0xF4 a _ tt h, next, next, next)
 
-sound : {s : List ℕ} → Octets s → walkOf start s ≡ start
-unfolding walkOf
+sound : {s : List ℕ} → Octets s → stepsOf start s ≡ start
+unfolding stepsOf
 sound none = refl
 sound (more c s ch rest) = walk-char ch s ∙ sound rest
 
@@ -53,18 +54,18 @@ data Rest : Utf → List ℕ → Type 0 where
 bad : {s : List ℕ} {A : Type 0} → Rest Bad s → A
 bad r = elim r [ ]
 
-within : (low high b : ℕ) → between low high b ≡ true → In low high b
-within low high b e = go (leb low b) refl e
+in-range : (low high b : ℕ) → within low high b ≡ true → In low high b
+in-range low high b e = go (leb low b) refl e
   where
     go : (q : Bool) → leb low b ≡ q → (q && leb b high) ≡ true → In low high b
     go true p e = (leb-true low b p, leb-true b high e)
     go false p e = let z : _≡_ {A = ℕ} 0 1 = cc in absurd (omega arith)
 
-row : (low high b : ℕ) {u v : Utf} {s : List ℕ} {A : Type 0} → (In low high b → Rest u s → A) → (Rest v s → A) → Rest (cond (between low high b) u v) s → A
-row low high b {u} {v} {s} {A} f g r = go (between low high b) refl r
+row : (low high b : ℕ) {u v : Utf} {s : List ℕ} {A : Type 0} → (In low high b → Rest u s → A) → (Rest v s → A) → Rest (cond (within low high b) u v) s → A
+row low high b {u} {v} {s} {A} f g r = go (within low high b) refl r
   where
-    go : (q : Bool) → between low high b ≡ q → Rest (cond q u v) s → A
-    go true e r = f (within low high b e) r
+    go : (q : Bool) → within low high b ≡ q → Rest (cond q u v) s → A
+    go true e r = f (in-range low high b e) r
     go false e r = g r
 
 module _ (a : ℕ) where
@@ -99,8 +100,8 @@ follow n low high b s r =
     let e : suc n - 1 ≡ n = omega arith in
     row low high b byte bad (rw (ne-eqb (suc n) 0 (suc-ne-zero n), e) at r)
 
-parse : (s : List ℕ) (u : Utf) → ended (walkOf u s) ≡ true → Rest u s
-unfolding walkOf stepOf ended
+parse : (s : List ℕ) (u : Utf) → ended (stepsOf u s) ≡ true → Rest u s
+unfolding stepsOf stepOf ended
 parse [] Bad e = let z : _≡_ {A = ℕ} 0 1 = cc in absurd (omega arith)
 parse [] (Tails zero low high) e = whole none
 parse [] (Tails (suc n) low high) e = absurd (suc-ne-zero n (eqb-true (suc n) 0 e))

@@ -1,5 +1,5 @@
 -- Numbers and strings, for every length: what is read is what the format writes, and where nothing is read nothing was written.
-use Prim.Native.Nat.{ℕ, suc, _+_, _-_, _≤_, _<_, _^_, _*_, _/_, _%_}
+use Prim.Native.Nat.{ℕ, _+_, _-_, _≤_, _<_, _^_, _/_, _%_}
 use mathlib.Core.Path.{_≡_, refl, sym, ap, ap₂, _∙_}
 use mathlib.Core.List.{List, [], _∷_, _++_}
 use mathlib.Core.Logic.{_↔_, ⊎-elim}
@@ -15,7 +15,7 @@ use Rattle.wire.specs.declared.read.Part.the-variants.{Whole}
 use Rattle.wire.specs.Numbers.{be, be32, beAt, Bytes}
 use Rattle.wire.specs.Read.{cutOf, numberAt, stringAt}
 use Rattle.wire.specs.Write.{string}
-use Rattle.wire.proofs.Reading.{le-or-lt, cut-there, number-there, number-cut, number-read, number-fault, string-there, string-cut, string-read, string-fault}
+use Rattle.wire.proofs.Reading.{le-or-lt, cut-there, number-there, number-cut, number-read, number-short, string-there, string-cut, string-read}
 
 nested : (n : ℕ) → n < 2 ^ 32 → be (n / 256 / 256 / 256) (n / 256 / 256 % 256) (n / 256 % 256) (n % 256) ≡ n
 nested n h = omega arith
@@ -85,7 +85,7 @@ number-form s at n rest bytes h = (
 pub number-none : (s : List ℕ) (at : ℕ) → Bytes s
     → (numberAt s at ≡ Number.Fault at) ↔ ((n : ℕ) (rest : List ℕ) → n < 2 ^ 32 → drop at s ≡ be32 n ++ rest → ⊥)
 number-none s at bytes = (
-  (λ e n rest h w. let f = number-fault s at at e in let b = be-within s at n rest w in omega arith),
+  (λ e n rest h w. let f = number-short s at at e in let b = be-within s at n rest w in omega arith),
   (λ none.
       ⊎-elim
       (λ h. absurd (none (beAt s at) (drop (at + 4) s) (be-small s at bytes) (be-shape s at bytes h)))

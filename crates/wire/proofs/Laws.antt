@@ -1,14 +1,14 @@
 -- The promises, in 01's values: each follows from the law of its reader, since an answer's values tell it from every other answer.
-use Prim.Native.Nat.{ℕ, suc, _+_, _-_, _^_, _≤_, _<_}
+use Prim.Native.Nat.{ℕ, suc, _+_, _-_, _≤_, _<_}
 use mathlib.Core.Path.{_≡_, refl, sym, ap, _∙_}
-use mathlib.Core.List.{List, [], _∷_, _++_}
+use mathlib.Core.List.{List, _∷_}
 use mathlib.Core.Bool.{Bool, true, false}
-use mathlib.Core.Logic.{_⊎_, inl, inr, ⊎-elim, _↔_}
+use mathlib.Core.Logic.{_⊎_, ⊎-elim, _↔_}
 use native.Mathlib.Omega.{arith}
 use native.Mathlib.Numerals.{add-one}
 use borrow.Author.Tests.{eqb-true, eq-eqb, ne-eqb}
 use lib.Dec.{eqb}
-use lib.ListN.{length, getD, take, drop, length-drop, drop-of-length-le}
+use lib.ListN.{length, getD, drop, length-drop, drop-of-length-le}
 use lib.Seq.{drop-cons}
 use Rattle.wire.specs.declared.read.Cursor.{Cursor}
 use Rattle.wire.specs.declared.read.Octet.{Octet}
@@ -16,13 +16,13 @@ use Rattle.wire.specs.declared.read.Number.{Number}
 use Rattle.wire.specs.declared.read.Part.{Part}
 use Rattle.wire.specs.declared.read.Part.the-variants.{Whole}
 use Rattle.wire.specs.Values.{Reading, read, fault, Span, octetReads, numberReads, partReads}
-use Rattle.wire.specs.Utf8.{utf8, utf8End}
+use Rattle.wire.specs.Utf8.{utf8End}
 use Rattle.wire.specs.Abnf.{Octets}
 use Rattle.wire.specs.Mpint.{mpint}
 use Rattle.wire.specs.Steps.{so, part}
-use Rattle.wire.specs.Read.{cutOf, byteAt, numberAt, stringAt, textAt, mpintAt}
-use Rattle.wire.specs.Promises.{OneAnswer, AnswersApart, ByteRule, ByteCut, NumberRule, NumberCut, StringRule, StringCut, TextRule, TextFaults, TextFault, MpintAtRule, MpintFault, WriteRule}
-use Rattle.wire.proofs.Reading.{le-or-lt, byte-there, byte-cut, string-read, string-fault, string-cut}
+use Rattle.wire.specs.Read.{cutOf, numberAt, stringAt, textAt, mpintAt}
+use Rattle.wire.specs.Promises.{OneAnswer, AnswersApart, ByteRule, ByteCut, NumberRule, NumberCut, StringRule, StringCut, TextRule, TextFault, MpintAtRule, MpintFault, WriteRule}
+use Rattle.wire.proofs.Reading.{le-or-lt, byte-there, byte-cut, string-read, string-short, string-cut}
 use Rattle.wire.proofs.Format.{number-form, number-none, string-form, string-none, part-length}
 use Rattle.wire.proofs.Abnf.{utf8-rule}
 use Rattle.wire.proofs.Longest.{utf8-end, utf8-end-whole}
@@ -66,7 +66,7 @@ answers-apart = record { octets = octets-apart; numbers = numbers-apart; parts =
 pub whole-of : (p : Part) (v : Span) (next : ℕ) → partReads p ≡ read v next → p ≡ Whole (v .from) (v .to) (record { at = next })
 whole-of p v next e = parts-apart p (Whole (v .from) (v .to) (record { at = next })) e
 
-pub fault-of : (p : Part) (at : ℕ) → partReads p ≡ fault at → p ≡ Part.Fault at
+fault-of : (p : Part) (at : ℕ) → partReads p ≡ fault at → p ≡ Part.Fault at
 fault-of p at e = parts-apart p (Part.Fault at) e
 
 -- ## Bytes, numbers, strings
@@ -152,8 +152,8 @@ mpint-at-rule s at v next =
     )
 
 -- a string that is not there is a fault at its own place
-pub string-fault-place : (s : List ℕ) (at place : ℕ) → stringAt s at ≡ Part.Fault place → place ≡ at
-string-fault-place s at place e = let h = string-cut s at (string-fault s at place e) in cc
+string-fault-place : (s : List ℕ) (at place : ℕ) → stringAt s at ≡ Part.Fault place → place ≡ at
+string-fault-place s at place e = let h = string-cut s at (string-short s at place e) in cc
 
 pub mpint-fault : MpintFault
 unfolding mpintAt part so

@@ -1,3 +1,4 @@
+-- The laws that the proofs of functions cite, and the proofs of what is promised.
 pub mod Reading
 pub mod Steps
 pub mod Format

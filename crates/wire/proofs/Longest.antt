@@ -12,26 +12,26 @@ use lib.Seq.{take-suc, take-length}
 use Rattle.wire.specs.declared.read.Cursor.{Cursor}
 use Rattle.wire.specs.declared.read.Part.the-variants.{Whole}
 use Rattle.wire.specs.declared.utf8.Utf.{Utf}
-use Rattle.wire.specs.Utf8.{stepOf, walkOf, ended, start, utf8, longest, utf8End}
+use Rattle.wire.specs.Utf8.{stepOf, stepsOf, ended, start, utf8, longest, utf8End}
 use Rattle.wire.specs.Read.{cutOf, stringAt}
 use Rattle.wire.specs.Promises.{Utf8End}
 use Rattle.wire.proofs.Reading.{string-read}
 use Rattle.wire.proofs.Format.{part-length}
 use Rattle.wire.proofs.Abnf.{utf8-rule}
 
-walk-snoc : (u : Utf) (s : List ℕ) (b : ℕ) → walkOf u (s ++ (b ∷ [])) ≡ stepOf (walkOf u s) b
-unfolding walkOf
+walk-snoc : (u : Utf) (s : List ℕ) (b : ℕ) → stepsOf u (s ++ (b ∷ [])) ≡ stepOf (stepsOf u s) b
+unfolding stepsOf
 walk-snoc u [] b = refl
 walk-snoc u (a ∷ s) b = walk-snoc (stepOf u a) s b
 
 -- the state and the end after i bytes
 pub record Passed (s : List ℕ) (u : Utf) (end i : ℕ) : Type 0 where
   pub within : i ≤ length s
-  pub state : u ≡ walkOf start (take i s)
+  pub state : u ≡ stepsOf start (take i s)
   pub found : end ≡ longest i s
 
 pub passed-none : (s : List ℕ) (u : Utf) → u ≡ start → Passed s u 0 0
-unfolding walkOf longest
+unfolding stepsOf longest
 passed-none s u e = record { within = omega arith; state = e; found = refl }
 
 pub passed-one :
@@ -39,7 +39,7 @@ pub passed-one :
     → v ≡ stepOf u (getD s i 0) → r ≡ cond (ended v) (i + 1) end → Passed s v r (i + 1)
 unfolding longest utf8
 passed-one s u end i v r p h e f =
-    let w : v ≡ walkOf start (take (suc i) s) = e ∙ rw (take-suc s i 0, walk-snoc, p .state) in
+    let w : v ≡ stepsOf start (take (suc i) s) = e ∙ rw (take-suc s i 0, walk-snoc, p .state) in
     let z : r ≡ longest (suc i) s = f ∙ rw (w, p .found, add-one) in
     record { within = omega arith; state = rw add-one w; found = rw add-one z }
 
@@ -56,7 +56,7 @@ record Greatest (s : List ℕ) (n r : ℕ) : Type 0 where
   pub most : (m : ℕ) → m ≤ n → utf8 (take m s) ≡ true → m ≤ r
 
 longest-greatest : (n : ℕ) (s : List ℕ) → Greatest s n (longest n s)
-unfolding longest utf8 walkOf ended
+unfolding longest utf8 stepsOf ended
 longest-greatest zero s = record { within = omega arith; valid = refl; most = λ m h e. h }
 longest-greatest (suc n) s = go (utf8 (take (suc n) s)) refl (longest-greatest n s)
   where

@@ -3,7 +3,7 @@ use Prim.Native.Nat.{ℕ, suc, _+_, _-_, _≤_, _<_}
 use mathlib.Core.Path.{_≡_, refl, sym, ap, _∙_}
 use mathlib.Core.List.{List, [], _∷_}
 use mathlib.Core.Bool.{Bool, true, false, _&&_, and-false}
-use mathlib.Core.Logic.{_⊎_, inl, inr, ⊎-elim, _↔_}
+use mathlib.Core.Logic.{_⊎_, inl, inr, ⊎-elim}
 use native.Mathlib.Nat.{lt-of-not-le}
 use native.Mathlib.Decide.{decLe}
 use native.Mathlib.Omega.{arith}
@@ -80,8 +80,8 @@ number-read s at n k e =
     (λ h. let w = number-cut s at h in let z : _≡_ {A = ℕ} 0 1 = cc in absurd (omega arith))
     (le-or-lt (at + 4) (length s))
 
-pub number-fault : (s : List ℕ) (at p : ℕ) → numberAt s at ≡ Number.Fault p → length s < at + 4
-number-fault s at p e =
+pub number-short : (s : List ℕ) (at p : ℕ) → numberAt s at ≡ Number.Fault p → length s < at + 4
+number-short s at p e =
     ⊎-elim
     (λ h. let w = number-there s at h in let z : _≡_ {A = ℕ} 0 1 = cc in absurd (omega arith))
     (λ h. h)
@@ -105,8 +105,8 @@ string-read s at f t k e =
     (λ h. let w = string-cut s at h in let z : _≡_ {A = ℕ} 0 1 = cc in absurd (omega arith))
     (le-or-lt (at + 4 + beAt s at) (length s))
 
-pub string-fault : (s : List ℕ) (at p : ℕ) → stringAt s at ≡ Part.Fault p → length s < at + 4 + beAt s at
-string-fault s at p e =
+pub string-short : (s : List ℕ) (at p : ℕ) → stringAt s at ≡ Part.Fault p → length s < at + 4 + beAt s at
+string-short s at p e =
     ⊎-elim
     (λ h. let w = string-there s at h in let z : _≡_ {A = ℕ} 0 1 = cc in absurd (omega arith))
     (λ h. h)
@@ -123,9 +123,9 @@ module _ (v : List ℕ) where
   unfolding mpint
   mpint-none h = rw (past v 0 (omega arith), past v 1 (omega arith))
 
-  pub mpint-one : length v ≡ 1 → getD v 0 0 ≤ 0 → false ≡ mpint v
+  pub mpint-single : length v ≡ 1 → getD v 0 0 ≤ 0 → false ≡ mpint v
   unfolding mpint
-  mpint-one h k = let e : getD v 0 0 ≡ 0 = omega arith in rw (e, past v 1 (omega arith))
+  mpint-single h k = let e : getD v 0 0 ≡ 0 = omega arith in rw (e, past v 1 (omega arith))
 
   pub mpint-high : 128 ≤ getD v 0 0 → false ≡ mpint v
   unfolding mpint

@@ -1,5 +1,5 @@
 -- Following the code: `search steps` closes a return where the definition goes by the same tests and calls, and `search all` the other needs.
-use Prim.Native.Nat.{ℕ, _+_, _-_, _^_, _≤_, _<_}
+use Prim.Native.Nat.{ℕ, _-_, _≤_, _<_}
 use mathlib.Core.Path.{_≡_, refl, sym, _∙_}
 use mathlib.Core.List.{List}
 use mathlib.Core.Bool.{Bool, true, false}
@@ -8,7 +8,6 @@ use borrow.Author.Tests.{le-leb, lt-leb, lt-ltb, le-ltb, eq-eqb, ne-eqb}
 use native.Mathlib.Omega.{arith}
 use native.Mathlib.Nat.{pos-of-ne-zero}
 use lib.Dec.{leb, ltb, eqb}
-use lib.ListN.{length, getD}
 use Rattle.wire.specs.declared.read.Cursor.{Cursor}
 use Rattle.wire.specs.declared.read.Octet.{Octet}
 use Rattle.wire.specs.declared.read.Number.{Number}
@@ -17,7 +16,7 @@ use Rattle.wire.specs.declared.read.Part.the-variants.{Whole}
 use Rattle.wire.specs.Mpint.{mpint}
 use Rattle.wire.specs.Read.{same, stringAt}
 use Rattle.wire.specs.Steps.{so, byte, number, part}
-use Rattle.wire.proofs.Reading.{cut-there, cut-past, cut-back, past, string-read}
+use Rattle.wire.proofs.Reading.{cut-there, cut-past, cut-back, string-read}
 
 module _ {A : Type 0} where
   pub so-yes : (z : A) (b : Bool) (x a : A) → true ≡ b → x ≡ a → x ≡ so z b a

@@ -1,8 +1,8 @@
 -- Laws of writing a range: byte by byte, one range behind another, and what stays.
 use Prim.Native.Nat.{ℕ, suc, _+_, _-_, _≤_, _<_}
-use mathlib.Core.Path.{_≡_, refl, sym, ap, _∙_}
+use mathlib.Core.Path.{_≡_, sym, ap, _∙_}
 use mathlib.Core.Logic.{_⊎_, ⊎-elim}
-use mathlib.Core.List.{List, [], _∷_, _++_, append-assoc}
+use mathlib.Core.List.{List, [], _∷_, _++_}
 use native.Mathlib.Nat.{add-zero, add-suc, suc-add}
 use native.Mathlib.Numerals.{add-one}
 use native.Mathlib.Omega.{arith}
@@ -24,7 +24,7 @@ sets-append [] w l i = rw add-zero
 sets-append (a ∷ v) w l i = sets-append v w (set l i a) (suc i) ∙ rw (add-suc, suc-add)
 
 -- one range behind another
-pub write-write : (l : List ℕ) (at : ℕ) (v : List ℕ) (n : ℕ) (w : List ℕ) → n ≡ at + length v → at + length v + length w ≤ length l
+write-write : (l : List ℕ) (at : ℕ) (v : List ℕ) (n : ℕ) (w : List ℕ) → n ≡ at + length v → at + length v + length w ≤ length l
     → write (write l at v) n w ≡ write l at (v ++ w)
 write-write l at v n w e h =
     let k : at + length v ≤ length l = omega arith in
@@ -66,12 +66,6 @@ write-four l at a b c d h =
 pub write-behind : (l : List ℕ) (at : ℕ) (v m : List ℕ) (n : ℕ) (w o : List ℕ) → m ≡ write l at v → o ≡ write m n w
     → n ≡ at + length v → at + length v + length w ≤ length l → o ≡ write l at (v ++ w)
 write-behind l at v m n w o e f q h = rw (f, e) (write-write l at v n w q h)
-
-pub store-behind : (l : List ℕ) (at : ℕ) (v m : List ℕ) (n a : ℕ) → m ≡ write l at v → n ≡ at + length v → at + length v < length l
-    → set m n a ≡ write l at (v ++ (a ∷ []))
-store-behind l at v m n a e q h =
-    let k : length (write l at v) ≡ length l = length-write l at v (omega arith) in
-    rw e (write-set (write l at v) n a (omega arith) ∙ write-write l at v n (a ∷ []) q (omega arith))
 
 -- each byte, inside the range and outside
 module _ (l : List ℕ) (at : ℕ) (v : List ℕ) (h : at + length v ≤ length l) where

@@ -16,8 +16,8 @@ splitOf s =
     (so MoreNeeded (leb (k .at + n) (length s)) Frame)
 
 -- the payload of a frame that is whole, else nothing
-unfoldable pub payloadOf : List ℕ → List ℕ
-payloadOf s =
+unfoldable pub framePayload : List ℕ → List ℕ
+framePayload s =
     number (λ _. []) (numberAt s 0) λ n k.
     so [] (leb n 262144)
     (so [] (leb (k .at + n) (length s)) (cutOf s (k .at) (k .at + n)))

@@ -1,7 +1,12 @@
--- Four bytes and the number that they spell, the highest first (RFC 4251, section 5, uint32).
+-- Numbers: the test of a range, and four bytes and the number that they spell, the highest first (RFC 4251, section 5, uint32).
 use Prim.Native.Nat.{ℕ, _+_, _*_, _/_, _%_, _<_}
+use mathlib.Core.Bool.{Bool, _&&_}
 use mathlib.Core.List.{List, [], _∷_}
 use lib.ListN.{getD}
+use lib.Dec.{leb}
+
+abbrev pub within : ℕ → ℕ → ℕ → Bool
+within low high n = leb low n && leb n high
 
 abbrev pub be : ℕ → ℕ → ℕ → ℕ → ℕ
 be a b c d = ((a * 256 + b) * 256 + c) * 256 + d

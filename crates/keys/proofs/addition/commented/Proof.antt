@@ -1,6 +1,5 @@
 -- The definition goes by the same text, and by the same walk where there are constraints. Assumes nothing.
 use borrow.Author.Needs.{needs}
-use mathlib.Core.Path.{_∙_, ap}
 use Rattle.wire.specs.Steps.{part}
 use Rattle.keys.specs.Additions.{limitsOf, commentedAt}
 use Rattle.keys.proofs.addition.commented.Statement.{statement}

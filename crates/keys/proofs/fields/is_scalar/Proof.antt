@@ -1,3 +1,4 @@
+-- The definition goes by the same tests, in the same order. Assumes nothing.
 use borrow.Author.Tests.{le-leb, lt-leb}
 use Rattle.keys.specs.Fields.{scalar}
 use borrow.Author.Needs.{needs}

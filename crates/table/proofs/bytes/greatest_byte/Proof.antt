@@ -2,15 +2,15 @@
 use borrow.Author.Needs.{needs}
 use native.Mathlib.Omega.{arith}
 use Prim.Native.Nat.{_≤_, _-_, max}
-use mathlib.Core.Path.{_≡_, refl, sym, _∙_}
+use mathlib.Core.Path.{_≡_, sym, _∙_}
 use lib.ListN.{length, drop}
-use Rattle.table.specs.Bytes.{greatest}
+use Rattle.table.specs.Bytes.{greatestByte}
 use Rattle.table.proofs.ByteLaws.{greatest-step, greatest-end}
 use Rattle.table.proofs.bytes.greatest_byte.Statement.{statement}
 use Rattle.table.proofs.bytes.greatest_byte.Tie as tie
 
 abbrev Inv-loop : tie.InvT-loop
-Inv-loop p most₀ i₀ most i = (greatest p ≡ max most (greatest (drop i p))) × (i ≤ length p)
+Inv-loop p most₀ i₀ most i = (greatestByte p ≡ max most (greatestByte (drop i p))) × (i ≤ length p)
 
 abbrev μ-loop : tie.MeasureT-loop
 μ-loop p most₀ i₀ most i = length p - i

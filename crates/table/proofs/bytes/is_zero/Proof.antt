@@ -1,6 +1,5 @@
 -- All bytes are zero exactly where the greatest is. Assumes nothing.
 use borrow.Author.Needs.{needs}
-use mathlib.Core.Path.{_∙_}
 use Rattle.table.proofs.ByteLaws.{zero-greatest}
 use Rattle.table.proofs.bytes.is_zero.Statement.{statement}
 use Rattle.table.proofs.bytes.is_zero.Tie as tie

@@ -7,7 +7,7 @@ use Rattle.table.proofs.changes.put.Tie as tie
 
 returns : tie.Need-returns
 returns c =
-    let e = c .before .before .entry-for in
+    let e = c .before .before .held-entry in
     let w = c .before .before .before .before .before .before .before .fill-place in
     let to = c .before .before .before .before .before .before .before .before .before .start-of2 in
     let from = c .before .before .before .before .before .before .before .before .before .before .start-of in

@@ -2,7 +2,7 @@
 use native.Mathlib.Omega.{arith}
 use borrow.Author.Needs.{needs}
 use mathlib.Core.Path.{_≡_, sym, ap, _∙_}
-use lib.ListN.{length, take}
+use lib.ListN.{length}
 use lib.Seq.{length-take-le}
 use Rattle.table.specs.Meaning.{gatewayOf}
 use Rattle.table.proofs.ReadLaws.{view-at, part-size, state-sound-at, state-blob-fits, sound-blob}

@@ -1,7 +1,7 @@
 -- The part from one place's start up to the next one's. Assumes nothing.
 use native.Mathlib.Omega.{arith}
 use borrow.Author.Needs.{needs}
-use Prim.Native.Nat.{_-_, _*_}
+use Prim.Native.Nat.{_-_}
 use mathlib.Core.Path.{_≡_}
 use Rattle.table.proofs.places.bytes_at.Statement.{statement}
 use Rattle.table.proofs.places.bytes_at.Tie as tie

@@ -1,6 +1,5 @@
 -- Where the search finds nothing, the definition goes on to the lowest free place. Assumes nothing.
 use borrow.Author.Needs.{needs}
-use mathlib.Core.Path.{_≡_}
 use Rattle.rule.specs.Gateway.{found, placeFor}
 use Rattle.table.proofs.places.place_for.Statement.{statement}
 use Rattle.table.proofs.places.place_for.Tie as tie

@@ -1,6 +1,7 @@
+-- Each way out is one law of the test. Assumes nothing.
 use borrow.Author.Needs.{needs}
 use native.Mathlib.Omega.{arith}
-use Rattle.wire.proofs.Reading.{mpint-none, mpint-one, mpint-high, mpint-low, mpint-zero}
+use Rattle.wire.proofs.Reading.{mpint-none, mpint-single, mpint-high, mpint-low, mpint-zero}
 use Rattle.wire.proofs.read.is_mpint.Statement.{statement}
 use Rattle.wire.proofs.read.is_mpint.Tie as tie
 
@@ -17,7 +18,7 @@ returns-3 : tie.Need-returns-3
 returns-3 c = mpint-low _ (c .before .if2 .left) (c .if3 .taken)
 
 returns-4 : tie.Need-returns-4
-returns-4 c = mpint-one _ (c .if4 .taken) (c .before .if3 .left)
+returns-4 c = mpint-single _ (c .if4 .taken) (c .before .if3 .left)
 
 shared-slice-read-result : tie.Need-shared-slice-read-result
 shared-slice-read-result c = search needs

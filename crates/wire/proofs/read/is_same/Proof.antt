@@ -1,3 +1,4 @@
+-- What is left of the two lists is the same exactly where they are. The measure is what is left of the first. Assumes nothing.
 use borrow.Author.Needs.{needs}
 use native.Mathlib.Omega.{arith}
 use Prim.Native.Nat.{_≤_, _-_}

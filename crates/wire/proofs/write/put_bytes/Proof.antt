@@ -1,3 +1,4 @@
+-- After i turns the first i bytes are written. The measure is what is left of them. Assumes nothing.
 use borrow.Author.Needs.{needs}
 use native.Mathlib.Omega.{arith}
 use Prim.Native.Nat.{_≤_, _-_}

@@ -1,3 +1,4 @@
+-- Four stores in a row write the four bytes. Assumes nothing.
 use mathlib.Core.Path.{refl}
 use Rattle.wire.proofs.Writing.{write-four}
 use native.Mathlib.Omega.{arith}

@@ -1,3 +1,4 @@
+-- The length is written, and the bytes behind it. Assumes nothing.
 use native.Mathlib.Omega.{arith}
 use Rattle.wire.proofs.Writing.{write-behind}
 use borrow.Author.Needs.{needs}

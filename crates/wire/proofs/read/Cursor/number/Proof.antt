@@ -1,3 +1,4 @@
+-- Fewer than four bytes are a fault; else the four that stand there are joined as the definition joins them. Assumes nothing.
 use borrow.Author.Needs.{needs}
 use Rattle.wire.specs.Numbers.{beAt}
 use Rattle.wire.proofs.Reading.{number-cut, number-there}

@@ -1,7 +1,8 @@
+-- Where the number is cut, or more than what is left, so is the string; else it is there. Assumes nothing.
 use borrow.Author.Needs.{needs}
 use native.Mathlib.Omega.{arith}
 use mathlib.Core.Path.{sym, _∙_}
-use Rattle.wire.proofs.Reading.{number-fault, number-read, string-cut, string-there}
+use Rattle.wire.proofs.Reading.{number-short, number-read, string-cut, string-there}
 use Rattle.wire.proofs.read.Cursor.string.Statement.{statement}
 use Rattle.wire.proofs.read.Cursor.string.Tie as tie
 
@@ -15,7 +16,7 @@ enum-told : tie.Need-enum-told
 enum-told c = search needs
 
 returns : tie.Need-returns
-returns c = let h = number-fault _ _ _ (sym (c .before .before .number .ensures) ∙ c .enum-told .given .1) in string-cut _ _ (omega arith)
+returns c = let h = number-short _ _ _ (sym (c .before .before .number .ensures) ∙ c .enum-told .given .1) in string-cut _ _ (omega arith)
 
 cast-len : tie.Need-cast-len
 cast-len c = search needs

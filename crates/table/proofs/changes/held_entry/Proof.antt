@@ -1,8 +1,8 @@
 -- Each arm is the definition's. Assumes nothing.
 use borrow.Author.Needs.{needs}
 use Rattle.table.specs.Meaning.{heldEntry}
-use Rattle.table.proofs.changes.entry_for.Statement.{statement}
-use Rattle.table.proofs.changes.entry_for.Tie as tie
+use Rattle.table.proofs.changes.held_entry.Statement.{statement}
+use Rattle.table.proofs.changes.held_entry.Tie as tie
 
 returns : tie.Need-returns
 unfolding heldEntry
@@ -12,5 +12,5 @@ returns-2 : tie.Need-returns-2
 unfolding heldEntry
 returns-2 c = rw (c .before .lifetime .given .1)
 
-pub entry-for-spec : {M : Type 1} → statement M
-entry-for-spec = tie.close (tie.spec (λ c. search needs) (λ c. search needs) returns returns-2)
+pub held-entry-spec : {M : Type 1} → statement M
+held-entry-spec = tie.close (tie.spec (λ c. search needs) (λ c. search needs) returns returns-2)
