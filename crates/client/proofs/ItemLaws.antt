@@ -14,7 +14,7 @@ use Rattle.client.specs.Refusals.{run}
 use Rattle.client.specs.Identities.{itemsAt}
 
 -- one item, and the items behind it
-pub items-suc : (n : ℕ) (s : List ℕ) (at : ℕ) → itemsAt (suc n) s at ≡ run Fault (itemsAt 1 s at) (itemsAt n s)
+items-suc : (n : ℕ) (s : List ℕ) (at : ℕ) → itemsAt (suc n) s at ≡ run Fault (itemsAt 1 s at) (itemsAt n s)
 unfolding itemsAt part run
 items-suc n s at = go (stringAt s at)
   where

@@ -27,8 +27,8 @@ fn is_fit(hash: u32, kind: &[u8]) -> bool
 {
     match hash {
         0 => true,
-        2 => is_same(kind, b"rsa-sha2-256"),
-        4 => is_same(kind, b"rsa-sha2-512"),
+        msg::SSH_AGENT_RSA_SHA2_256 => is_same(kind, b"rsa-sha2-256"),
+        msg::SSH_AGENT_RSA_SHA2_512 => is_same(kind, b"rsa-sha2-512"),
         _ => false,
     }
 }

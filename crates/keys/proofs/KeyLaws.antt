@@ -56,7 +56,7 @@ part-part (Part.Fault at) F G = refl
 -- ## What a key comes to
 
 -- the reader found these fields, where they end, and their blob
-pub record Found (s : List ℕ) (at : ℕ) (fields blob : List ℕ) (p : Places) : Type 0 where
+pub record KeyFound (s : List ℕ) (at : ℕ) (fields blob : List ℕ) (p : Places) : Type 0 where
   pub read-so : keyAt s at ≡ Key.Whole p
   pub end : p .end ≡ at + length fields
   pub public : blobOf s at p ≡ blob
@@ -86,7 +86,7 @@ unfolding keyAt part
 key-typed a = rw (a .read, lies-cut (inside a))
 
 key-found : {s : List ℕ} {at : ℕ} {v fields blob : List ℕ} {p : Places} → At s at v → Laid s at fields blob p → behindType (kindOf v) s at (behind at v) ≡ Key.Whole p
-    → (p : Places) × Found s at fields blob p
+    → (p : Places) × KeyFound s at fields blob p
 key-found {p = p} a l e = (p, record { read-so = key-typed a ∙ e; end = l .lies .end; public = l .public })
 
 -- ## Strings one after another
@@ -136,7 +136,7 @@ module _ {s : List ℕ} (bytes-of : Bytes s) {at : ℕ} where
       let w = pair-rule a x a-size x-at .0 (x-size, rw (lies-cut (inside a-at)) at (q .0)) in
       rw (← q .1) (keyed (ed25519-laid (type-at .lies) (a-at .lies) (x-at .lies)) (rw (w .2) (ed25519-key a (w .0) a-size (w .1))))
 
-  ed25519-out : {fields blob rest : List ℕ} → Ed25519 fields blob → Stand s at fields rest → (p : Places) × Found s at fields blob p
+  ed25519-out : {fields blob rest : List ℕ} → Ed25519 fields blob → Stand s at fields rest → (p : Places) × KeyFound s at fields blob p
   unfolding kindOf same so part ed25519At
   ed25519-out (ed25519-key a seed a-size seed-size) r =
       first bytes-of (bytes "ssh-ed25519") _ r λ type-at r.
@@ -162,7 +162,7 @@ module _ {s : List ℕ} (bytes-of : Bytes s) {at : ℕ} (c : Curve) where
       rw (← same-places e) (keyed (ecdsa-laid (type-at .lies) (v-at .lies) (x-at .lies) (d-at .lies)) (rw (v-name, x-first) (ecdsa-key q d n x-size positive shortest below)))
 
   ecdsa-out : {fields blob rest : List ℕ} → ((next : ℕ) → behindType (kindOf (ecdsaType c)) s at next ≡ ecdsaAt s next (c .name) (c .point) (c .scalar))
-      → Ecdsa c fields blob → Stand s at fields rest → (p : Places) × Found s at fields blob p
+      → Ecdsa c fields blob → Stand s at fields rest → (p : Places) × KeyFound s at fields blob p
   unfolding part ecdsaAt
   ecdsa-out kind (ecdsa-key q d n size positive shortest below) r =
       first bytes-of (ecdsaType c) _ r λ type-at r.
@@ -201,7 +201,7 @@ module _ {s : List ℕ} (bytes-of : Bytes s) {at : ℕ} where
       rw (← same-places r) (keyed (rsa-laid (type-at .lies) (n-at .lies) (e-at .lies) (d-at .lies) (iqmp-at .lies) (p-at .lies) (q-at .lies))
       (rsa-key n e d iqmp p q n-mpint e-mpint d-mpint iqmp-mpint p-mpint q-mpint))
 
-  rsa-out : {fields blob rest : List ℕ} → Rsa fields blob → Stand s at fields rest → (p : Places) × Found s at fields blob p
+  rsa-out : {fields blob rest : List ℕ} → Rsa fields blob → Stand s at fields rest → (p : Places) × KeyFound s at fields blob p
   unfolding kindOf same so part rsaAt rsaSecretsAt
   rsa-out (rsa-key n e d iqmp p q n-mpint e-mpint d-mpint iqmp-mpint p-mpint q-mpint) r =
       first bytes-of (bytes "ssh-rsa") _ r λ type-at r.
@@ -260,14 +260,14 @@ behind-in {p = p} v Kind.Rsa bytes-of a n e = any-kind (rsa-in bytes-of p (rw n 
 behind-in v Kind.Other bytes-of a n e = let z : _≡_ {A = ℕ} 0 1 = cc in absurd (omega arith)
 
 pub only-keys : (s : List ℕ) (at : ℕ) (p : Places) → Bytes s → keyAt s at ≡ Key.Whole p
-    → (fields : List ℕ) × (blob : List ℕ) × KeyFields fields blob × (drop at s ≡ fields ++ drop (p .end) s) × Found s at fields blob p
+    → (fields : List ℕ) × (blob : List ℕ) × KeyFields fields blob × (drop at s ≡ fields ++ drop (p .end) s) × KeyFound s at fields blob p
 unfolding keyAt
 only-keys s at p bytes-of e =
     took (string-reads bytes-of) _ _ p e λ v a passed went.
     let (fields, blob, form, laid) = behind-in v (kindOf v) bytes-of a (named v) (sym (key-typed a) ∙ e) in
     (fields, blob, form, laid .lies .shape, record { read-so = e; end = laid .lies .end; public = laid .public })
 
-every-form : {s : List ℕ} {at : ℕ} {fields blob rest : List ℕ} → Bytes s → KeyFields fields blob → Stand s at fields rest → (p : Places) × Found s at fields blob p
+every-form : {s : List ℕ} {at : ℕ} {fields blob rest : List ℕ} → Bytes s → KeyFields fields blob → Stand s at fields rest → (p : Places) × KeyFound s at fields blob p
 unfolding kindOf same so
 every-form bytes-of (as-ed25519 k) = ed25519-out bytes-of k
 every-form bytes-of (as-nistp256 k) = ecdsa-out bytes-of nistp256 (λ next. refl) k
@@ -276,7 +276,7 @@ every-form bytes-of (as-nistp521 k) = ecdsa-out bytes-of nistp521 (λ next. refl
 every-form bytes-of (as-rsa k) = rsa-out bytes-of k
 
 pub every-key : (s : List ℕ) (at : ℕ) (fields blob rest : List ℕ) → Bytes s → KeyFields fields blob → length fields < 2 ^ 32
-    → drop at s ≡ fields ++ rest → (p : Places) × Found s at fields blob p
+    → drop at s ≡ fields ++ rest → (p : Places) × KeyFound s at fields blob p
 every-key s at fields blob rest bytes-of k h e = every-form bytes-of k (record { shape = e; small = h })
 
 pub one-blob : OneBlob

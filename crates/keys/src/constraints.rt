@@ -1,5 +1,6 @@
 // The constraints of an add request.
 use wire::Seconds;
+use wire::msg;
 use wire::read::Cursor;
 use wire::read::Number;
 ghost use mathlib.Core.Path.{_≡_};
@@ -33,7 +34,7 @@ pub fn constraints(s: &[u8], from: usize) -> Walk
         }
         let kind = s[at];
         match kind {
-            1 => {
+            msg::CONSTRAIN_LIFETIME => {
                 match lifetime {
                     Lifetime::Forever => {}
                     Lifetime::For(_) => {
@@ -51,7 +52,7 @@ pub fn constraints(s: &[u8], from: usize) -> Walk
                     }
                 }
             }
-            2 => {
+            msg::CONSTRAIN_CONFIRM => {
                 confirm = true;
                 at = at + 1;
             }

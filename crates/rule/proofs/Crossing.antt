@@ -43,7 +43,7 @@ module _ (g : Gateway) (c : Call) where
   abbrev pub planOf : Plan
   planOf = rule (advance (c .reading) g) (c .frame .payload)
 
-  pub call-cases : (oracle : Oracle) (P : Option ℕ → Result → Type 0) → (refusal g c ≡ none → Agrees (lent (c .answers)) oracle)
+  call-cases : (oracle : Oracle) (P : Option ℕ → Result → Type 0) → (refusal g c ≡ none → Agrees (lent (c .answers)) oracle)
       → ((n : ℕ) → P (some n) (record { outcome = refused n; gateway = g }))
       → ((q : Question) → Needs (lent (c .answers)) planOf q → P none (record { outcome = asks q; gateway = advance (c .reading) g }))
       → (refusal g c ≡ none → P none (landingResult (alone oracle planOf)))
@@ -80,7 +80,7 @@ together-advanced false m r g h t = sym (advance-heard m r g (t .behind)) ∙ ap
 together-advanced true m r g h t = ap (advance r) (t .same) ∙ advance-advance m r h
 
 module _ (b : Bool) (m r : ℕ) (g h : Gateway) (t : Together b m g h) where
-  pub together-clock : max m r ≤ advance r g .clock
+  together-clock : max m r ≤ advance r g .clock
   together-clock = let k : m ≤ g .clock = t .behind in rw (advance-clock r g) (omega arith)
 
   pub together-asked : Together true (max m r) (advance r g) h

@@ -215,7 +215,7 @@ module _ (test : Place → Bool) where
       let rest : First test ps i = record { inside = let h = f .inside in omega arith; passes = f .passes; earlier = λ j h. f .earlier (suc j) (omega arith) } in
       rw (f .earlier 0 (omega arith)) (first-from (suc k) ps i rest ∙ ap At there)
 
-  pub first-seek : (ps : List Place) (i : ℕ) → First test ps i → seek test 0 ps ≡ At i
+  first-seek : (ps : List Place) (i : ℕ) → First test ps i → seek test 0 ps ≡ At i
   first-seek ps i f = let from0 : 0 + i ≡ i = omega arith in first-from 0 ps i f ∙ ap At from0
 
   none-cons : (p : Place) (ps : List Place) → test p ≡ false → NonePasses test ps → NonePasses test (p ∷ ps)
@@ -229,7 +229,7 @@ module _ (test : Place → Bool) where
       (λ t never. absurd (at-not-nothing never))
       (λ t e. none-cons p ps t (seek-none (suc k) ps e))
 
-  pub none-seek : (k : ℕ) (ps : List Place) → NonePasses test ps → seek test k ps ≡ Nothing
+  none-seek : (k : ℕ) (ps : List Place) → NonePasses test ps → seek test k ps ≡ Nothing
   unfolding so
   none-seek k [] f = refl
   none-seek k (p ∷ ps) f = rw (f 0 (omega arith)) (none-seek (suc k) ps (λ j h. f (suc j) (omega arith)))

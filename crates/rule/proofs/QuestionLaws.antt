@@ -115,7 +115,7 @@ module _ (lent : (q : Question) → Option (Answer q)) (g : Gateway) (q : Questi
   same-question p e = cc
 
   -- what is asked is needed and not lent
-  pub asked-needed : (plan : Plan) → follow lent g plan .outcome ≡ asks q → Needs lent plan q × (lent q ≡ none)
+  asked-needed : (plan : Plan) → follow lent g plan .outcome ≡ asks q → Needs lent plan q × (lent q ≡ none)
   unfolding follow
   asked-needed (land l after) = λ never. absurd (asks-not-lands q l (sym never))
   asked-needed (ask p onwards) =

@@ -156,7 +156,7 @@ lent-length n (some a) blob =
     (λ _ e. let is : a .answer ≡ some blob = cc in ap (λ (o : Option (List ℕ)). given o 0 length) is)
     (λ _ never. absurd (some-not-none (sym never)))
 
-pub lent-short : (g : Gateway) (c : Call) → refusal g c ≡ none → (n from to : ℕ) (hash : Hash) (blob : List ℕ)
+lent-short : (g : Gateway) (c : Call) → refusal g c ≡ none → (n from to : ℕ) (hash : Hash) (blob : List ℕ)
     → lent (c .answers) (signature n from to hash) ≡ some (some blob) → length blob ≤ 2048
 unfolding lent
 lent-short g c ok n from to hash blob e = rw (lent-length n (c .answers .signature) blob e) at (accepted g c ok .lent-short)

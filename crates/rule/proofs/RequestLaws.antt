@@ -31,7 +31,7 @@ use Rattle.keys.proofs.KeyLaws.{only-keys, every-key}
 use Rattle.keys.proofs.FieldLaws.{lies-at, lies-cut}
 use Rattle.keys.proofs.WalkLaws.{walk-rule}
 use Rattle.rule.specs.Order.{Begins, Carries}
-use Rattle.rule.specs.Content.{Limits, plain, constrained, AddRequest, SignRequest}
+use Rattle.rule.specs.Content.{LimitForm, plain, constrained, AddRequest, SignRequest}
 use Rattle.rule.proofs.Cases.{part-cases}
 
 -- ## A payload and its first byte
@@ -125,7 +125,7 @@ pub record AddRead (payload : List ℕ) (c : Bool) (p : Places) (fields blob : L
   pub public : blobOf payload 1 p ≡ blob
 
 module _ (payload : List ℕ) (bytes : Bytes payload) where
-  limits-in : (c : Bool) (at : ℕ) (l : Lifetime) (confirm : Bool) → constraintsAt payload at c ≡ Done l confirm → Limits (addByte c) (drop at payload) l confirm
+  limits-in : (c : Bool) (at : ℕ) (l : Lifetime) (confirm : Bool) → constraintsAt payload at c ≡ Done l confirm → LimitForm (addByte c) (drop at payload) l confirm
   limits-in false at l confirm e =
       let x : Forever ≡ l = cc in
       let y : false ≡ confirm = cc in
@@ -134,7 +134,7 @@ module _ (payload : List ℕ) (bytes : Bytes payload) where
       let (cs, form, adds) = walk-rule at (drop at payload) l confirm (drop-bytes at payload bytes) .0 e in
       rw form (constrained cs l confirm adds)
 
-  limits-out : {byte : ℕ} {rest : List ℕ} {l : Lifetime} {confirm : Bool} → Limits byte rest l confirm
+  limits-out : {byte : ℕ} {rest : List ℕ} {l : Lifetime} {confirm : Bool} → LimitForm byte rest l confirm
       → (c : Bool) × (byte ≡ addByte c) × ((at : ℕ) → drop at payload ≡ rest → constraintsAt payload at c ≡ Done l confirm)
   limits-out (plain rest) = (false, refl, λ at e. refl)
   limits-out (constrained cs l confirm adds) = (true, refl, λ at e. walk-rule at (drop at payload) l confirm (drop-bytes at payload bytes) .1 (cs, e, adds))

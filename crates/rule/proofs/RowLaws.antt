@@ -142,7 +142,7 @@ module _ (P : Result → Type 0) (g : Gateway) (c : Call) where
       Follows plan = P (follow (lent (c .answers)) (atCall g c) plan)
 
   -- of a row that is known
-  pub row-cases : {byte : ℕ} {needs : Bool} {class : ℕ} (r : Row byte needs class) → Begins byte (payloadOf c)
+  row-cases : {byte : ℕ} {needs : Bool} {class : ℕ} (r : Row byte needs class) → Begins byte (payloadOf c)
       → ((n : ℕ) → refusal g c ≡ some n → P (record { outcome = refused n; gateway = g }))
       → (refusal g c ≡ none → P (record { outcome = lands FAILURE; gateway = atCall g c }))
       → (refusal g c ≡ none → locked g ≡ needs → c .answers .gate ≡ none → P (record { outcome = asks (gate class); gateway = atCall g c }))

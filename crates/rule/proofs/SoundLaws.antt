@@ -194,7 +194,7 @@ module _ (P : Gateway → Type 0) where
   follow-keeps lent g (land l after) h k = k
   follow-keeps lent g (ask q onwards) h k = given-cases (λ (r : Result). P (r .gateway)) (lent q) (λ _. h) (λ a _. follow-keeps lent g (onwards a) h (k a))
 
-  pub call-keeps : (g : Gateway) (c : Call) → P g → P (advance (c .reading) g)
+  call-keeps : (g : Gateway) (c : Call) → P g → P (advance (c .reading) g)
       → ((l : Landing) (after : Gateway) → Effect (advance (c .reading) g) l after → P after) → P (call g c .gateway)
   unfolding call served
   call-keeps g c h k f =

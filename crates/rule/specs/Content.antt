@@ -128,9 +128,9 @@ abbrev pub ClockRaised : Type 0
 ClockRaised = (g : Gateway) (c : Call) → refusal g c ≡ none → call g c .gateway .clock ≡ max (g .clock) (c .reading)
 
 -- what an add request carries, as the draft writes it: for 17 bytes behind the comment mean nothing, for 25 they are constraints
-pub data Limits : ℕ → List ℕ → Lifetime → Bool → Type 0 where
-  plain : (rest : List ℕ) → Limits 17 rest Forever false
-  constrained : (cs : List Constraint) (l : Lifetime) (c : Bool) → Adds Forever false cs l c → Limits 25 (constraintForms cs) l c
+pub data LimitForm : ℕ → List ℕ → Lifetime → Bool → Type 0 where
+  plain : (rest : List ℕ) → LimitForm 17 rest Forever false
+  constrained : (cs : List Constraint) (l : Lifetime) (c : Bool) → Adds Forever false cs l c → LimitForm 25 (constraintForms cs) l c
 
 pub record AddRequest (payload fields blob : List ℕ) (lifetime : Lifetime) (confirm : Bool) : Type 0 where
   pub byte : ℕ
@@ -138,7 +138,7 @@ pub record AddRequest (payload fields blob : List ℕ) (lifetime : Lifetime) (co
   pub rest : List ℕ
   pub key : KeyFields fields blob
   pub text : Octets comment
-  pub limits : Limits byte rest lifetime confirm
+  pub limits : LimitForm byte rest lifetime confirm
   pub shape : payload ≡ byte ∷ (fields ++ (string comment ++ rest))
 
 -- why an entry may leave at a call

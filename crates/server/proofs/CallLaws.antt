@@ -32,7 +32,7 @@ sound-told s x b eight long e f = sound-state-rule s x eight long .0 (sym f ∙ 
 
 -- ## What ends as the rule does is laid out as its result
 
-pub laid : (buffer : List ℕ) (r : Called) (x out : List ℕ) (result : rule.Result) → Ends buffer r x out result
+laid : (buffer : List ℕ) (r : Called) (x out : List ℕ) (result : rule.Result) → Ends buffer r x out result
     → (r ≡ laidOut buffer result .called) × (x ≡ laidOut buffer result .store) × (out ≡ laidOut buffer result .reply)
 laid buffer r x out result h =
     let c = sound-canonical (r .state) x (h .means .sound) in

@@ -1,7 +1,7 @@
 -- What one call gives: outcome, state, and every byte of store and reply buffer.
 use Prim.Native.Nat.{ℕ}
 use mathlib.Core.Path.{_≡_}
-use mathlib.Core.List.{List, [], _∷_}
+use mathlib.Core.List.{List}
 use lib.ListN.{length}
 use Rattle.rule.specs.declared.Millis.{Millis}
 use Rattle.rule.specs.Gateway.{advance}

@@ -107,14 +107,14 @@ module _ (s : State) (x : List ℕ) (S : Sound s x) (i from to : ℕ) (h : i < 8
   abbrev g : Gateway
   g = gatewayOf s x
 
-  pub place-whole : length (midOf from (to - from) x) ≡ 4096
+  place-whole : length (midOf from (to - from) x) ≡ 4096
   place-whole =
       let l = S .store-size in
       let room : 4096 ≤ length (drop (i * 4096) x) = rw length-drop (omega arith) in
       rw (spans .span, spans .start) (length-take-le 4096 (drop (i * 4096) x) room)
 
   -- one place is written anew
-  pub changed : (q : Place) (e : Entry) (p : List ℕ) (n : ℕ) → Written e p q → rule.Sound (record { places = set (g .places) i q; lock = g .lock; clock = g .clock; next = n })
+  changed : (q : Place) (e : Entry) (p : List ℕ) (n : ℕ) → Written e p q → rule.Sound (record { places = set (g .places) i q; lock = g .lock; clock = g .clock; next = n })
       → Means (record { entries = set (s .entries) i e; lock = s .lock; clock = s .clock; next = n }) (putMid from (to - from) x p)
       (record { places = set (g .places) i q; lock = g .lock; clock = g .clock; next = n })
   unfolding gatewayOf
@@ -186,13 +186,13 @@ module _ (clock : ℕ) where
   swept-length (suc i) [] = refl
   swept-length (suc i) (p ∷ ps) = ap suc (swept-length i ps)
 
-  pub swept-at : (i : ℕ) (ps : List Place) → getD (swept clock i ps) i none ≡ getD ps i none
+  swept-at : (i : ℕ) (ps : List Place) → getD (swept clock i ps) i none ≡ getD ps i none
   unfolding swept
   swept-at zero ps = refl
   swept-at (suc i) [] = refl
   swept-at (suc i) (p ∷ ps) = swept-at i ps
 
-  pub swept-step : (i : ℕ) (ps : List Place) → i < length ps → set (swept clock i ps) i (lasting clock (getD ps i none)) ≡ swept clock (i + 1) ps
+  swept-step : (i : ℕ) (ps : List Place) → i < length ps → set (swept clock i ps) i (lasting clock (getD ps i none)) ≡ swept clock (i + 1) ps
   unfolding swept
   swept-step i ps h = rw add-one (step i ps h)
     where
@@ -201,7 +201,7 @@ module _ (clock : ℕ) where
       step zero (p ∷ ps) h = refl
       step (suc i) (p ∷ ps) h = ap (λ (qs : List Place). lasting clock p ∷ qs) (step i ps (le-of-suc-le-suc h))
 
-  pub swept-end : (i : ℕ) (ps : List Place) → length ps ≤ i → swept clock i ps ≡ map (lasting clock) ps
+  swept-end : (i : ℕ) (ps : List Place) → length ps ≤ i → swept clock i ps ≡ map (lasting clock) ps
   unfolding swept
   swept-end zero [] h = refl
   swept-end zero (p ∷ ps) h = absurd (not-suc-le-zero h)
@@ -219,7 +219,7 @@ module _ (clock : ℕ) where
   every-rest P none ps all = all
   every-rest P (some k) ps all = all .1
 
-  pub swept-every : (P : Key → Type 0) (i : ℕ) (ps : List Place) → EveryEntry P ps → EveryEntry P (swept clock i ps)
+  swept-every : (P : Key → Type 0) (i : ℕ) (ps : List Place) → EveryEntry P ps → EveryEntry P (swept clock i ps)
   unfolding swept
   swept-every P zero ps all = all
   swept-every P (suc i) [] all = all

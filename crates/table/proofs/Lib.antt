@@ -7,5 +7,5 @@ pub mod TestLaws
 pub mod WritingLaws
 pub mod ChangeLaws
 pub mod ReadLaws
-pub mod LoopLaws
+pub mod SeekLaws
 pub mod SoundnessLaws

@@ -17,7 +17,7 @@ use Rattle.rule.specs.Rule.{numberIn, confirmIn}
 use Rattle.rule.proofs.Cases.{so-cases}
 use Rattle.table.specs.declared.Entry.{Entry}
 use Rattle.table.specs.declared.State.{State}
-use Rattle.table.specs.Each.{each, Each, offset}
+use Rattle.table.specs.Each.{Each, offset}
 use Rattle.table.specs.Meaning.{size, keyOf, placeOf, blobIn, view, freeEntry, entryFor}
 use Rattle.table.specs.Soundness.{soundPlace, soundPlaces, unlike, SoundPlace, free, held, Housed, Sound}
 use Rattle.table.proofs.EachLaws.{offset-even, each-length, each-at, every-at, each-says}
@@ -41,7 +41,7 @@ module _ (es : List Entry) (x : List ℕ) (eight : length es ≡ 8) where
   pub view-at : (i : ℕ) → i < 8 → getD (view es x) i none ≡ placeOf (getD es i freeEntry) (partAt x i)
   view-at i h = each-at size placeOf es x i freeEntry none (omega arith) ∙ rw (start i h)
 
-  pub sound-at : (clock next i : ℕ) → i < 8 → Each (SoundPlace clock next) size es x → SoundPlace clock next (getD es i freeEntry) (partAt x i)
+  sound-at : (clock next i : ℕ) → i < 8 → Each (SoundPlace clock next) size es x → SoundPlace clock next (getD es i freeEntry) (partAt x i)
   sound-at clock next i h all = rw (start i h) at (every-at size (SoundPlace clock next) es x i freeEntry (omega arith) all)
 
 -- ## What an entry says of its place

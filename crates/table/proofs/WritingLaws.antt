@@ -98,7 +98,7 @@ module _ (clock next : ℕ) where
   writing-first e p es x ps (seen-held is entry bytes key) w =
       rw is (record { entries = (λ j. entry j ∷ w .entries j); store = (λ j. bytes j ++ w .store j); keys = (key, w .keys) })
 
-  pub writing : (es : List Entry) (x : List ℕ) → length es * 4096 ≡ length x → Each (SoundPlace clock next) size es x → Writing clock next es x (view es x)
+  writing : (es : List Entry) (x : List ℕ) → length es * 4096 ≡ length x → Each (SoundPlace clock next) size es x → Writing clock next es x (view es x)
   unfolding each laid
   writing [] [] l all = record { entries = refl; store = refl; keys = tt }
   writing [] (b ∷ x) l all = absurd (omega (arith, zero-mul 4096))
@@ -184,7 +184,7 @@ module _ (clock next : ℕ) (k : Key) (s : SoundEntry clock next k) where
       let number : k .number ≡ 0 → ⊥ = λ (n : k .number ≡ 0). let h = s .number-first in omega arith in
       rw (ne-eqb (k .number) 0 number, blob-back, fields-back, lifetime-back)
 
-  pub key-sound : SoundPlace clock next (entryFor (some k)) (bytesFor (some k))
+  key-sound : SoundPlace clock next (entryFor (some k)) (bytesFor (some k))
   unfolding entryFor bytesFor heldEntry
   key-sound = held (record {
     number-first = s .number-first;
@@ -212,7 +212,7 @@ unfolding entryFor bytesFor
 free-sound clock next = free refl (ap (λ (n : ℕ). replicate n 0) (sym (length-replicate {A = ℕ} 4096 0)))
 
 module _ (clock next : ℕ) where
-  pub view-back : (ps : List Place) → EveryEntry (SoundEntry clock next) ps → view (map entryFor ps) (laid ps) ≡ ps
+  view-back : (ps : List Place) → EveryEntry (SoundEntry clock next) ps → view (map entryFor ps) (laid ps) ≡ ps
   unfolding each laid
   view-back [] all = refl
   view-back (none ∷ ps) all = rw (take-at (bytesFor none) (laid ps) 4096 free-size, drop-at (bytesFor none) (laid ps) 4096 free-size, view-back ps all, free-back)
@@ -220,7 +220,7 @@ module _ (clock next : ℕ) where
       let l = key-size k (key-fits clock next k (all .0)) in
       rw (take-at (bytesFor (some k)) (laid ps) 4096 l, drop-at (bytesFor (some k)) (laid ps) 4096 l, view-back ps (all .1), key-back clock next k (all .0))
 
-  pub each-back : (ps : List Place) → EveryEntry (SoundEntry clock next) ps → Each (SoundPlace clock next) size (map entryFor ps) (laid ps)
+  each-back : (ps : List Place) → EveryEntry (SoundEntry clock next) ps → Each (SoundPlace clock next) size (map entryFor ps) (laid ps)
   unfolding laid
   each-back [] all = tt
   each-back (none ∷ ps) all = rw (take-at (bytesFor none) (laid ps) 4096 free-size, drop-at (bytesFor none) (laid ps) 4096 free-size) (free-sound clock next, each-back ps all)

@@ -12,7 +12,7 @@ ghost use mathlib.Core.Path.{_≡_};
 ghost use mathlib.Core.List.{[]};
 ghost use mathlib.Core.Option.{none};
 ghost use Rattle.rule.specs.Gateway.{fresh as freshGateway};
-ghost use Rattle.table.specs.Meaning.{entryFor, lockOf, stateOf};
+ghost use Rattle.table.specs.Meaning.{entryFor, stateOf};
 
 // What is kept of a place beside its bytes. A free place is all zero.
 #[repr(C)]

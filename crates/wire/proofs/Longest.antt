@@ -19,10 +19,10 @@ use Rattle.wire.proofs.Reading.{string-read}
 use Rattle.wire.proofs.Format.{part-length}
 use Rattle.wire.proofs.Abnf.{utf8-rule}
 
-walk-snoc : (u : Utf) (s : List ℕ) (b : ℕ) → stepsOf u (s ++ (b ∷ [])) ≡ stepOf (stepsOf u s) b
+steps-snoc : (u : Utf) (s : List ℕ) (b : ℕ) → stepsOf u (s ++ (b ∷ [])) ≡ stepOf (stepsOf u s) b
 unfolding stepsOf
-walk-snoc u [] b = refl
-walk-snoc u (a ∷ s) b = walk-snoc (stepOf u a) s b
+steps-snoc u [] b = refl
+steps-snoc u (a ∷ s) b = steps-snoc (stepOf u a) s b
 
 -- the state and the end after i bytes
 pub record Passed (s : List ℕ) (u : Utf) (end i : ℕ) : Type 0 where
@@ -39,7 +39,7 @@ pub passed-one :
     → v ≡ stepOf u (getD s i 0) → r ≡ cond (ended v) (i + 1) end → Passed s v r (i + 1)
 unfolding longest utf8
 passed-one s u end i v r p h e f =
-    let w : v ≡ stepsOf start (take (suc i) s) = e ∙ rw (take-suc s i 0, walk-snoc, p .state) in
+    let w : v ≡ stepsOf start (take (suc i) s) = e ∙ rw (take-suc s i 0, steps-snoc, p .state) in
     let z : r ≡ longest (suc i) s = f ∙ rw (w, p .found, add-one) in
     record { within = omega arith; state = rw add-one w; found = rw add-one z }
 
@@ -77,7 +77,7 @@ module _ (s : List ℕ) where
   unfolding utf8End
   end-greatest = longest-greatest (length s) s
 
-  pub utf8-end-le : utf8End s ≤ length s
+  utf8-end-le : utf8End s ≤ length s
   utf8-end-le = end-greatest .within
 
   pub utf8-end-whole : (utf8End s ≡ length s) ↔ (utf8 s ≡ true)

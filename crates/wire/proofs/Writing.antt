@@ -12,7 +12,7 @@ use Rattle.wire.specs.Write.{write}
 
 module _ (l : List ℕ) (at : ℕ) (v : List ℕ) (h : at + length v ≤ length l) where
   -- a range is written byte by byte
-  pub write-sets : sets l at v ≡ write l at v
+  write-sets : sets l at v ≡ write l at v
   unfolding write
   write-sets = sets-eq v l at h
 

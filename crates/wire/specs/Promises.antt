@@ -123,10 +123,10 @@ abbrev pub SameRule : Type 0
 SameRule = (a b : List ℕ) → (same a b ≡ true) ↔ (a ≡ b)
 
 -- what a writer leaves: its bytes in their place, and every other byte as it was
-pub record Written (out : List ℕ) (at : ℕ) (v : List ℕ) : Type 0 where
+pub record WriteLeaves (out : List ℕ) (at : ℕ) (v : List ℕ) : Type 0 where
   pub size : length (write out at v) ≡ length out
   pub inside : (i : ℕ) → i < length v → getD (write out at v) (at + i) 0 ≡ getD v i 0
   pub outside : (i : ℕ) → (i < at) ⊎ (at + length v ≤ i) → getD (write out at v) i 0 ≡ getD out i 0
 
 abbrev pub WriteRule : Type 0
-WriteRule = (out : List ℕ) (at : ℕ) (v : List ℕ) → at + length v ≤ length out → Written out at v
+WriteRule = (out : List ℕ) (at : ℕ) (v : List ℕ) → at + length v ≤ length out → WriteLeaves out at v

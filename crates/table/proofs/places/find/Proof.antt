@@ -7,7 +7,7 @@ use lib.ListN.{length, drop}
 use Rattle.rule.specs.Gateway.{seek, holds}
 use Rattle.table.specs.Meaning.{view, gatewayOf}
 use Rattle.table.proofs.ReadLaws.{view-length, view-at, part-size, state-blob-fits}
-use Rattle.table.proofs.LoopLaws.{seek-step, seek-stop, seek-end}
+use Rattle.table.proofs.SeekLaws.{seek-step, seek-stop, seek-end}
 use Rattle.table.proofs.places.find.Statement.{statement}
 use Rattle.table.proofs.places.find.Tie as tie
 

@@ -9,7 +9,7 @@ use Rattle.rule.specs.Gateway.{seek, isFree}
 use Rattle.table.specs.Meaning.{view, gatewayOf}
 use Rattle.table.proofs.ArrayLaws.{eight-of}
 use Rattle.table.proofs.ReadLaws.{view-length, view-at, place-free, place-held}
-use Rattle.table.proofs.LoopLaws.{seek-step, seek-stop, seek-end}
+use Rattle.table.proofs.SeekLaws.{seek-step, seek-stop, seek-end}
 use Rattle.table.proofs.places.lowest_free.Statement.{statement}
 use Rattle.table.proofs.places.lowest_free.Tie as tie
 

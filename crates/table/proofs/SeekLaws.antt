@@ -1,4 +1,4 @@
--- The loops over places: one law for a turn, for a turn that leaves, and for the end.
+-- The searches over places, place by place: one law for a turn, for a turn that leaves, and for the end.
 use Prim.Native.Nat.{ℕ, _+_, _≤_, _<_}
 use mathlib.Core.Path.{_≡_}
 use mathlib.Core.Bool.{Bool, true, false}
@@ -10,8 +10,6 @@ use lib.Seq.{drop-cons}
 use Rattle.wire.specs.Steps.{so}
 use Rattle.rule.specs.declared.Found.the-variants.{At, Nothing}
 use Rattle.rule.specs.Gateway.{Place, seek}
-
--- ## Searching
 
 module _ (test : Place → Bool) (ps : List Place) (i : ℕ) where
   pub seek-step : i < length ps → test (getD ps i none) ≡ false → seek test i (drop i ps) ≡ seek test (i + 1) (drop (i + 1) ps)
