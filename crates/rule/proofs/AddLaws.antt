@@ -25,7 +25,7 @@ use Rattle.rule.specs.Gateway.{Entry, Place, Gateway, locked, atClock, a
 use Rattle.rule.specs.Rule.{Question, gate, check, Answer, SUCCESS, added, entryOf, storing, adding}
 use Rattle.rule.specs.Calls.{lent, Call, Outcome, asks, lands, Result, follow, call}
 use Rattle.rule.specs.Order.{Begins}
-use Rattle.rule.specs.Content.{HeldAt, FreeAt, atCall, payloadOf, PastGate, add, add-constrained, AddRequest, madeBy, Put, MayStore, AddedOnly, AddedAlways, CheckAsks}
+use Rattle.rule.specs.Content.{HeldAt, FreeAt, atCall, payloadOf, PastGate, add, add-constrained, addByte, AddRequest, madeBy, Put, MayStore, AddedOnly, AddedAlways, CheckAsks}
 use Rattle.rule.proofs.Cases.{true-not-false, and-right, both-true}
 use Rattle.rule.proofs.Clock.{advance-next}
 use Rattle.rule.proofs.PlaceLaws.{every-at, seek-first, seek-none, found-at, absent-differs, Placed, replacing, anew, placed, no-place, place-inside}
@@ -34,7 +34,7 @@ use Rattle.rule.proofs.RefusalLaws.{accepted}
 use Rattle.rule.proofs.AnswerLaws.{numbered-answers}
 use Rattle.rule.proofs.RowLaws.{past-gate, Beyond, success-beyond, through, failure-shows, same-landing}
 use Rattle.rule.proofs.Plans.{asks-not-lands}
-use Rattle.rule.proofs.RequestLaws.{addByte, add-in, add-out}
+use Rattle.rule.proofs.RequestLaws.{add-in, add-out}
 use Rattle.rule.proofs.BodyLaws.{adding-cases, signing-cases, addResult, AsksIn, in-add, in-sign, silent, asks-in}
 
 -- ## The add rows

@@ -25,13 +25,13 @@ use Rattle.rule.specs.Soundness.{lastNumber}
 use Rattle.rule.specs.Rule.{Question, gate, check, confirmation, signature, Answer, Landing, reply, close, FAILURE, SUCCESS, Plan, land, fails, closes, listing, removing, removingAll, locking, unlocking, hashOf, signatureReply, signed, signingData, confirming, signing, entryOf, storing, adding}
 use Rattle.rule.specs.Calls.{lent, Call, asks, lands, Result, follow, call}
 use Rattle.rule.specs.Order.{Begins, Carries}
-use Rattle.rule.specs.Content.{HeldAt, atCall, payloadOf, Row, list, add, add-constrained, remove, remove-all, sign, lock, unlock}
+use Rattle.rule.specs.Content.{addByte, HeldAt, atCall, payloadOf, Row, list, add, add-constrained, remove, remove-all, sign, lock, unlock}
 use Rattle.rule.proofs.Cases.{so-cases, part-cases, number-cases, found-cases, added-cases, true-not-false}
 use Rattle.rule.proofs.PlaceLaws.{found-at}
 use Rattle.rule.proofs.Effects.{Storable}
 use Rattle.rule.proofs.Leavings.{lands-not-asks}
 use Rattle.rule.proofs.RowLaws.{bodyResult, question-beyond, through-some}
-use Rattle.rule.proofs.RequestLaws.{addByte, Ordered}
+use Rattle.rule.proofs.RequestLaws.{Ordered}
 use Rattle.rule.proofs.FollowLaws.{Gives, land-gives, ask-gives, so-gives}
 
 -- the key that a request names, held in place i

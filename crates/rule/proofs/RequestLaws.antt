@@ -1,7 +1,8 @@
 -- Add and sign requests: what the readers take is what the draft writes, and what the draft writes they take.
 use Prim.Native.Nat.{ℕ, _+_, _^_, _<_}
 use native.Mathlib.Omega.{arith}
-use mathlib.Core.Path.{_≡_, refl, ap, _∙_}
+use mathlib.Core.Path.{_≡_, refl, sym, ap, _∙_}
+use mathlib.Core.Option.{some}
 use mathlib.Core.Bool.{Bool, true, false}
 use mathlib.Core.List.{List, _∷_, _++_}
 use lib.ListN.{length, drop, length-append}
@@ -27,11 +28,12 @@ use Rattle.keys.specs.declared.constraints.Walk.the-variants.{Done, Duplicate, 
 use Rattle.keys.specs.declared.addition.Addition.{Addition}
 use Rattle.keys.specs.Kinds.{keyAt, blobOf}
 use Rattle.keys.specs.Additions.{limitsOf, constraintsAt, commentedAt, key, additionAt}
+use Rattle.keys.specs.Values.{secondsIn, Added, additionSays}
 use Rattle.keys.proofs.KeyLaws.{only-keys, every-key}
 use Rattle.keys.proofs.FieldLaws.{lies-at, lies-cut}
 use Rattle.keys.proofs.WalkLaws.{walk-rule}
 use Rattle.rule.specs.Order.{Begins, Carries}
-use Rattle.rule.specs.Content.{LimitForm, plain, constrained, AddRequest, SignRequest}
+use Rattle.rule.specs.Content.{LimitForm, plain, constrained, AddRequest, addByte, AdditionRule, SignRequest}
 use Rattle.rule.proofs.Cases.{part-cases}
 
 -- ## A payload and its first byte
@@ -112,16 +114,12 @@ text-there s at v rest bytes small octets e =
 
 -- ## Add requests
 
--- which first byte, by whether constraints follow
-abbrev pub addByte : Bool → ℕ
-addByte false = 17
-addByte true = 25
-
 -- what the reader of an add request says of these fields, blob and limits
 pub record AddRead (payload : List ℕ) (c : Bool) (p : Places) (fields blob : List ℕ) (l : Lifetime) (confirm : Bool) : Type 0 where
   pub begins : Begins (addByte c) payload
   pub read : additionAt payload 1 c ≡ Addition.Whole p l confirm
   pub cut : cutOf payload 1 (p .end) ≡ fields
+  pub end : p .end ≡ 1 + length fields
   pub public : blobOf payload 1 p ≡ blob
 
 module _ (payload : List ℕ) (bytes : Bytes payload) where
@@ -158,7 +156,7 @@ module _ (payload : List ℕ) (bytes : Bytes payload) where
           limits = limits-in c (w .next .at) l confirm (w .limits);
           shape = first-shape begins ∙ ap (λ (rest : List ℕ). addByte c ∷ rest) (shape ∙ ap (λ (rest : List ℕ). fields ++ rest) commented);
         },
-        record { begins = begins; read = e; cut = ap (cutOf payload 1) (found .end) ∙ lies-cut lies; public = found .public },
+        record { begins = begins; read = e; cut = ap (cutOf payload 1) (found .end) ∙ lies-cut lies; end = found .end; public = found .public },
       )
 
   -- what the draft writes is read
@@ -180,9 +178,38 @@ module _ (payload : List ℕ) (bytes : Bytes payload) where
           begins = begins;
           read = steps-back payload c p l confirm (record { fields = found .read-so; from = _; to = _; next = _; comment = text; limits = limits _ left });
           cut = ap (cutOf payload 1) (found .end) ∙ lies-cut lies;
+          end = found .end;
           public = found .public;
         },
       )
+
+  same-byte : (c d : Bool) → addByte c ≡ addByte d → c ≡ d
+  same-byte false false e = refl
+  same-byte false true e = absurd (omega arith)
+  same-byte true false e = absurd (omega arith)
+  same-byte true true e = refl
+
+  abbrev Requests : Added → Type 0
+  Requests a =
+      (fields : List ℕ) × (l : Lifetime) × (confirm : Bool) × AddRequest payload fields (a .blob) l confirm × (a .end ≡ 1 + length fields)
+      × (a .limits ≡ record { seconds = secondsIn l; confirm = confirm })
+
+  said-request : (c : Bool) → Begins (addByte c) payload → (r : Addition) → additionAt payload 1 c ≡ r → (a : Added) → additionSays payload 1 r ≡ some a → Requests a
+  said-request c begins (Addition.Whole p l confirm) e a says =
+      let (fields, blob, request, r) = add-in c p l confirm begins e in
+      let is : _≡_ {A = Added} (record { blob = blobOf payload 1 p; end = p .end; limits = record { seconds = secondsIn l; confirm = confirm } }) a = cc in
+      rw (← is) (fields, l, confirm, rw (r .public) request, r .end, refl)
+  said-request c begins (Addition.Fault at) e a says = let z : _≡_ {A = ℕ} 0 1 = cc in absurd (omega arith)
+
+  request-said : (c : Bool) → Begins (addByte c) payload → length payload < 2 ^ 32 → (a : Added) → Requests a → additionSays payload 1 (additionAt payload 1 c) ≡ some a
+  request-said c begins small a (fields, l, confirm, request, end, limits) =
+      let (d, p, r) = add-out fields (a .blob) l confirm small request in
+      let same : d ≡ c = same-byte d c (sym (r .begins .first) ∙ begins .first) in
+      rw (← same, r .read) (λ i. some (record { blob = r .public i; end = (r .end ∙ sym end) i; limits = sym limits i }))
+
+pub addition-rule : AdditionRule
+addition-rule payload c a bytes small begins =
+    (said-request payload bytes c begins (additionAt payload 1 c) refl a, request-said payload bytes c begins small a)
 
 -- ## Sign requests
 
