@@ -27,16 +27,15 @@ BYTES: a PIECE in kinds 3, 5 and 7, a CHANGE in kinds 4, 6 and 8. PIECE: bytes (
 REQUEST: message (byte), two parts (PIECE), flags (number). WRITING: room of the output (number), refusal (byte, 0 where it is written), and
 what is written: its front (PIECE) and tail (string).
 """
-import base64
 import itertools
 import os
 import sys
 
 sys.path.insert(0, os.path.join(os.path.dirname(os.path.abspath(__file__)), '../report'))
+from recorded import public_blobs
 from sections import Fault, change, flag, near, need, number, string, take_string, write
 
 MOST = 262144
-KEYS = ['ed25519', 'ecdsa-256', 'ecdsa-384', 'ecdsa-521', 'rsa-2048', 'rsa-3072', 'rsa-4096']
 CERTIFICATE = b'-cert-v01@openssh.com'
 CONFIRM = None
 MANY = b'a' * 64
@@ -271,14 +270,6 @@ def parts_of(payload):
 def recorded_request(payload):
     frame = string(payload)
     return request_record(len(frame) + 3, 0, frame, *parts_of(payload))
-
-
-def public_blobs(folder):
-    blobs = {}
-    for key in KEYS:
-        with open(os.path.join(folder, 'keys', key + '.pub')) as file:
-            blobs[key] = base64.b64decode(file.read().split()[1])
-    return blobs
 
 
 def recorded_list(payload, blobs):

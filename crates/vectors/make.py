@@ -28,17 +28,16 @@ The input has the form that ../report/sections.py says, with these records:
 FIELDS: whole (flag), and if whole the end (number) and the blob (string). LIMITS: whole, limited (flags), seconds (number), confirm
 (flag), all 0 where a fault is expected.
 """
-import base64
 import itertools
 import os
 import sys
 
 sys.path.insert(0, os.path.join(os.path.dirname(os.path.abspath(__file__)), '../report'))
+from recorded import KEYS, public_blobs
 from sections import Fault, change, flag, near, need, number, string, take_string, write
 
 ED25519 = b'ssh-ed25519'
 RSA = b'ssh-rsa'
-KEYS = ['ed25519', 'ecdsa-256', 'ecdsa-384', 'ecdsa-521', 'rsa-2048', 'rsa-3072', 'rsa-4096']
 
 
 def mpint(value):
@@ -289,14 +288,6 @@ def recorded(path):
                 for request in held:
                     request.listed += listed_blobs(bytes.fromhex(line[2:]))
     return requests
-
-
-def public_blobs(folder):
-    blobs = {}
-    for key in KEYS:
-        with open(os.path.join(folder, 'keys', key + '.pub')) as file:
-            blobs[key] = base64.b64decode(file.read().split()[1])
-    return blobs
 
 
 # ---- made requests
