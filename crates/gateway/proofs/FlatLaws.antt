@@ -16,14 +16,14 @@ use Rattle.wire.specs.Read.{cutOf}
 use Rattle.wire.specs.Frames.{splitOf, framePayload}
 use Rattle.wire.proofs.Reading.{le-or-lt, number-there, number-cut}
 use Rattle.wire.proofs.Format.{part-length}
-use Rattle.server.specs.declared.Said.{Said}
-use Rattle.server.specs.declared.Said.the-variants as said
-use Rattle.server.specs.declared.Confirmed.{Confirmed}
-use Rattle.server.specs.declared.Confirmed.the-variants as confirmed
-use Rattle.server.specs.declared.Signed.{Signed}
-use Rattle.server.specs.declared.Signed.the-variants as signed
-use Rattle.server.specs.declared.Outcome.the-variants.{Refused, Gate, Check, Confirm, Sign, Reply, Close}
-use Rattle.server.proofs.OutcomeLaws.{outcomes-apart}
+use Rattle.requests.specs.declared.Said.{Said}
+use Rattle.requests.specs.declared.Said.the-variants as said
+use Rattle.requests.specs.declared.Confirmed.{Confirmed}
+use Rattle.requests.specs.declared.Confirmed.the-variants as confirmed
+use Rattle.requests.specs.declared.Signed.{Signed}
+use Rattle.requests.specs.declared.Signed.the-variants as signed
+use Rattle.requests.specs.declared.Outcome.the-variants.{Refused, Gate, Check, Confirm, Sign, Reply, Close}
+use Rattle.requests.proofs.OutcomeLaws.{outcomes-apart}
 use Rattle.gateway.specs.Flat.{saidOf, confirmedOf, signedOf, answersOf, flatOf, flatSplit, splitAs}
 use Rattle.gateway.specs.Promises.{OthersMissing, saidNumber, confirmedNumber, confirmedFor, signedNumber, signedFor, EveryAnswer, flatValues, SameValues, FlatApart, splitNumber, SplitsApart, SplitsAs, SplitRule}
 use Rattle.gateway.proofs.FlatSteps.{told-nothing}

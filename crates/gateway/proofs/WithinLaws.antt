@@ -31,10 +31,11 @@ use Rattle.table.specs.Meaning.{gatewayOf}
 use Rattle.table.specs.Soundness.{soundState}
 use Rattle.table.proofs.TestLaws.{sound-state-rule}
 use Rattle.table.proofs.WritingLaws.{sound-meaning}
-use Rattle.server.specs.declared.Answers.{Answers}
-use Rattle.server.specs.declared.Outcome.the-variants.{Refused}
-use Rattle.server.specs.Outcomes.{lentOf, code}
-use Rattle.server.specs.Calls.{Done, laidOut, callOf}
+use Rattle.requests.specs.declared.Answers.{Answers}
+use Rattle.requests.specs.declared.Outcome.the-variants.{Refused}
+use Rattle.requests.specs.Outcomes.{lentOf, code}
+use Rattle.requests.specs.Ends.{Done, laidOut}
+use Rattle.server.specs.Calls.{callOf}
 use Rattle.gateway.specs.Flat.{flatOf}
 use Rattle.gateway.specs.Promises.{NamesWithin, CallsNameWithin}
 

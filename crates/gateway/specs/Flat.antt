@@ -8,16 +8,16 @@ use Rattle.wire.specs.declared.Split.{Split}
 use Rattle.wire.specs.declared.Split.the-variants.{MoreNeeded, TooLong, Frame}
 use Rattle.wire.specs.Steps.{so}
 use Rattle.wire.specs.Frames.{splitOf, framePayload}
-use Rattle.server.specs.declared.Said.{Said}
-use Rattle.server.specs.declared.Said.the-variants as said
-use Rattle.server.specs.declared.Confirmed.{Confirmed}
-use Rattle.server.specs.declared.Confirmed.the-variants as confirmed
-use Rattle.server.specs.declared.Signed.{Signed}
-use Rattle.server.specs.declared.Signed.the-variants as signed
-use Rattle.server.specs.declared.Answers.{Answers}
-use Rattle.server.specs.declared.Outcome.{Outcome}
-use Rattle.server.specs.declared.Outcome.the-variants.{Refused, Gate, Check, Confirm, Sign, Reply, Close}
-use Rattle.server.specs.Outcomes.{hashBits}
+use Rattle.requests.specs.declared.Said.{Said}
+use Rattle.requests.specs.declared.Said.the-variants as said
+use Rattle.requests.specs.declared.Confirmed.{Confirmed}
+use Rattle.requests.specs.declared.Confirmed.the-variants as confirmed
+use Rattle.requests.specs.declared.Signed.{Signed}
+use Rattle.requests.specs.declared.Signed.the-variants as signed
+use Rattle.requests.specs.declared.Answers.{Answers}
+use Rattle.requests.specs.declared.Outcome.{Outcome}
+use Rattle.requests.specs.declared.Outcome.the-variants.{Refused, Gate, Check, Confirm, Sign, Reply, Close}
+use Rattle.requests.specs.Outcomes.{hashBits}
 use Rattle.gateway.specs.declared.flat.FlatAnswers.{FlatAnswers}
 use Rattle.gateway.specs.declared.flat.FlatOutcome.{FlatOutcome}
 use Rattle.gateway.specs.declared.flat.FlatSplit.{FlatSplit}

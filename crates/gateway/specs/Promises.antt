@@ -13,15 +13,15 @@ use Rattle.wire.specs.Frames.{splitOf, framePayload}
 use Rattle.wire.specs.Promises.{OneToOne}
 use Rattle.rule.specs.declared.Millis.{Millis}
 use Rattle.table.specs.declared.State.{State}
-use Rattle.server.specs.declared.Said.{Said}
-use Rattle.server.specs.declared.Said.the-variants as said
-use Rattle.server.specs.declared.Confirmed.{Confirmed}
-use Rattle.server.specs.declared.Confirmed.the-variants as confirmed
-use Rattle.server.specs.declared.Signed.{Signed}
-use Rattle.server.specs.declared.Signed.the-variants as signed
-use Rattle.server.specs.declared.Answers.{Answers}
-use Rattle.server.specs.declared.Outcome.{Outcome}
-use Rattle.server.specs.Outcomes.{outcomeValues}
+use Rattle.requests.specs.declared.Said.{Said}
+use Rattle.requests.specs.declared.Said.the-variants as said
+use Rattle.requests.specs.declared.Confirmed.{Confirmed}
+use Rattle.requests.specs.declared.Confirmed.the-variants as confirmed
+use Rattle.requests.specs.declared.Signed.{Signed}
+use Rattle.requests.specs.declared.Signed.the-variants as signed
+use Rattle.requests.specs.declared.Answers.{Answers}
+use Rattle.requests.specs.declared.Outcome.{Outcome}
+use Rattle.requests.specs.Outcomes.{outcomeValues}
 use Rattle.server.specs.Calls.{calledOf, storeOf, replyOf}
 use Rattle.server.specs.Runs.{Meets}
 use Rattle.gateway.specs.declared.flat.FlatAnswers.{FlatAnswers}

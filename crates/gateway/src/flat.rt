@@ -2,14 +2,14 @@
 use client::frame::frame_payload;
 use client::frame::read_frame;
 use rule::Hash;
-use server::Answers;
-use server::Confirmed;
-use server::Outcome;
-use server::Said;
-use server::Signed;
+use requests::Answers;
+use requests::Confirmed;
+use requests::Outcome;
+use requests::Said;
+use requests::Signed;
 use wire::Split;
 ghost use mathlib.Core.Path.{_≡_};
-ghost use Rattle.server.specs.Outcomes.{hashBits};
+ghost use Rattle.requests.specs.Outcomes.{hashBits};
 ghost use Rattle.gateway.specs.Flat.{saidOf, confirmedOf, signedOf, answersOf, flatOf, flatSplit};
 
 // Each answer is 1 no (of the signature: nothing given), 2 yes (of the signature: given, its bytes beside it); any other number is no answer.

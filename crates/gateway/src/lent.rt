@@ -1,7 +1,7 @@
 // The thin form: the state is lent by the gateway's loop, and altered there.
 use rule::Millis;
-use server::Answers;
-use server::Outcome;
+use requests::Answers;
+use requests::Outcome;
 use server::call::call;
 use table::State;
 ghost use mathlib.Core.Path.{_≡_};

@@ -12,15 +12,16 @@ use Rattle.rule.specs.Gateway.{Gateway, advance}
 use Rattle.rule.specs.Calls as rule
 use Rattle.rule.specs.Calls.{lentLength, refusalOf, served}
 use Rattle.table.specs.declared.State.{State}
-use Rattle.table.specs.Meaning.{gatewayOf, stateOf, layout}
+use Rattle.table.specs.Meaning.{gatewayOf}
 use Rattle.table.specs.Soundness.{soundState, Sound, Means}
 use Rattle.table.proofs.TestLaws.{sound-state-rule}
-use Rattle.table.proofs.WritingLaws.{sound-canonical}
-use Rattle.server.specs.declared.Answers.{Answers}
-use Rattle.server.specs.declared.Called.{Called}
-use Rattle.server.specs.declared.Outcome.the-variants.{Refused}
-use Rattle.server.specs.Outcomes.{signatureOf, lentOf}
-use Rattle.server.specs.Calls.{laidOut, callOf, Ends, EndsDecides}
+use Rattle.requests.specs.declared.Answers.{Answers}
+use Rattle.requests.specs.declared.Called.{Called}
+use Rattle.requests.specs.declared.Outcome.the-variants.{Refused}
+use Rattle.requests.specs.Outcomes.{signatureOf, lentOf}
+use Rattle.requests.specs.Ends.{Ends}
+use Rattle.requests.proofs.EndLaws.{ends-laid-out}
+use Rattle.server.specs.Calls.{callOf}
 
 -- ## Soundness, as the test tells it
 
@@ -29,21 +30,6 @@ sound-passed s x S = sound-state-rule s x (S .eight-entries) (S .lock .record-si
 
 pub sound-told : (s : State) (x : List ℕ) (b : Bool) → length (s .entries) ≡ 8 → length (s .lock .bytes) ≡ 1024 → not b ≡ false → b ≡ soundState s x → Sound s x
 sound-told s x b eight long e f = sound-state-rule s x eight long .0 (sym f ∙ not-false b e)
-
--- ## What ends as the rule does is laid out as its result
-
-laid : (buffer : List ℕ) (r : Called) (x out : List ℕ) (result : rule.Result) → Ends buffer r x out result
-    → (r ≡ laidOut buffer result .called) × (x ≡ laidOut buffer result .store) × (out ≡ laidOut buffer result .reply)
-laid buffer r x out result h =
-    let c = sound-canonical (r .state) x (h .means .sound) in
-    let g = h .means .gateway in
-    ((λ j. record { outcome = h .outcome j; state = (c .state ∙ ap stateOf g) j }), c .store ∙ ap layout g, h .bytes)
-
-pub ends-decides : EndsDecides
-ends-decides buffer result r s x y out other a b =
-    let l = laid buffer r x out result a in
-    let m = laid buffer s y other result b in
-    (l .0 ∙ sym (m .0), l .1 ∙ sym (m .1), l .2 ∙ sym (m .2))
 
 module _ (s : State) (x p : List ℕ) (t : Millis) (answers : Answers) (bytes buffer : List ℕ) where
   abbrev pub refusalHere : Option ℕ
@@ -102,7 +88,7 @@ module _ (s : State) (x p : List ℕ) (t : Millis) (answers : Answers) (bytes bu
       unfolding callOf
       accepts r y out raised z b m e =
           rw (none-applies b)
-          (laid buffer r y out _ (subst (λ (g : Gateway). Ends buffer r y out (served g (record { payload = p }) (lentOf answers bytes))) (m .gateway) e))
+          (ends-laid-out buffer r y out _ (subst (λ (g : Gateway). Ends buffer r y out (served g (record { payload = p }) (lentOf answers bytes))) (m .gateway) e))
 
 -- a lent signature that the test lets through is short
 pub lent-short : (answers : Answers) (bytes : List ℕ) (n : ℕ) → n ≡ lentLength (signatureOf (answers .signature) bytes) → n ≤ 2048 → lentLength (lentOf answers bytes .signature) ≤ 2048

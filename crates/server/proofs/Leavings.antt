@@ -30,16 +30,17 @@ use Rattle.table.specs.Meaning.{gatewayOf}
 use Rattle.table.specs.Soundness.{soundState, Sound, Means}
 use Rattle.table.proofs.TestLaws.{sound-state-rule}
 use Rattle.table.proofs.WritingLaws.{sound-meaning, every-gateway}
-use Rattle.server.specs.declared.Answers.{Answers}
-use Rattle.server.specs.declared.Signed.{Signed}
-use Rattle.server.specs.declared.Signed.the-variants.{Missing, Nothing, Given}
-use Rattle.server.specs.declared.Called.{Called}
-use Rattle.server.specs.declared.Outcome.the-variants.{Refused, Reply}
-use Rattle.server.specs.Outcomes.{signatureOf, lentOf, code, written, outcomeOf}
-use Rattle.server.specs.Calls.{Done, laidOut, callOf, Ends}
+use Rattle.requests.specs.declared.Answers.{Answers}
+use Rattle.requests.specs.declared.Signed.{Signed}
+use Rattle.requests.specs.declared.Signed.the-variants.{Missing, Nothing, Given}
+use Rattle.requests.specs.declared.Called.{Called}
+use Rattle.requests.specs.declared.Outcome.the-variants.{Refused, Reply}
+use Rattle.requests.specs.Outcomes.{signatureOf, lentOf, code, written, outcomeOf}
+use Rattle.requests.specs.Ends.{Done, laidOut, Ends}
+use Rattle.server.specs.Calls.{callOf}
 use Rattle.server.specs.Runs.{Meets, NoSecondAnswer, Unchanged, CodeRefusalLeaves, Step, stateAfter, storeAfter, MeetsCall, asCall, outcomeAfter}
 use Rattle.server.specs.Runs.{CodeRefusals, OnlyClock, CodeQuestionLeaves, CodeCloseLeaves, CodeFailureLeaves, CodeReplyLeaves, Fills, CodeReplyBytes, CodeOthersStay}
-use Rattle.server.proofs.OutcomeLaws.{outcomes-read}
+use Rattle.requests.proofs.OutcomeLaws.{outcomes-read}
 use Rattle.server.proofs.CallLaws.{sound-passed, refusalHere, refuses-1, refuses-2, refuses-3, refuses-4, refuses-5, none-applies}
 use Rattle.server.proofs.RowSteps.{lent-given}
 

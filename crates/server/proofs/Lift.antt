@@ -27,9 +27,9 @@ use Rattle.table.specs.declared.State.{State}
 use Rattle.table.specs.Meaning.{gatewayOf}
 use Rattle.table.specs.Soundness.{Means}
 use Rattle.table.proofs.WritingLaws.{sound-meaning}
-use Rattle.server.specs.declared.Outcome.{Outcome}
-use Rattle.server.specs.declared.Outcome.the-variants.{Refused, Gate, Check, Confirm, Sign, Reply, Close}
-use Rattle.server.specs.Outcomes.{outcomeOf}
+use Rattle.requests.specs.declared.Outcome.{Outcome}
+use Rattle.requests.specs.declared.Outcome.the-variants.{Refused, Gate, Check, Confirm, Sign, Reply, Close}
+use Rattle.requests.specs.Outcomes.{outcomeOf}
 use Rattle.server.specs.Runs.{Unchanged}
 use Rattle.server.specs.Runs.{Step, MeetsCall, stateAfter, storeAfter, CodeRun, endState, endStore, EveryStep, asCall, RuleRun, IsARun, CodeIsARun}
 use Rattle.server.specs.Runs.{outcomeAfter, isAccepted, Accepted, heardAt, heardOver, turnsOver, turnsOf, askedOver, acceptedOver, acceptedSteps}

@@ -19,19 +19,19 @@ use Rattle.rule.specs.Calls.{given, lent, lentLength, asks, lands, follow, serv
 use Rattle.table.specs.declared.State.{State}
 use Rattle.table.specs.Meaning.{gatewayOf}
 use Rattle.table.specs.Soundness.{Sound}
-use Rattle.server.specs.declared.Said.{Said}
-use Rattle.server.specs.declared.Said.the-variants.{Missing, No, Yes}
-use Rattle.server.specs.declared.Signed.{Signed}
-use Rattle.server.specs.declared.Signed.the-variants as signed
-use Rattle.server.specs.declared.Answers.{Answers}
+use Rattle.requests.specs.declared.Said.{Said}
+use Rattle.requests.specs.declared.Said.the-variants.{Missing, No, Yes}
+use Rattle.requests.specs.declared.Signed.{Signed}
+use Rattle.requests.specs.declared.Signed.the-variants as signed
+use Rattle.requests.specs.declared.Answers.{Answers}
 use Rattle.server.specs.declared.call.Row.{Row}
 use Rattle.server.specs.declared.call.Row.the-variants as rows
-use Rattle.server.specs.declared.Called.{Called}
-use Rattle.server.specs.declared.Outcome.the-variants.{Gate}
-use Rattle.server.specs.Outcomes.{grantOf, signatureOf, lentOf, code}
-use Rattle.server.specs.Calls.{Ends}
+use Rattle.requests.specs.declared.Called.{Called}
+use Rattle.requests.specs.declared.Outcome.the-variants.{Gate}
+use Rattle.requests.specs.Outcomes.{grantOf, signatureOf, lentOf, code}
+use Rattle.requests.specs.Ends.{Ends}
 use Rattle.server.specs.Rows.{bySaid, gatedRow, rowOf}
-use Rattle.server.proofs.EndSteps.{asked-ends}
+use Rattle.requests.proofs.EndSteps.{asked-ends}
 
 -- ## The code's tests
 

@@ -16,11 +16,12 @@ use Rattle.rule.specs.Order.{EveryTurn, Keeps, asked, settled, ownFrame, ownAns
 use Rattle.table.specs.declared.State.{State}
 use Rattle.table.specs.Meaning.{gatewayOf}
 use Rattle.table.specs.Soundness.{Sound, Means}
-use Rattle.server.specs.declared.Signed.the-variants.{Given}
-use Rattle.server.specs.declared.Answers.{Answers}
-use Rattle.server.specs.declared.Outcome.the-variants.{Refused, Reply, Close}
-use Rattle.server.specs.Outcomes.{lentOf, outcomeOf}
-use Rattle.server.specs.Calls.{Done, calledOf, storeOf, replyOf, Ends}
+use Rattle.requests.specs.declared.Signed.the-variants.{Given}
+use Rattle.requests.specs.declared.Answers.{Answers}
+use Rattle.requests.specs.declared.Outcome.the-variants.{Refused, Reply, Close}
+use Rattle.requests.specs.Outcomes.{lentOf, outcomeOf}
+use Rattle.requests.specs.Ends.{Done, Ends}
+use Rattle.server.specs.Calls.{calledOf, storeOf, replyOf}
 
 -- ## One call
 

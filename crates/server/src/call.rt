@@ -1,17 +1,17 @@
 // One call: its refusals, the clock, the row of its first byte, and the request's function.
-use crate::Answers;
-use crate::Called;
-use crate::Outcome;
-use crate::Said;
-use crate::Signed;
-use crate::add::add_key;
-use crate::list::request_identities;
-use crate::replies::failure;
-use crate::requests::lock;
-use crate::requests::remove_all_identities;
-use crate::requests::remove_identity;
-use crate::requests::unlock;
-use crate::sign::try_sign;
+use requests::Answers;
+use requests::Called;
+use requests::Outcome;
+use requests::Said;
+use requests::Signed;
+use requests::add::add_key;
+use requests::list::request_identities;
+use requests::lock::lock;
+use requests::lock::unlock;
+use requests::remove::remove_all_identities;
+use requests::remove::remove_identity;
+use requests::replies::failure;
+use requests::sign::try_sign;
 use rule::Millis;
 use table::State;
 use table::changes::advance;
@@ -25,8 +25,9 @@ ghost use lib.ListN.{length};
 ghost use Rattle.rule.specs.Calls.{lentLength, served};
 ghost use Rattle.table.specs.Meaning.{gatewayOf};
 ghost use Rattle.table.specs.Soundness.{Sound};
-ghost use Rattle.server.specs.Outcomes.{signatureOf, lentOf};
-ghost use Rattle.server.specs.Calls.{Ends, calledOf, storeOf, replyOf};
+ghost use Rattle.requests.specs.Outcomes.{signatureOf, lentOf};
+ghost use Rattle.requests.specs.Ends.{Ends};
+ghost use Rattle.server.specs.Calls.{calledOf, storeOf, replyOf};
 ghost use Rattle.server.specs.Rows.{gatedRow, rowOf};
 
 // What a request comes to by its first byte, the lock and the gate's answer.

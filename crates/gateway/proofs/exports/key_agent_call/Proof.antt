@@ -41,16 +41,16 @@ use denote.Signature.{plain, shrSliceOf}
 use Rattle.server.specs.Calls.{calledOf, storeOf, replyOf}
 use Rattle.gateway.specs.Flat.{answersOf, flatOf}
 use Rattle.table.specs.declared.State.{State}
-use Rattle.server.specs.declared.Outcome.{Outcome}
-use Rattle.server.specs.declared.Answers.{Answers}
+use Rattle.requests.specs.declared.Outcome.{Outcome}
+use Rattle.requests.specs.declared.Answers.{Answers}
 use Rattle.rule.specs.declared.Millis.{Millis}
 use Rattle.gateway.specs.declared.flat.FlatAnswers.{FlatAnswers}
 use Rattle.gateway.specs.declared.flat.FlatOutcome.{FlatOutcome}
 use Rattle.table.proofs.State as State′
-use Rattle.server.proofs.Outcome as Outcome′
-use Rattle.server.proofs.Outcome.Laws as Outcome″
-use Rattle.server.proofs.Answers as Answers′
-use Rattle.server.proofs.Answers.Laws as Answers″
+use Rattle.requests.proofs.Outcome as Outcome′
+use Rattle.requests.proofs.Outcome.Laws as Outcome″
+use Rattle.requests.proofs.Answers as Answers′
+use Rattle.requests.proofs.Answers.Laws as Answers″
 use Rattle.rule.proofs.Millis as Millis′
 use Rattle.rule.proofs.Millis.Laws as Millis″
 use Rattle.gateway.proofs.flat.FlatAnswers as FlatAnswers′

@@ -43,20 +43,20 @@ use denote.Exit.{yes}
 use denote.Signature.{plain, shrSliceOf}
 use Rattle.server.specs.Calls.{calledOf, storeOf, replyOf}
 use Rattle.table.specs.declared.State.{State}
-use Rattle.server.specs.declared.Outcome.{Outcome}
-use Rattle.server.specs.declared.Called.{Called}
+use Rattle.requests.specs.declared.Outcome.{Outcome}
+use Rattle.requests.specs.declared.Called.{Called}
 use Rattle.rule.specs.declared.Millis.{Millis}
-use Rattle.server.specs.declared.Answers.{Answers}
+use Rattle.requests.specs.declared.Answers.{Answers}
 use Rattle.table.proofs.State as State′
 use Rattle.table.proofs.State.Laws as State″
-use Rattle.server.proofs.Outcome as Outcome′
-use Rattle.server.proofs.Outcome.Laws as Outcome″
-use Rattle.server.proofs.Called as Called′
-use Rattle.server.proofs.Called.Laws as Called″
+use Rattle.requests.proofs.Outcome as Outcome′
+use Rattle.requests.proofs.Outcome.Laws as Outcome″
+use Rattle.requests.proofs.Called as Called′
+use Rattle.requests.proofs.Called.Laws as Called″
 use Rattle.rule.proofs.Millis as Millis′
 use Rattle.rule.proofs.Millis.Laws as Millis″
-use Rattle.server.proofs.Answers as Answers′
-use Rattle.server.proofs.Answers.Laws as Answers″
+use Rattle.requests.proofs.Answers as Answers′
+use Rattle.requests.proofs.Answers.Laws as Answers″
 use Rattle.server.proofs.call.call as call
 use Rattle.server.proofs.call.call.Symbol as call-def
 use Rattle.server.proofs.call.call.Symbol.{name as #server·call}

@@ -1,0 +1,137 @@
+-- The add requests: the limits as the code tests them, the key check, the place that may take the key, and the blob that was derived beside the table.
+use Prim.Native.Nat.{ℕ, _+_, _≤_, _<_}
+use mathlib.Core.Path.{_≡_, refl, sym, ap, _∙_}
+use mathlib.Core.Logic.{⊎-elim}
+use mathlib.Core.Bool.{Bool, true, false, and-false}
+use mathlib.Core.Option.{Option}
+use mathlib.Core.List.{List}
+use native.Mathlib.Omega.{arith}
+use borrow.Author.Tests.{le-leb, lt-leb, leb-true, leb-false}
+use lib.Dec.{leb, ltb}
+use lib.ListN.{length, take, drop}
+use lib.Seq.{take-at}
+use Rattle.wire.specs.Numbers.{within}
+use Rattle.wire.specs.Steps.{so}
+use Rattle.wire.specs.Write.{write}
+use Rattle.wire.proofs.Reading.{le-or-lt}
+use Rattle.wire.proofs.Steps.{ltb-yes, ltb-no}
+use Rattle.wire.proofs.Writing.{length-write}
+use Rattle.keys.specs.declared.kinds.Places.{Places}
+use Rattle.keys.specs.declared.kinds.Blob.{Blob}
+use Rattle.keys.specs.declared.kinds.Blob.the-variants.{Length, TooLong}
+use Rattle.keys.specs.declared.constraints.Lifetime.{Lifetime}
+use Rattle.keys.specs.Kinds.{blobOf, blobAnswer, blobLeft}
+use Rattle.rule.specs.declared.Found.{Found}
+use Rattle.rule.specs.declared.Found.the-variants.{At}
+use Rattle.rule.specs.Gateway.{Gateway, placeFor, newEntry}
+use Rattle.rule.specs.Soundness.{lastNumber}
+use Rattle.rule.specs.Rule.{Question, Answer, Plan, ask, check, storing}
+use Rattle.rule.specs.Calls as rule
+use Rattle.rule.specs.Calls.{lent, follow}
+use Rattle.table.specs.declared.State.{State}
+use Rattle.table.specs.Meaning.{gatewayOf}
+use Rattle.table.specs.Soundness.{Sound}
+use Rattle.table.specs.Changes.{MayPut}
+use Rattle.table.specs.Promises.{PlaceForPut}
+use Rattle.requests.specs.declared.Said.{Said}
+use Rattle.requests.specs.declared.Said.the-variants.{Missing, No, Yes}
+use Rattle.requests.specs.declared.Called.{Called}
+use Rattle.requests.specs.declared.Outcome.the-variants.{Check}
+use Rattle.requests.specs.Outcomes.{grantOf, code}
+use Rattle.requests.specs.Ends.{Ends}
+use Rattle.requests.proofs.EndSteps.{ends, added-whole, added-fault, asked, answered, asked-ends}
+
+-- ## The limits
+
+module _ (low high n : ℕ) where
+  pub within-yes : low ≤ n → n ≤ high → true ≡ within low high n
+  within-yes h k = rw (le-leb low n h, le-leb n high k)
+
+  pub within-short : n < low → false ≡ within low high n
+  within-short h = rw (lt-leb low n h)
+
+  pub within-long : high < n → false ≡ within low high n
+  within-long h = rw (lt-leb n high h, and-false (leb low n))
+
+module _ (s : State) (x : List ℕ) where
+  last-or-less : Sound s x → (s .next ≡ lastNumber → ⊥) → gatewayOf s x .next < lastNumber
+  unfolding gatewayOf
+  last-or-less S h = ⊎-elim (λ (k : lastNumber ≤ s .next). absurd (h (omega arith))) (λ (k : s .next < lastNumber). k) (le-or-lt lastNumber (s .next))
+
+  pub numbers-left : Sound s x → (s .next ≡ lastNumber → ⊥) → true ≡ ltb (gatewayOf s x .next) lastNumber
+  numbers-left S h = ltb-yes _ _ (last-or-less S h)
+
+  pub numbers-gone : s .next ≡ lastNumber → false ≡ ltb (gatewayOf s x .next) lastNumber
+  unfolding gatewayOf
+  numbers-gone e = ltb-no (s .next) lastNumber (omega arith)
+
+  -- the place for a blob within the limits may take it
+  pub may-put : PlaceForPut → (i : ℕ) (blob fields : List ℕ) (w : Found) → Sound s x → w ≡ At i → w ≡ placeFor blob (gatewayOf s x .places) → 1 ≤ length blob → length blob ≤ 1024
+      → 1 ≤ length fields → length fields ≤ 3072 → (s .next ≡ lastNumber → ⊥) → MayPut s x i blob fields
+  may-put place-for-put i blob fields w S e f a b c d h = place-for-put s x i blob fields S (sym f ∙ e) a b c d (last-or-less S h)
+
+-- ## The key check
+
+module _ (a : rule.Answers) (w : Said) (said : a .check ≡ grantOf w) (buffer : List ℕ) (r : Called) (x out : List ℕ) (from to : ℕ) (F : Bool → Plan) where
+  checker-says : (v : Said) → w ≡ v → lent a (check from to) ≡ grantOf v
+  unfolding lent
+  checker-says v e = said ∙ ap grantOf e
+
+  pub checker-asked : (s : State) → w ≡ Missing → r ≡ record { outcome = Check from to; state = s } → out ≡ buffer → Sound s x
+      → Ends buffer r x out (follow (lent a) (gatewayOf s x) (ask (check from to) F))
+  unfolding code
+  checker-asked s e f o h = asked _ _ _ _ _ _ _ _ (checker-says Missing e) (rw (f, o) (asked-ends buffer x (Check from to) s (check from to) refl h))
+
+  module _ (g : Gateway) where
+    abbrev Checks : Plan → Type 0
+    Checks plan = Ends buffer r x out (follow (lent a) g plan)
+
+    pub checker-denies : w ≡ No → Checks (F false) → Checks (ask (check from to) F)
+    checker-denies e h = answered _ _ _ _ _ _ _ _ false (checker-says No e) h
+
+    pub checker-grants : w ≡ Yes → Checks (F true) → Checks (ask (check from to) F)
+    checker-grants e h = answered _ _ _ _ _ _ _ _ true (checker-says Yes e) h
+
+pub ruleset adds = (ends, added-whole, added-fault, within-yes, within-short, within-long, numbers-left, numbers-gone, checker-asked, checker-denies, checker-grants)
+
+-- ## The blob beside the table
+
+-- the blob stands in the first n bytes
+pub record Stands (s : List ℕ) (at : ℕ) (p : Places) (n : ℕ) (left : List ℕ) : Type 0 where
+  pub inside : n ≤ length left
+  pub size : n ≡ length (take n left)
+  pub blob : take n left ≡ blobOf s at p
+
+module _ (s : List ℕ) (at : ℕ) (p : Places) (room : List ℕ) (w : Blob) (answer : w ≡ blobAnswer s at p room) where
+  -- a blob that has no room is over the room's length
+  pub blob-over : (n : ℕ) → length room ≡ n → w ≡ TooLong → n < length (blobOf s at p)
+  unfolding blobAnswer so
+  blob-over n l e = rw (← l) (go (leb (length (blobOf s at p)) (length room)) refl (sym answer ∙ e))
+    where
+      go : (b : Bool) → leb (length (blobOf s at p)) (length room) ≡ b → so TooLong b (Length (length (blobOf s at p))) ≡ TooLong → length room < length (blobOf s at p)
+      go true t h = let z : _≡_ {A = ℕ} 0 1 = cc in absurd (omega arith)
+      go false t h = leb-false _ _ t
+
+  -- one that has room stands at its front
+  pub blob-stands : (n : ℕ) (left : List ℕ) → left ≡ blobLeft s at p room → w ≡ Length n → Stands s at p n left
+  unfolding blobAnswer blobLeft so write
+  blob-stands n left f e = go (leb (length (blobOf s at p)) (length room)) refl (sym answer ∙ e) f
+    where
+      blob : List ℕ
+      blob = blobOf s at p
+
+      there : length blob ≤ length room → length blob ≡ n → left ≡ write room 0 blob → Stands s at p n left
+      there h q k =
+          let l : length left ≡ length room = ap length k ∙ length-write room 0 blob (omega arith) in
+          let t : take n left ≡ blob = rw k (take-at blob (drop (0 + length blob) room) n q) in
+          record { inside = omega arith; size = rw t (sym q); blob = t }
+
+      go : (b : Bool) → leb (length blob) (length room) ≡ b → so TooLong b (Length (length blob)) ≡ Length n → left ≡ so room b (write room 0 blob) → Stands s at p n left
+      go true t h k = let q : length blob ≡ n = cc in there (leb-true _ _ t) q k
+      go false t h k = let z : _≡_ {A = ℕ} 0 1 = cc in absurd (omega arith)
+
+-- the entry of bytes that calls gave is the entry of what they are
+pub stored-as : (buffer : List ℕ) (r : Called) (x out : List ℕ) (answers : (q : Question) → Option (Answer q)) (g : Gateway) (lifetime : Lifetime) (confirm : Bool) (to : ℕ) (blob fields blob′ fields′ : List ℕ)
+    → blob ≡ blob′ → fields ≡ fields′ → Ends buffer r x out (follow answers g (storing g (newEntry g lifetime confirm blob fields) to))
+    → Ends buffer r x out (follow answers g (storing g (newEntry g lifetime confirm blob′ fields′) to))
+stored-as buffer r x out answers g lifetime confirm to blob fields blob′ fields′ e f h = rw (← e, ← f) h

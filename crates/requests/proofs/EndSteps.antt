@@ -1,0 +1,183 @@
+-- How a request's function follows its plan: one law for each step of a plan, and one for each way to land. `search ends` goes by them.
+use Prim.Native.Nat.{ℕ, _+_, _-_, _≤_, _<_}
+use mathlib.Core.Path.{_≡_, refl, sym, ap, _∙_}
+use mathlib.Core.Bool.{Bool, true, false}
+use mathlib.Core.Logic.{⊎-elim}
+use mathlib.Core.Option.{Option, none, some}
+use mathlib.Core.List.{List, [], _∷_}
+use native.Mathlib.Omega.{arith}
+use borrow.Author.Needs.{needs}
+use borrow.Author.Tests.{le-leb}
+use lib.ListN.{length, length-take}
+use Rattle.wire.specs.declared.read.Cursor.{Cursor}
+use Rattle.wire.specs.declared.read.Number.{Number}
+use Rattle.wire.specs.declared.read.Part.{Part}
+use Rattle.wire.specs.declared.read.Part.the-variants.{Whole}
+use Rattle.wire.specs.Numbers.{be32}
+use Rattle.wire.specs.Read.{cutOf, same}
+use Rattle.wire.specs.Steps.{so, part, number}
+use Rattle.wire.specs.Write.{string, write}
+use Rattle.wire.proofs.Reading.{cut-there, cut-past, cut-back, le-or-lt}
+use Rattle.wire.proofs.Writing.{write-behind}
+use Rattle.wire.proofs.Steps.{leb-yes, leb-no, plain, string-order}
+use Rattle.keys.specs.declared.kinds.Places.{Places}
+use Rattle.keys.specs.declared.constraints.Lifetime.{Lifetime}
+use Rattle.keys.specs.declared.addition.Addition.{Addition}
+use Rattle.rule.specs.declared.Found.{Found}
+use Rattle.rule.specs.declared.Found.the-variants.{At, Nothing}
+use Rattle.rule.specs.Gateway.{Place, Gateway, seek, holds, found, withLock}
+use Rattle.rule.specs.Rule.{Question, Answer, Landing, FAILURE, SUCCESS, reply, close, Plan, land, ask, added}
+use Rattle.rule.specs.Calls.{asks, lands, follow}
+use Rattle.rule.proofs.PlaceLaws.{seek-first}
+use Rattle.table.specs.declared.State.{State}
+use Rattle.table.specs.Meaning.{size, placeOf, gatewayOf}
+use Rattle.table.specs.Soundness.{Sound, Means}
+use Rattle.table.proofs.EachLaws.{each-length}
+use Rattle.requests.specs.declared.Called.{Called}
+use Rattle.requests.specs.declared.Outcome.{Outcome}
+use Rattle.requests.specs.declared.Outcome.the-variants.{Reply, Close}
+use Rattle.requests.specs.Outcomes.{code, written}
+use Rattle.requests.specs.Ends.{Ends, Answered}
+
+-- ## The steps of a plan
+
+module _ (buffer : List ℕ) (r : Called) (store out : List ℕ) (answers : (q : Question) → Option (Answer q)) (g : Gateway) where
+  abbrev E : Plan → Type 0
+  E plan = Ends buffer r store out (follow answers g plan)
+
+  pub so-yes : (z : Plan) (b : Bool) (p : Plan) → true ≡ b → E p → E (so z b p)
+  unfolding so
+  so-yes z b p e h = rw (← e) h
+
+  pub so-no : (z : Plan) (b : Bool) (p : Plan) → false ≡ b → E z → E (so z b p)
+  unfolding so
+  so-no z b p e h = rw (← e) h
+
+  pub part-fault : (z : ℕ → Plan) (p w : Part) (F : ℕ → ℕ → Cursor → Plan) (at : ℕ) → w ≡ Part.Fault at → w ≡ p → E (z at) → E (part z p F)
+  unfolding part
+  part-fault z p w F at q e h = rw (← e, q) h
+
+  pub part-whole : (z : ℕ → Plan) (p w : Part) (F : ℕ → ℕ → Cursor → Plan) (f t : ℕ) (k : Cursor) → w ≡ Whole f t k → w ≡ p → E (F f t k) → E (part z p F)
+  unfolding part
+  part-whole z p w F f t k q e h = rw (← e, q) h
+
+  pub number-fault : (z : ℕ → Plan) (p w : Number) (F : ℕ → Cursor → Plan) (at : ℕ) → w ≡ Number.Fault at → w ≡ p → E (z at) → E (number z p F)
+  unfolding number
+  number-fault z p w F at q e h = rw (← e, q) h
+
+  pub number-value : (z : ℕ → Plan) (p w : Number) (F : ℕ → Cursor → Plan) (n : ℕ) (k : Cursor) → w ≡ Number.Value n k → w ≡ p → E (F n k) → E (number z p F)
+  unfolding number
+  number-value z p w F n k q e h = rw (← e, q) h
+
+  pub found-at : (z : Plan) (p w : Found) (F : ℕ → Plan) (i : ℕ) → w ≡ At i → w ≡ p → E (F i) → E (found z p F)
+  unfolding found
+  found-at z p w F i q e h = rw (← e, q) h
+
+  pub found-nothing : (z : Plan) (p w : Found) (F : ℕ → Plan) → w ≡ Nothing → w ≡ p → E z → E (found z p F)
+  unfolding found
+  found-nothing z p w F q e h = rw (← e, q) h
+
+  pub added-whole : (z : Plan) (p w : Addition) (F : Places → Lifetime → Bool → Plan) (at : Places) (l : Lifetime) (c : Bool) → w ≡ Addition.Whole at l c → w ≡ p → E (F at l c)
+      → E (added z p F)
+  unfolding added
+  added-whole z p w F at l c q e h = rw (← e, q) h
+
+  pub added-fault : (z : Plan) (p w : Addition) (F : Places → Lifetime → Bool → Plan) (at : ℕ) → w ≡ Addition.Fault at → w ≡ p → E z → E (added z p F)
+  unfolding added
+  added-fault z p w F at q e h = rw (← e, q) h
+
+  pub landed : (l : Landing) (after : Gateway) → Ends buffer r store out (record { outcome = lands l; gateway = after }) → E (land l after)
+  unfolding follow
+  landed l after h = h
+
+  -- the answer is missing, and the question is the outcome
+  pub asked : (q : Question) (F : Answer q → Plan) → answers q ≡ none → Ends buffer r store out (record { outcome = asks q; gateway = g }) → E (ask q F)
+  unfolding follow
+  asked q F e h = rw e h
+
+  pub answered : (q : Question) (F : Answer q → Plan) (a : Answer q) → answers q ≡ some a → E (F a) → E (ask q F)
+  unfolding follow
+  answered q F a e h = rw e h
+
+-- ## Landings
+
+-- bytes written at the front of the buffer, and their number, are a reply
+pub replied : (buffer : List ℕ) (r : Called) (store out bytes : List ℕ) (s : State) (n : ℕ) (g : Gateway) → r ≡ record { outcome = Reply n; state = s } → n ≡ length bytes
+    → out ≡ write buffer 0 bytes → Means s store g → Ends buffer r store out (record { outcome = lands (reply bytes); gateway = g })
+unfolding code written
+replied buffer r store out bytes s n g e l w m = rw (e, l) (record { outcome = refl; means = m; bytes = w })
+
+pub failing : {s : State} {buffer out : List ℕ} {r : Called} → Answered 5 s buffer r out → (store : List ℕ) (g : Gateway) → Means s store g
+    → Ends buffer r store out (record { outcome = lands FAILURE; gateway = g })
+failing h store g m = replied _ _ _ _ _ _ _ _ (h .0) refl (h .1) m
+
+pub succeeding : {s : State} {buffer out : List ℕ} {r : Called} → Answered 6 s buffer r out → (store : List ℕ) (g : Gateway) → Means s store g
+    → Ends buffer r store out (record { outcome = lands SUCCESS; gateway = g })
+succeeding h store g m = replied _ _ _ _ _ _ _ _ (h .0) refl (h .1) m
+
+-- nothing is written, and the state stays
+pub closing : {s : State} {r : Called} → r ≡ record { outcome = Close; state = s } → (store buffer : List ℕ) (g : Gateway) → Means s store g
+    → Ends buffer r store buffer (record { outcome = lands close; gateway = g })
+unfolding code written
+closing e store buffer g m = rw e (record { outcome = refl; means = m; bytes = refl })
+
+-- a question as the outcome: nothing is written
+pub asked-ends : (buffer store : List ℕ) (o : Outcome) (s : State) (q : Question) → o ≡ code (asks q) → Sound s store
+    → Ends buffer (record { outcome = o; state = s }) store buffer (record { outcome = asks q; gateway = gatewayOf s store })
+unfolding written
+asked-ends buffer store o s q e m = record { outcome = e; means = record { gateway = refl; sound = m }; bytes = refl }
+
+-- the length of one byte, and the byte
+pub five : (o m out : List ℕ) (s : State) (k at n : ℕ) → m ≡ write o 0 (be32 1) → at ≡ 0 + 4 → out ≡ write m at (k ∷ []) → n ≡ at + 1 → 5 ≤ length o
+    → (_≡_ {A = Called} (record { outcome = Reply n; state = s }) (record { outcome = Reply 5; state = s })) × (out ≡ write o 0 (string (k ∷ [])))
+five o m out s k at n e a f l h =
+    let five : n ≡ 5 = omega arith in
+    (ap (λ (n : ℕ). record { outcome = Reply n; state = s }) five, write-behind o 0 (be32 1) m at (k ∷ []) out e f (omega arith) (omega arith))
+
+-- ## What a request's function hands on
+
+pub means-itself : (s : State) (x : List ℕ) → Sound s x → Means s x (gatewayOf s x)
+means-itself s x h = record { gateway = refl; sound = h }
+
+pub lock-means : (s : State) (x p q : List ℕ) (g : Gateway) → p ≡ q → Means s x (withLock p g) → Means s x (withLock q g)
+lock-means s x p q g e m = rw (← e) m
+
+-- an empty part opens
+pub open-means : (s : State) (x p l : List ℕ) (g : Gateway) → p ≡ cutOf l 0 0 → Means s x (withLock p g) → Means s x (withLock [] g)
+unfolding cutOf
+open-means s x p l g e m = lock-means s x p [] g (rw (le-leb 0 (length l) (omega arith)) at e) m
+
+-- a search for bytes that a call gave
+pub sought : (p q : List ℕ) (ps : List Place) (w : Found) → p ≡ q → w ≡ seek (holds p) 0 ps → w ≡ seek (holds q) 0 ps
+sought p q ps w e f = rw (← e) f
+
+-- the passphrase is tested with bytes that a call gave
+pub passphrase-of : (s : State) (x p q : List ℕ) (v b : Bool) → p ≡ q → b ≡ v → ((y : List ℕ) → b ≡ same (gatewayOf s y .lock) p) → v ≡ same (gatewayOf s x .lock) q
+passphrase-of s x p q v b e f h = sym f ∙ h x ∙ ap (same (gatewayOf s x .lock)) e
+
+pub cut-fits : (s p : List ℕ) (f t n : ℕ) → p ≡ cutOf s f t → t - f ≤ n → length p ≤ n
+cut-fits s p f t n e h = rw e (⊎-elim (λ a. ⊎-elim (there a) (past a) (le-or-lt t (length s))) back (le-or-lt f t))
+  where
+    there : f ≤ t → t ≤ length s → length (cutOf s f t) ≤ n
+    there a b = rw (← cut-there s f t a b, length-take) (omega arith)
+
+    past : f ≤ t → length s < t → length (cutOf s f t) ≤ n
+    past a b = rw (← cut-past s f t a b) (omega arith)
+
+    back : t < f → length (cutOf s f t) ≤ n
+    back a = rw (← cut-back s f t a) (omega arith)
+
+-- ## Places
+
+pub eight-places : (s : State) (x : List ℕ) → length (s .entries) ≡ 8 → length (gatewayOf s x .places) ≡ 8
+unfolding gatewayOf
+eight-places s x e = each-length size placeOf (s .entries) x ∙ e
+
+-- a search over eight places ends at one of them
+pub place-within : (s : State) (x : List ℕ) (test : Place → Bool) (w : Found) (i : ℕ) → Sound s x → w ≡ At i → w ≡ seek test 0 (gatewayOf s x .places) → i < 8
+place-within s x test w i h e f =
+    let inside = seek-first test (gatewayOf s x .places) i (sym f ∙ e) .inside in
+    let eight = eight-places s x (omega arith) in
+    omega arith
+
+pub ruleset ends = (so-yes, so-no, part-fault, part-whole, number-fault, number-value, found-at, found-nothing, landed, means-itself, lock-means, open-means, sought, passphrase-of, cut-fits, place-within, leb-yes, leb-no, plain, string-order, needs)

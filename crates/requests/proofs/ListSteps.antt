@@ -1,0 +1,190 @@
+-- A list's reply as the code writes it: the items place by place, the count place by place, and then what stands in front of the items.
+use Prim.Native.Nat.{ℕ, zero, suc, _+_, _-_, _*_, _≤_, _<_}
+use mathlib.Core.Path.{_≡_, refl, sym, ap, _∙_}
+use mathlib.Core.Bool.{Bool, true, false, not}
+use mathlib.Core.Option.{none, some}
+use mathlib.Core.List.{List, [], _∷_, _++_, append-assoc, append-nil}
+use native.Mathlib.Nat.{not-suc-le-zero, le-of-suc-le-suc}
+use native.Mathlib.Numerals.{add-one}
+use native.Mathlib.Omega.{arith}
+use borrow.Author.Tests.{not-true, not-false}
+use lib.ListN.{length, getD, take, drop, length-append, take-append-drop}
+use lib.Seq.{length-take-le, take-all, drop-at}
+use Rattle.wire.specs.Numbers.{be32}
+use Rattle.wire.specs.Write.{string, write}
+use Rattle.wire.proofs.Writing.{write-behind, length-write}
+use Rattle.rule.specs.Gateway.{Place, Gateway, isFree}
+use Rattle.rule.specs.Soundness as rule
+use Rattle.rule.specs.Soundness.{SoundEntry}
+use Rattle.rule.specs.Rule.{item, live, items, listed}
+use Rattle.rule.proofs.Cases.{true-not-false}
+use Rattle.rule.proofs.PlaceLaws.{every-at}
+use Rattle.table.specs.declared.State.{State}
+use Rattle.table.specs.Meaning.{gatewayOf, blobIn}
+use Rattle.requests.specs.Lists.{itemIn, one}
+use Rattle.requests.proofs.EndSteps.{eight-places}
+
+-- ## One place
+
+write-nothing : (o : List ℕ) (at : ℕ) → o ≡ write o at []
+unfolding write
+write-nothing o at = let e : at + 0 ≡ at = omega arith in rw (e, append-nil (take at o)) (sym (take-append-drop at o))
+
+free-is : (p : Place) → not (isFree p) ≡ false → p ≡ none
+free-is none h = refl
+free-is (some k) h = absurd (true-not-false h)
+
+module _ (g : Gateway) (i : ℕ) where
+  abbrev here : Place
+  here = getD (g .places) i none
+
+  module _ (s : rule.Sound g) where
+    pub blob-short : length (blobIn here) ≤ 1024
+    blob-short = go here refl
+      where
+        go : (p : Place) → here ≡ p → length (blobIn p) ≤ 1024
+        go none e = omega arith
+        go (some k) e = every-at (SoundEntry (g .clock) (g .next)) (g .places) (s .entries) i k e .blob-fits
+
+    pub item-short : length (itemIn here) ≤ 1032
+    item-short = go here blob-short
+      where
+        go : (p : Place) → length (blobIn p) ≤ 1024 → length (itemIn p) ≤ 1032
+        go none h = omega arith
+        go (some k) h = simp length-append (omega arith)
+
+    -- so are the bytes that a call gave for it
+    pub blob-room : (v : List ℕ) → v ≡ blobIn here → length v ≤ 1024
+    blob-room v e = rw e blob-short
+
+  -- what the test says that a place adds: nothing where it is free, else its blob and an empty comment
+  module _ (b : Bool) (test : b ≡ not (isFree here)) where
+    pub free-item : (at : ℕ) (o : List ℕ) → not b ≡ true → (at ≡ at + length (itemIn here)) × (o ≡ write o at (itemIn here))
+    free-item at o e = rw (free-is here (sym test ∙ not-true b e)) (omega arith, write-nothing o at)
+
+    pub held-item : (at : ℕ) (v o m out : List ℕ) (c r : ℕ) → not b ≡ false → v ≡ blobIn here → m ≡ write o at (string v) → c ≡ at + 4 + length v → out ≡ write m c (be32 0) → r ≡ c + 4
+        → at + 8 + length v ≤ length o → (r ≡ at + length (itemIn here)) × (out ≡ write o at (itemIn here))
+    held-item at v o m out c r e f em ec eo er h = go here test f
+      where
+        go : (p : Place) → b ≡ not (isFree p) → v ≡ blobIn p → (r ≡ at + length (itemIn p)) × (out ≡ write o at (itemIn p))
+        go none t q = absurd (true-not-false (sym (not-false b e) ∙ t))
+        go (some k) t q =
+            let w = write-behind o at (string v) m c (be32 0) out em eo (omega arith) (omega arith) in
+            let n : length (v ++ string []) ≡ length v + 4 = length-append v (string []) in
+            rw (← q) (omega arith, w)
+
+    pub held-counts : b ≡ true → 1 ≡ one here
+    held-counts e = go here (sym test ∙ e)
+      where
+        go : (p : Place) → not (isFree p) ≡ true → 1 ≡ one p
+        go none h = absurd (true-not-false (sym h))
+        go (some k) h = refl
+
+    pub free-counts : b ≡ false → 0 ≡ one here
+    free-counts e = rw (free-is here (sym test ∙ e))
+
+-- ## The first places
+
+items-suc : (ps : List Place) (i : ℕ) → i < length ps → items (live (take (suc i) ps)) ≡ items (live (take i ps)) ++ itemIn (getD ps i none)
+unfolding live items
+items-suc [] i h = absurd (not-suc-le-zero h)
+items-suc (none ∷ ps) zero h = refl
+items-suc (some e ∷ ps) zero h = append-nil (item e)
+items-suc (none ∷ ps) (suc i) h = items-suc ps i (le-of-suc-le-suc h)
+items-suc (some e ∷ ps) (suc i) h =
+    ap (λ (l : List ℕ). item e ++ l) (items-suc ps i (le-of-suc-le-suc h)) ∙ sym (append-assoc (item e) (items (live (take i ps))) (itemIn (getD ps i none)))
+
+count-suc : (ps : List Place) (i : ℕ) → i < length ps → length (live (take (suc i) ps)) ≡ length (live (take i ps)) + one (getD ps i none)
+unfolding live
+count-suc [] i h = absurd (not-suc-le-zero h)
+count-suc (none ∷ ps) zero h = refl
+count-suc (some e ∷ ps) zero h = refl
+count-suc (none ∷ ps) (suc i) h = count-suc ps i (le-of-suc-le-suc h)
+count-suc (some e ∷ ps) (suc i) h = let r = count-suc ps i (le-of-suc-le-suc h) in omega arith
+
+-- ## The loops
+
+-- the items of the first i places stand at `at`, and `place` is behind them
+pub record ItemsWritten (ps : List Place) (at : ℕ) (buffer : List ℕ) (i place : ℕ) (out : List ℕ) : Type 0 where
+  pub up-to : i ≤ 8
+  pub behind : place ≡ at + length (items (live (take i ps)))
+  pub bytes : out ≡ write buffer at (items (live (take i ps)))
+  pub size : length out ≡ length buffer
+  pub short : length (items (live (take i ps))) ≤ i * 1032
+
+pub none-written : (ps : List Place) (at : ℕ) (buffer : List ℕ) → ItemsWritten ps at buffer 0 at buffer
+unfolding live items
+none-written ps at buffer = record { up-to = omega arith; behind = omega arith; bytes = write-nothing buffer at; size = refl; short = omega arith }
+
+module _ (g : Gateway) (s : rule.Sound g) (at : ℕ) (buffer : List ℕ) (i place : ℕ) (out : List ℕ) (w : ItemsWritten (g .places) at buffer i place out) (room : at + 8256 ≤ length buffer) where
+  pub one-written : (place′ : ℕ) (out′ : List ℕ) → i < 8 → place′ ≡ place + length (itemIn (getD (g .places) i none)) → out′ ≡ write out place (itemIn (getD (g .places) i none))
+      → ItemsWritten (g .places) at buffer (i + 1) place′ out′
+  one-written place′ out′ h e f =
+      let eight : length (g .places) ≡ 8 = s .eight-places in
+      let x = itemIn (getD (g .places) i none) in
+      let before = items (live (take i (g .places))) in
+      let q : items (live (take (i + 1) (g .places))) ≡ before ++ x = rw add-one (items-suc (g .places) i (omega arith)) in
+      let k : length x ≤ 1032 = item-short g i s in
+      let n : length (before ++ x) ≡ length before + length x = simp length-append in
+      record {
+        up-to = omega arith;
+        behind = rw q (omega arith);
+        bytes = rw q (write-behind buffer at before out place x out′ (w .bytes) f (w .behind) (omega arith));
+        size = ap length f ∙ length-write out place x (omega arith) ∙ w .size;
+        short = rw q (omega arith);
+      }
+
+  pub all-written : 8 ≤ i → (place ≡ at + length (items (live (g .places)))) × (out ≡ write buffer at (items (live (g .places)))) × (place ≤ at + 8256)
+  all-written h =
+      let eight : length (g .places) ≡ 8 = s .eight-places in
+      let q : take i (g .places) ≡ g .places = take-all i (g .places) (omega arith) in
+      (rw q at (w .behind), rw q at (w .bytes), omega arith)
+
+-- n of the first i places are live, whatever the store
+pub record Counted (s : State) (i n : ℕ) : Type 0 where
+  pub up-to : i ≤ 8
+  pub count : (x : List ℕ) → n ≡ length (live (take i (gatewayOf s x .places)))
+  pub few : n ≤ i
+
+module _ (s : State) where
+  pub none-counted : Counted s 0 0
+  unfolding live
+  none-counted = record { up-to = omega arith; count = λ x. refl; few = omega arith }
+
+  module _ (eight : length (s .entries) ≡ 8) (i n : ℕ) (c : Counted s i n) where
+    pub one-counted : (k : ℕ) → i < 8 → ((x : List ℕ) → k ≡ one (getD (gatewayOf s x .places) i none)) → k ≤ 1 → Counted s (i + 1) (n + k)
+    one-counted k h e b = record { up-to = omega arith; count = count; few = omega arith }
+      where
+        count : (x : List ℕ) → n + k ≡ length (live (take (i + 1) (gatewayOf s x .places)))
+        count x =
+            let inside = eight-places s x eight in
+            rw (add-one, count-suc (gatewayOf s x .places) i (omega arith)) (λ j. c .count x j + e x j)
+
+    pub all-counted : 8 ≤ i → ((x : List ℕ) → n ≡ length (live (gatewayOf s x .places))) × (n ≤ 8)
+    all-counted h = ((λ x. let inside = eight-places s x eight in c .count x ∙ ap (λ (ps : List Place). length (live ps)) (take-all i (gatewayOf s x .places) (omega arith))), omega arith)
+
+-- ## In front of the items
+
+-- a front of n bytes, over what was written from n on
+fronted : (n : ℕ) (h b o m w : List ℕ) → length h ≡ n → m ≡ write o n b → w ≡ write m 0 h → n ≤ length o → w ≡ write o 0 (h ++ b)
+unfolding write
+fronted n h b o m w l e f k =
+    let a : length (take n o) ≡ n = length-take-le n o k in
+    let z : 0 + length h ≡ n = omega arith in
+    let rest = drop (n + length b) o in
+    let d : drop n ((take n o ++ b) ++ rest) ≡ b ++ rest = ap (drop n) (append-assoc (take n o) b rest) ∙ drop-at (take n o) (b ++ rest) n a in
+    let q : n + length b ≡ 0 + length (h ++ b) = simp length-append (omega arith) in
+    f ∙ rw (e, z, d, q) (sym (append-assoc h b (drop (0 + length (h ++ b)) o)))
+
+-- the items from 9 on, then the length, 12 and the count in front of them
+pub list-written : (ps : List Place) (o m₀ m₁ m₂ m₃ : List ℕ) (end n k at : ℕ) → end ≡ 9 + length (items (live ps)) → m₀ ≡ write o 9 (items (live ps)) → m₁ ≡ write m₀ 0 (be32 (end - 4)) → k ≡ 0 + 4
+    → m₂ ≡ write m₁ k (12 ∷ []) → at ≡ k + 1 → m₃ ≡ write m₂ at (be32 n) → n ≡ length (live ps) → 8265 ≤ length o → end ≤ 9 + 8256
+    → (end ≡ length (listed ps)) × (m₃ ≡ write o 0 (listed ps))
+unfolding listed
+list-written ps o m₀ m₁ m₂ m₃ end n k at e e₀ e₁ f₁ e₂ f₂ e₃ c h b =
+    let l : length m₀ ≡ length o = ap length e₀ ∙ length-write o 9 (items (live ps)) (omega arith) in
+    let s₂ : m₂ ≡ write m₀ 0 (be32 (end - 4) ++ (12 ∷ [])) = write-behind m₀ 0 (be32 (end - 4)) m₁ k (12 ∷ []) m₂ e₁ e₂ (omega arith) (omega arith) in
+    let s₃ : m₃ ≡ write m₀ 0 ((be32 (end - 4) ++ (12 ∷ [])) ++ be32 n) = write-behind m₀ 0 (be32 (end - 4) ++ (12 ∷ [])) m₂ at (be32 n) m₃ s₂ e₃ (omega arith) (omega arith) in
+    let s₄ = fronted 9 ((be32 (end - 4) ++ (12 ∷ [])) ++ be32 n) (items (live ps)) o m₀ m₃ refl e₀ s₃ (omega arith) in
+    let q : end - 4 ≡ length (12 ∷ be32 (length (live ps)) ++ items (live ps)) = omega arith in
+    (omega arith, s₄ ∙ (λ j. write o 0 (((be32 (q j) ++ (12 ∷ [])) ++ be32 (c j)) ++ items (live ps))))

@@ -1,0 +1,115 @@
+-- The sign request: the answers that count for an insertion number, the signature's reply, and each end of `sign_data` and `try_sign`.
+use Prim.Native.Nat.{ℕ, _+_, _≤_}
+use mathlib.Core.Path.{_≡_, refl, sym, ap, _∙_}
+use mathlib.Core.Bool.{Bool, true, false, not}
+use mathlib.Core.Option.{none, some}
+use mathlib.Core.List.{List, [], _∷_, _++_}
+use native.Mathlib.Omega.{arith}
+use borrow.Author.Tests.{not-true, not-false}
+use lib.ListN.{length}
+use Rattle.wire.specs.Numbers.{be32}
+use Rattle.wire.specs.Steps.{so}
+use Rattle.wire.specs.Write.{string, write}
+use Rattle.wire.proofs.Writing.{write-behind}
+use Rattle.rule.specs.declared.Hash.{Hash}
+use Rattle.rule.specs.Gateway.{Place}
+use Rattle.rule.specs.Rule.{Plan, ask, close, FAILURE, fails, confirmation, signature, signatureReply, signed, signingData, numberIn, confirmIn, confirming}
+use Rattle.rule.specs.Calls.{lands, forNumber, lent, lentLength, follow}
+use Rattle.rule.proofs.SignLaws.{own-number}
+use Rattle.table.specs.declared.State.{State}
+use Rattle.table.specs.Meaning.{gatewayOf}
+use Rattle.table.specs.Soundness.{Sound}
+use Rattle.requests.specs.declared.Said.{Said}
+use Rattle.requests.specs.declared.Said.the-variants.{Missing, No, Yes}
+use Rattle.requests.specs.declared.Answers.{Answers}
+use Rattle.requests.specs.declared.Called.{Called}
+use Rattle.requests.specs.declared.Outcome.the-variants.{Confirm, Sign, Reply}
+use Rattle.requests.specs.Outcomes.{grantOf, confirmationOf, signatureOf, lentOf, handed, code}
+use Rattle.requests.specs.Ends.{Ends}
+use Rattle.requests.proofs.EndSteps.{ends, so-yes, so-no, landed, asked, answered, replied, asked-ends, means-itself}
+
+-- ## The reply
+
+-- the length, 14, and the blob as a string
+pub signature-written : (blob o m₁ m₂ m₃ : List ℕ) (k at end : ℕ) → m₁ ≡ write o 0 (be32 (length blob + 5)) → k ≡ 0 + 4 → m₂ ≡ write m₁ k (14 ∷ []) → at ≡ k + 1
+    → m₃ ≡ write m₂ at (string blob) → end ≡ at + 4 + length blob → 9 + length blob ≤ length o
+    → (end ≡ length (signatureReply blob)) × (m₃ ≡ write o 0 (signatureReply blob))
+unfolding signatureReply
+signature-written blob o m₁ m₂ m₃ k at end e₁ ek e₂ ea e₃ ee h =
+    let s₁ = write-behind o 0 (be32 (length blob + 5)) m₁ k (14 ∷ []) m₂ e₁ e₂ (omega arith) (omega arith) in
+    let s₂ = write-behind o 0 (be32 (length blob + 5) ++ (14 ∷ [])) m₂ at (string blob) m₃ s₁ e₃ (omega arith) (omega arith) in
+    let q : length blob + 5 ≡ length (14 ∷ string blob) = omega arith in
+    (omega arith, s₂ ∙ (λ j. write o 0 ((be32 (q j) ++ (14 ∷ [])) ++ string blob)))
+
+-- ## The signer's answer
+
+module _ (answers : Answers) (bytes : List ℕ) (n : ℕ) (w : Said) (says : (b : List ℕ) → forNumber n (signatureOf (answers .signature) b) ≡ handed w b) where
+  -- a signature that counts is a lent one
+  pub signature-short : (m : ℕ) → w ≡ Yes → lentLength (lentOf answers bytes .signature) ≤ m → length bytes ≤ m
+  unfolding lentOf lentLength
+  signature-short m e h =
+      let own = own-number n (signatureOf (answers .signature) bytes) (some bytes) (says bytes ∙ ap (λ (w : Said). handed w bytes) e) in
+      rw own at h
+
+  module _ (f t : ℕ) (hash : Hash) where
+    signer-says : (v : Said) → w ≡ v → lent (lentOf answers bytes) (signature n f t hash) ≡ handed v bytes
+    unfolding lent lentOf
+    signer-says v e = says bytes ∙ ap (λ (w : Said). handed w bytes) e
+
+    module _ (s : State) (x buffer : List ℕ) where
+      abbrev Signs : Called → List ℕ → Type 0
+      Signs r out = Ends buffer r x out (follow (lent (lentOf answers bytes)) (gatewayOf s x) (ask (signature n f t hash) (signed (gatewayOf s x))))
+
+      pub signer-asked : (k : Hash) → w ≡ Missing → k ≡ hash → Sound s x → Signs (record { outcome = Sign n f t k; state = s }) buffer
+      unfolding code
+      signer-asked k e q h = asked _ _ _ _ _ _ _ _ (signer-says Missing e) (asked-ends _ _ _ _ _ (ap (λ (k : Hash). Sign n f t k) q) h)
+
+      pub signer-silent : (r : Called) → w ≡ No → Ends buffer r x buffer (record { outcome = lands close; gateway = gatewayOf s x }) → Signs r buffer
+      unfolding signed
+      signer-silent r e h = answered _ _ _ _ _ _ _ _ none (signer-says No e) (landed _ _ _ _ _ _ _ _ h)
+
+      pub signer-signs : (len : ℕ) (out : List ℕ) → w ≡ Yes → len ≡ length (signatureReply bytes) → out ≡ write buffer 0 (signatureReply bytes) → Sound s x
+          → Signs (record { outcome = Reply len; state = s }) out
+      unfolding signed
+      signer-signs len out e l b h =
+          answered _ _ _ _ _ _ _ _ (some bytes) (signer-says Yes e) (landed _ _ _ _ _ _ _ _ (replied _ _ _ _ _ _ _ _ refl l b (means-itself _ _ h)))
+
+-- ## The confirmation
+
+module _ (answers : Answers) (bytes : List ℕ) (s : State) (x buffer : List ℕ) (r : Called) (out payload : List ℕ) (p : Place) (at n : ℕ) (b : Bool) (number : n ≡ numberIn p) (confirm : b ≡ confirmIn p) where
+  abbrev Confirms : Plan → Type 0
+  Confirms plan = Ends buffer r x out (follow (lent (lentOf answers bytes)) (gatewayOf s x) plan)
+
+  abbrev here : Plan
+  here = confirming (gatewayOf s x) payload p at
+
+  abbrev onwards : Plan
+  onwards = signingData (gatewayOf s x) payload n at
+
+  abbrev asking : Plan
+  asking = ask (confirmation n) λ granted. so (fails (gatewayOf s x)) granted onwards
+
+  pub unconfirmed : not b ≡ true → Confirms onwards → Confirms here
+  unfolding confirming
+  unconfirmed e h = rw (← number) (so-no _ _ _ _ _ _ _ _ _ (sym (not-true b e) ∙ confirm) h)
+
+  module _ (w : Said) (must : not b ≡ false) (says : forNumber n (confirmationOf (answers .confirmation)) ≡ grantOf w) where
+    confirmer-says : (v : Said) → w ≡ v → lent (lentOf answers bytes) (confirmation n) ≡ grantOf v
+    unfolding lent lentOf
+    confirmer-says v e = says ∙ ap grantOf e
+
+    confirmer-next : Confirms asking → Confirms here
+    unfolding confirming
+    confirmer-next h = rw (← number) (so-yes _ _ _ _ _ _ _ _ _ (sym (not-false b must) ∙ confirm) h)
+
+    pub confirmer-asked : w ≡ Missing → r ≡ record { outcome = Confirm n; state = s } → out ≡ buffer → Sound s x → Confirms here
+    unfolding code
+    confirmer-asked e f o h = confirmer-next (asked _ _ _ _ _ _ _ _ (confirmer-says Missing e) (rw (f, o) (asked-ends buffer x (Confirm n) s (confirmation n) refl h)))
+
+    pub confirmer-denies : w ≡ No → Ends buffer r x out (record { outcome = lands FAILURE; gateway = gatewayOf s x }) → Confirms here
+    confirmer-denies e h = confirmer-next (answered _ _ _ _ _ _ _ _ false (confirmer-says No e) (so-no _ _ _ _ _ _ _ _ _ refl (landed _ _ _ _ _ _ _ _ h)))
+
+    pub confirmer-grants : w ≡ Yes → Confirms onwards → Confirms here
+    confirmer-grants e h = confirmer-next (answered _ _ _ _ _ _ _ _ true (confirmer-says Yes e) (so-yes _ _ _ _ _ _ _ _ _ refl h))
+
+pub ruleset signs = (ends, signer-asked, signer-silent, signer-signs, unconfirmed, confirmer-asked, confirmer-denies, confirmer-grants)

@@ -1,0 +1,33 @@
+-- The plan goes by the same steps; a signature that counts is a lent one, so it is short. Assumes nothing.
+use Rattle.rule.specs.Rule.{signingData}
+use Rattle.requests.proofs.EndSteps.{closing}
+use Rattle.requests.proofs.SignSteps.{signs, signature-short}
+use borrow.Author.Needs.{needs}
+use Rattle.requests.proofs.sign.sign_data.Statement.{statement}
+use Rattle.requests.proofs.sign.sign_data.Tie as tie
+
+returns : tie.Need-returns
+unfolding signingData
+returns c = search (signs, closing (c .closed .ensures)) depth 16
+
+returns-2 : tie.Need-returns-2
+unfolding signingData
+returns-2 c = search (signs, closing (c .closed2 .ensures)) depth 16
+
+put-reply-requires : tie.Need-put-reply-requires
+put-reply-requires c κs = let st = c .before .before .before .before .before .before .before .before .before .before .before .before .before .before .before .before .before in (st .pre .0, signature-short (st .args .answers) _ _ _ (c .before .before .before .signed-for .ensures) _ (c .before .enum-told5 .given .1) (st .pre .1))
+
+returns-3 : tie.Need-returns-3
+unfolding signingData
+returns-3 c = search signs depth 16
+
+returns-4 : tie.Need-returns-4
+unfolding signingData
+returns-4 c = search (signs, closing (c .closed3 .ensures), c .before .enum-told4 .given .1, c .before .before .before .signed-for .ensures, c .before .before .before .before .before .before .flags .given .1, c .before .before .before .before .before .before .before .before .number .ensures, c .before .before .before .before .before .before .before .before .before .before .from .given .1, c .before .before .before .before .before .before .before .before .before .before .before .before .string .ensures, c .before .before .before .before .before .before .before .before .before .before .before .before .before .before .before .before .before .pre .2) depth 16
+
+returns-5 : tie.Need-returns-5
+unfolding signingData
+returns-5 c = search signs depth 16
+
+pub sign-data-spec : {M : Type 1} → statement M
+sign-data-spec = tie.close (tie.spec (λ c κs. search needs) (λ c. search needs) (λ c. search needs) (λ c κs. search needs) returns (λ c κs. search needs) (λ c. search needs) (λ c. search needs) (λ c κs. search needs) returns-2 (λ c κs. search needs) (λ c κs. search needs) (λ c. search needs) (λ c. search needs) (λ c κs. search needs) (λ c. search needs) put-reply-requires returns-3 returns-4 (λ c. search needs) returns-5)

@@ -1,0 +1,4 @@
+-- The definitions that contracts cite, and the statements of what is promised.
+pub mod Outcomes
+pub mod Ends
+pub mod Lists

@@ -1,0 +1,103 @@
+-- What the code's enums stand for: the answers that are lent, and 01's six outcomes and its refusals.
+use Prim.Native.Nat.{ℕ}
+use mathlib.Core.Path.{_≡_}
+use mathlib.Core.Bool.{Bool, true, false}
+use mathlib.Core.Option.{Option, none, some}
+use mathlib.Core.List.{List, [], _∷_}
+use lib.ListN.{length, take}
+use Rattle.wire.specs.Promises.{OneToOne}
+use Rattle.wire.specs.Write.{write}
+use Rattle.rule.specs.declared.Hash.{Hash}
+use Rattle.rule.specs.declared.Hash.the-variants.{Plain, Sha256, Sha512}
+use Rattle.rule.specs.Rule.{gate, check, confirmation, signature, reply, close}
+use Rattle.rule.specs.Calls as rule
+use Rattle.rule.specs.Calls.{Numbered, refused, asks, lands}
+use Rattle.requests.specs.declared.Said.{Said}
+use Rattle.requests.specs.declared.Said.the-variants as said
+use Rattle.requests.specs.declared.Confirmed.{Confirmed}
+use Rattle.requests.specs.declared.Confirmed.the-variants as confirmed
+use Rattle.requests.specs.declared.Signed.{Signed}
+use Rattle.requests.specs.declared.Signed.the-variants as signed
+use Rattle.requests.specs.declared.Answers.{Answers}
+use Rattle.requests.specs.declared.Outcome.{Outcome}
+use Rattle.requests.specs.declared.Outcome.the-variants.{Refused, Gate, Check, Confirm, Sign, Reply, Close}
+
+-- ## The answers that are lent; a signature's bytes stand beside them
+
+abbrev pub grantOf : Said → Option Bool
+grantOf said.Missing = none
+grantOf said.No = some false
+grantOf said.Yes = some true
+
+abbrev pub confirmationOf : Confirmed → Option (Numbered Bool)
+confirmationOf confirmed.Missing = none
+confirmationOf (confirmed.Given n granted) = some (record { number = n; answer = granted })
+
+abbrev pub signatureOf : Signed → List ℕ → Option (Numbered (Option (List ℕ)))
+signatureOf signed.Missing bytes = none
+signatureOf (signed.Nothing n) bytes = some (record { number = n; answer = none })
+signatureOf (signed.Given n) bytes = some (record { number = n; answer = some bytes })
+
+unfoldable pub lentOf : Answers → List ℕ → rule.Answers
+lentOf a bytes = record { gate = grantOf (a .gate); check = grantOf (a .check); confirmation = confirmationOf (a .confirmation); signature = signatureOf (a .signature) bytes }
+
+-- what the signer handed over, if its answer counts
+abbrev pub handed : Said → List ℕ → Option (Option (List ℕ))
+handed said.Missing bytes = none
+handed said.No bytes = some none
+handed said.Yes bytes = some (some bytes)
+
+-- ## The outcome
+
+-- the code's word for each outcome of the rule
+unfoldable pub code : rule.Outcome → Outcome
+code (refused n) = Refused n
+code (asks (gate class)) = Gate class
+code (asks (check from to)) = Check from to
+code (asks (confirmation n)) = Confirm n
+code (asks (signature n from to hash)) = Sign n from to hash
+code (lands (reply bytes)) = Reply (length bytes)
+code (lands close) = Close
+
+-- "A reply fills the first bytes of the reply buffer; all its other bytes, and in other outcomes all its bytes, stay."
+unfoldable pub written : rule.Outcome → List ℕ → List ℕ
+written (refused n) buffer = buffer
+written (asks q) buffer = buffer
+written (lands (reply bytes)) buffer = write buffer 0 bytes
+written (lands close) buffer = buffer
+
+-- the rule's outcome, read off the code's word and the reply buffer
+unfoldable pub outcomeOf : Outcome → List ℕ → rule.Outcome
+outcomeOf (Refused n) buffer = refused n
+outcomeOf (Gate class) buffer = asks (gate class)
+outcomeOf (Check from to) buffer = asks (check from to)
+outcomeOf (Confirm n) buffer = asks (confirmation n)
+outcomeOf (Sign n from to hash) buffer = asks (signature n from to hash)
+outcomeOf (Reply n) buffer = lands (reply (take n buffer))
+outcomeOf Close buffer = lands close
+
+-- every outcome of the rule can be read off what the code says and writes for it
+abbrev pub OutcomesRead : Type 0
+OutcomesRead = (o : rule.Outcome) (buffer : List ℕ) → outcomeOf (code o) (written o buffer) ≡ o
+
+-- ## 01's numbers and values
+
+-- the bits of a hash, 0 for none
+abbrev pub hashBits : Hash → ℕ
+hashBits Plain = 0
+hashBits Sha256 = 256
+hashBits Sha512 = 512
+
+-- the kind of an outcome, and its values: 0 refused and its number; 1 gate and its class; 2 check and its part; 3 confirmation and its
+-- insertion number; 4 signature, its insertion number, its part and its hash; 5 reply and its length; 6 close
+abbrev pub outcomeValues : Outcome → List ℕ
+outcomeValues (Refused n) = 0 ∷ n ∷ []
+outcomeValues (Gate class) = 1 ∷ class ∷ []
+outcomeValues (Check from to) = 2 ∷ from ∷ to ∷ []
+outcomeValues (Confirm n) = 3 ∷ n ∷ []
+outcomeValues (Sign n from to hash) = 4 ∷ n ∷ from ∷ to ∷ hashBits hash ∷ []
+outcomeValues (Reply n) = 5 ∷ n ∷ []
+outcomeValues Close = 6 ∷ []
+
+abbrev pub OutcomesApart : Type 0
+OutcomesApart = OneToOne Outcome (List ℕ) outcomeValues

@@ -1,0 +1,128 @@
+// The add requests (17, 25). Any error in them is FAILURE.
+use crate::Called;
+use crate::Outcome;
+use crate::Said;
+use crate::replies::failure;
+use crate::replies::success;
+use keys::addition::Addition;
+use keys::addition::addition_at;
+use keys::constraints::Lifetime;
+use keys::kinds::Blob;
+use keys::kinds::Places;
+use keys::kinds::put_blob;
+use rule::Found;
+use table::State;
+use table::changes;
+use table::places;
+use wire::read::cut;
+ghost use mathlib.Core.Path.{_≡_};
+ghost use Prim.Native.Nat.{_≤_};
+ghost use lib.ListN.{length};
+ghost use Rattle.rule.specs.Gateway.{newEntry};
+ghost use Rattle.rule.specs.Rule.{entryOf, storing, adding};
+ghost use Rattle.rule.specs.Calls as rule;
+ghost use Rattle.rule.specs.Calls.{lent, follow};
+ghost use Rattle.table.specs.Meaning.{gatewayOf};
+ghost use Rattle.table.specs.Soundness.{Sound};
+ghost use Rattle.requests.specs.Outcomes.{grantOf};
+ghost use Rattle.requests.specs.Ends.{Ends};
+
+// The entry is stored, if its limits, the numbers, a place and the key check allow it. `to` is where its fields end in the payload.
+fn store_key(
+    state: State,
+    store: &mut [u8],
+    blob: &[u8],
+    fields: &[u8],
+    lifetime: Lifetime,
+    confirm: bool,
+    to: usize,
+    check: Said,
+    reply: &mut [u8],
+) -> Called
+    requires { ⌜ (5 ≤ length (now reply)) × Sound state (now store) ⌝ }
+    ensures { λ r. ⌜ ((a : rule.Answers) → a .check ≡ grantOf check → Ends (now (reply .entry)) r (now (store .exit)) (now (reply .exit)) (follow (lent a) (gatewayOf state (now (store .entry))) (storing (gatewayOf state (now (store .entry))) (newEntry (gatewayOf state (now (store .entry))) lifetime confirm (now (blob .entry)) (now (fields .entry))) to))) ⌝ }
+{
+    if blob.len() < 1 {
+        return failure(state, reply);
+    }
+    if 1024 < blob.len() {
+        return failure(state, reply);
+    }
+    if fields.len() < 1 {
+        return failure(state, reply);
+    }
+    if 3072 < fields.len() {
+        return failure(state, reply);
+    }
+    if state.next == 0xffff_ffff_ffff_ffff {
+        return failure(state, reply);
+    }
+    match places::place_for(state, store, blob) {
+        Found::Nothing => failure(state, reply),
+        Found::At(i) => match check {
+            Said::Missing => Called {
+                outcome: Outcome::Check { from: 1, to },
+                state,
+            },
+            Said::No => failure(state, reply),
+            Said::Yes => success(
+                changes::put(state, store, i, lifetime, confirm, blob, fields),
+                reply,
+            ),
+        },
+    }
+}
+
+// The blob is derived beside the table, in as many bytes as a place has for it.
+fn store_fields(
+    state: State,
+    store: &mut [u8],
+    payload: &[u8],
+    at: Places,
+    lifetime: Lifetime,
+    confirm: bool,
+    check: Said,
+    reply: &mut [u8],
+) -> Called
+    requires { ⌜ (5 ≤ length (now reply)) × Sound state (now store) ⌝ }
+    ensures { λ r. ⌜ ((a : rule.Answers) → a .check ≡ grantOf check → Ends (now (reply .entry)) r (now (store .exit)) (now (reply .exit)) (follow (lent a) (gatewayOf state (now (store .entry))) (storing (gatewayOf state (now (store .entry))) (entryOf (gatewayOf state (now (store .entry))) (now (payload .entry)) at lifetime confirm) (at .end)))) ⌝ }
+{
+    let end = at.end;
+    let mut room = [0u8; 1024];
+    match put_blob(payload, 1, at, &mut room[..1024]) {
+        Blob::TooLong => failure(state, reply),
+        Blob::Length(n) => store_key(
+            state,
+            store,
+            &room[..n],
+            cut(payload, 1, end),
+            lifetime,
+            confirm,
+            end,
+            check,
+            reply,
+        ),
+    }
+}
+
+// 17, and 25 with constraints
+pub fn add_key(
+    state: State,
+    store: &mut [u8],
+    payload: &[u8],
+    constrained: bool,
+    check: Said,
+    reply: &mut [u8],
+) -> Called
+    requires { ⌜ (5 ≤ length (now reply)) × Sound state (now store) ⌝ }
+    ensures { λ r. ⌜ ((a : rule.Answers) → a .check ≡ grantOf check → Ends (now (reply .entry)) r (now (store .exit)) (now (reply .exit)) (follow (lent a) (gatewayOf state (now (store .entry))) (adding constrained (gatewayOf state (now (store .entry))) (now (payload .entry))))) ⌝ }
+{
+    match addition_at(payload, 1, constrained) {
+        Addition::Fault(_) => failure(state, reply),
+        Addition::Whole {
+            places: at,
+            lifetime,
+            confirm,
+        } => store_fields(state, store, payload, at, lifetime, confirm, check, reply),
+    }
+}

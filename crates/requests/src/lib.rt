@@ -1,0 +1,72 @@
+// Each request once it is past the gate: an outcome and the new state come out, and store and reply buffer hold what the rule says.
+// Its functions require what a call's refusals 1, 3 and 5 have tested: room for the reply, a sound state and store, a signature that is not too
+// long. Only `server::call` calls them, and meets it.
+pub mod add;
+pub mod list;
+pub mod lock;
+pub mod remove;
+pub mod replies;
+pub mod sign;
+
+use rule::Hash;
+use table::State;
+
+// An answer to a question that is yes or no.
+pub enum Said {
+    Missing,
+    No,
+    Yes,
+}
+
+// The confirmation's answer; it counts for its insertion number alone.
+pub enum Confirmed {
+    Missing,
+    Given { number: u64, granted: bool },
+}
+
+// The signer's answer; it counts for its insertion number alone. The bytes of a given signature stand beside it.
+pub enum Signed {
+    Missing,
+    Nothing { number: u64 },
+    Given { number: u64 },
+}
+
+// The outside answers so far, at most one of each kind.
+pub struct Answers {
+    pub gate: Said,
+    pub check: Said,
+    pub confirmation: Confirmed,
+    pub signature: Signed,
+}
+
+// A refusal and its number; a question; a reply and its length in the reply buffer; or the connection is closed.
+pub enum Outcome {
+    Refused {
+        number: u8,
+    },
+    Gate {
+        class: u8,
+    },
+    Check {
+        from: usize,
+        to: usize,
+    },
+    Confirm {
+        number: u64,
+    },
+    Sign {
+        number: u64,
+        from: usize,
+        to: usize,
+        hash: Hash,
+    },
+    Reply {
+        len: usize,
+    },
+    Close,
+}
+
+pub struct Called {
+    pub outcome: Outcome,
+    pub state: State,
+}

@@ -1,0 +1,96 @@
+// The list reply (11): the live entries in place order, each blob with an empty comment.
+use crate::Called;
+use crate::Outcome;
+use table::State;
+use table::places;
+use wire::msg;
+use wire::write::put_byte;
+use wire::write::put_number;
+use wire::write::put_string;
+ghost use mathlib.Core.Path.{_≡_};
+ghost use mathlib.Core.List.{List};
+ghost use mathlib.Core.Option.{none};
+ghost use Prim.Native.Nat.{ℕ, _+_, _≤_, _<_};
+ghost use lib.ListN.{length, getD};
+ghost use Rattle.wire.specs.Write.{write};
+ghost use Rattle.rule.specs.Rule.{live, items, listed, listing};
+ghost use Rattle.rule.specs.Calls as rule;
+ghost use Rattle.rule.specs.Calls.{lent, follow};
+ghost use Rattle.table.specs.Meaning.{gatewayOf};
+ghost use Rattle.table.specs.Soundness.{Sound};
+ghost use Rattle.requests.specs.Lists.{one, itemIn};
+ghost use Rattle.requests.specs.Ends.{Ends};
+
+// What place i adds to the list: nothing where it is free.
+fn put_item(state: State, store: &[u8], i: usize, reply: &mut [u8], at: usize) -> usize
+    requires { ⌜ (i < 8) × Sound state (now store) × (at + 1032 ≤ length (now reply)) ⌝ }
+    ensures { λ r. ⌜ (r ≡ at + length (itemIn (getD (gatewayOf state (now (store .entry)) .places) i none))) × (now (reply .exit) ≡ write (now (reply .entry)) at (itemIn (getD (gatewayOf state (now (store .entry)) .places) i none))) ⌝ }
+{
+    if !places::is_held(state, i) {
+        return at;
+    }
+    let comment = put_string(reply, at, places::blob_at(state, store, i));
+    put_number(reply, comment, 0)
+}
+
+// All items, in place order.
+fn put_items(state: State, store: &[u8], reply: &mut [u8], at: usize) -> usize
+    requires { ⌜ Sound state (now store) × (at + 8256 ≤ length (now reply)) ⌝ }
+    ensures { λ r. ⌜ (r ≡ at + length (items (live (gatewayOf state (now (store .entry)) .places)))) × (now (reply .exit) ≡ write (now (reply .entry)) at (items (live (gatewayOf state (now (store .entry)) .places)))) × (r ≤ at + 8256) ⌝ }
+{
+    let mut place = at;
+    let mut i = 0;
+    while i < 8 {
+        place = put_item(state, store, i, reply, place);
+        i += 1;
+    }
+    place
+}
+
+fn count_at(state: State, i: usize) -> usize
+    requires { ⌜ i < 8 ⌝ }
+    ensures { λ r. ⌜ ((x : List ℕ) → r ≡ one (getD (gatewayOf state x .places) i none)) × (r ≤ 1) ⌝ }
+{
+    if places::is_held(state, i) {
+        return 1;
+    }
+    0
+}
+
+// How many entries are live.
+fn live_count(state: State) -> usize
+    ensures { λ r. ⌜ ((x : List ℕ) → r ≡ length (live (gatewayOf state x .places))) × (r ≤ 8) ⌝ }
+{
+    let mut n: usize = 0;
+    let mut i = 0;
+    while i < 8 {
+        n += count_at(state, i);
+        i += 1;
+    }
+    n
+}
+
+// The whole reply; its length.
+fn put_list(state: State, store: &[u8], reply: &mut [u8]) -> usize
+    requires { ⌜ Sound state (now store) × (8265 ≤ length (now reply)) ⌝ }
+    ensures { λ r. ⌜ (r ≡ length (listed (gatewayOf state (now (store .entry)) .places))) × (now (reply .exit) ≡ write (now (reply .entry)) 0 (listed (gatewayOf state (now (store .entry)) .places))) ⌝ }
+{
+    let end = put_items(state, store, reply, 9);
+    let count = live_count(state);
+    let kind = put_number(reply, 0, (end - 4) as u32);
+    let at = put_byte(reply, kind, msg::IDENTITIES_ANSWER);
+    put_number(reply, at, count as u32);
+    end
+}
+
+// 11
+pub fn request_identities(state: State, store: &[u8], reply: &mut [u8]) -> Called
+    requires { ⌜ Sound state (now store) × (8265 ≤ length (now reply)) ⌝ }
+    ensures { λ r. ⌜ ((a : rule.Answers) → Ends (now (reply .entry)) r (now (store .entry)) (now (reply .exit)) (follow (lent a) (gatewayOf state (now (store .entry))) (listing (gatewayOf state (now (store .entry)))))) ⌝ }
+{
+    let len = put_list(state, store, reply);
+    Called {
+        outcome: Outcome::Reply { len },
+        state,
+    }
+}

@@ -1,0 +1,191 @@
+// The sign request (13). An error in it closes the connection; an absent key or a no is FAILURE.
+use crate::Answers;
+use crate::Called;
+use crate::Confirmed;
+use crate::Outcome;
+use crate::Said;
+use crate::Signed;
+use crate::replies::closed;
+use crate::replies::failure;
+use rule::Found;
+use rule::Hash;
+use table::State;
+use table::places;
+use wire::msg;
+use wire::read::Cursor;
+use wire::read::Number;
+use wire::read::Part;
+use wire::read::cut;
+use wire::write::put_byte;
+use wire::write::put_number;
+use wire::write::put_string;
+ghost use mathlib.Core.Path.{_≡_};
+ghost use mathlib.Core.List.{List};
+ghost use Prim.Native.Nat.{ℕ, _≤_};
+ghost use lib.ListN.{length};
+ghost use Rattle.wire.specs.Write.{write};
+ghost use Rattle.rule.specs.Rule.{hashOf, signatureReply, signingData, signing};
+ghost use Rattle.rule.specs.Calls.{lent, forNumber, lentLength, follow};
+ghost use Rattle.table.specs.Meaning.{gatewayOf};
+ghost use Rattle.table.specs.Soundness.{Sound};
+ghost use Rattle.requests.specs.Outcomes.{confirmationOf, signatureOf, grantOf, handed, lentOf};
+ghost use Rattle.requests.specs.Ends.{Ends};
+
+// Flag 2 set: SHA-256; else flag 4: SHA-512; else none.
+fn hash_of(flags: u32) -> Hash
+    ensures { λ r. ⌜ r ≡ hashOf flags ⌝ }
+{
+    if flags / msg::SSH_AGENT_RSA_SHA2_256 % 2 == 1 {
+        return Hash::Sha256;
+    }
+    if flags / msg::SSH_AGENT_RSA_SHA2_512 % 2 == 1 {
+        return Hash::Sha512;
+    }
+    Hash::Plain
+}
+
+// The confirmation that counts for this insertion number.
+fn confirmed_for(c: Confirmed, number: u64) -> Said
+    ensures { λ r. ⌜ forNumber number (confirmationOf c) ≡ grantOf r ⌝ }
+{
+    match c {
+        Confirmed::Missing => Said::Missing,
+        Confirmed::Given { number: n, granted } => {
+            if n != number {
+                return Said::Missing;
+            }
+            if granted {
+                return Said::Yes;
+            }
+            Said::No
+        }
+    }
+}
+
+// The signer's answer that counts for this insertion number: none, nothing given, or the bytes beside it.
+fn signed_for(s: Signed, number: u64) -> Said
+    ensures { λ r. ⌜ ((bytes : List ℕ) → forNumber number (signatureOf s bytes) ≡ handed r bytes) ⌝ }
+{
+    match s {
+        Signed::Missing => Said::Missing,
+        Signed::Nothing { number: n } => {
+            if n == number {
+                return Said::No;
+            }
+            Said::Missing
+        }
+        Signed::Given { number: n } => {
+            if n == number {
+                return Said::Yes;
+            }
+            Said::Missing
+        }
+    }
+}
+
+// The reply: length, 14, the signature blob as a string. Refusals 1 and 5 have left room.
+fn put_reply(blob: &[u8], reply: &mut [u8]) -> usize
+    requires { ⌜ (8265 ≤ length (now reply)) × (length (now blob) ≤ 2048) ⌝ }
+    ensures { λ r. ⌜ (r ≡ length (signatureReply (now (blob .entry)))) × (now (reply .exit) ≡ write (now (reply .entry)) 0 (signatureReply (now (blob .entry)))) ⌝ }
+{
+    let kind = put_number(reply, 0, (blob.len() + 5) as u32);
+    let at = put_byte(reply, kind, msg::SIGN_RESPONSE);
+    put_string(reply, at, blob)
+}
+
+// Past the confirmation: data and flags, then the signer.
+fn sign_data(
+    state: State,
+    store: &[u8],
+    payload: &[u8],
+    at: Cursor,
+    number: u64,
+    answers: Answers,
+    signature: &[u8],
+    reply: &mut [u8],
+) -> Called
+    requires { ⌜ (8265 ≤ length (now reply)) × (lentLength (lentOf answers (now signature) .signature) ≤ 2048) × Sound state (now store) ⌝ }
+    ensures { λ r. ⌜ Ends (now (reply .entry)) r (now (store .entry)) (now (reply .exit)) (follow (lent (lentOf answers (now (signature .entry)))) (gatewayOf state (now (store .entry))) (signingData (gatewayOf state (now (store .entry))) (now (payload .entry)) number (at .at))) ⌝ }
+{
+    let Part::Whole { from, to, next } = at.string(payload) else {
+        return closed(state);
+    };
+    let Number::Value(flags, _) = next.number(payload) else {
+        return closed(state);
+    };
+    let hash = hash_of(flags);
+    let given = answers.signature;
+    match signed_for(given, number) {
+        Said::Missing => Called {
+            outcome: Outcome::Sign {
+                number,
+                from,
+                to,
+                hash,
+            },
+            state,
+        },
+        Said::No => closed(state),
+        Said::Yes => {
+            let len = put_reply(signature, reply);
+            Called {
+                outcome: Outcome::Reply { len },
+                state,
+            }
+        }
+    }
+}
+
+// 13
+pub fn try_sign(
+    state: State,
+    store: &[u8],
+    payload: &[u8],
+    answers: Answers,
+    signature: &[u8],
+    reply: &mut [u8],
+) -> Called
+    requires { ⌜ (8265 ≤ length (now reply)) × (lentLength (lentOf answers (now signature) .signature) ≤ 2048) × Sound state (now store) ⌝ }
+    ensures { λ r. ⌜ Ends (now (reply .entry)) r (now (store .entry)) (now (reply .exit)) (follow (lent (lentOf answers (now (signature .entry)))) (gatewayOf state (now (store .entry))) (signing (gatewayOf state (now (store .entry))) (now (payload .entry)))) ⌝ }
+{
+    let start = Cursor { at: 1 };
+    let Part::Whole { from, to, next } = start.string(payload) else {
+        return closed(state);
+    };
+    match places::find(state, store, cut(payload, from, to)) {
+        Found::Nothing => failure(state, reply),
+        Found::At(i) => {
+            let number = places::number_at(state, i);
+            if !places::confirm_at(state, i) {
+                return sign_data(
+                    state,
+                    store,
+                    payload,
+                    next,
+                    number,
+                    answers,
+                    signature,
+                    reply,
+                );
+            }
+            let given = answers.confirmation;
+            match confirmed_for(given, number) {
+                Said::Missing => Called {
+                    outcome: Outcome::Confirm { number },
+                    state,
+                },
+                Said::No => failure(state, reply),
+                Said::Yes => sign_data(
+                    state,
+                    store,
+                    payload,
+                    next,
+                    number,
+                    answers,
+                    signature,
+                    reply,
+                ),
+            }
+        }
+    }
+}
