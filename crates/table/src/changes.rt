@@ -85,7 +85,7 @@ pub fn advance(state: State, store: &mut [u8], reading: Millis) -> State
     }
 }
 
-// Place i is free, and its bytes are zero.
+// Place i is free, and its bytes are zero. A search has found it.
 pub fn remove(state: State, store: &mut [u8], i: usize) -> State
     requires { ⌜ (i < 8) × Sound state (now store) ⌝ }
     ensures { λ r. ⌜ Means r (now (store .exit)) (without i (gatewayOf state (now (store .entry)))) ⌝ }
@@ -164,7 +164,7 @@ fn fill_place(p: &mut [u8], blob: &[u8], fields: &[u8])
     pad(&mut p[1024..], fields);
 }
 
-// Place i takes a key, with the next number and the kept clock.
+// Place i takes a key, with the next number and the kept clock. Who adds has tested lengths and number, and has i from `places::place_for`.
 pub fn put(
     state: State,
     store: &mut [u8],

@@ -18,7 +18,7 @@ fn zeros() -> [u8; 1024]
     [0u8; 1024]
 }
 
-// The record of a passphrase: its bytes, and zeros behind them.
+// The record of a passphrase: its bytes, and zeros behind them. Who locks has tested the length.
 pub fn locked_by(p: &[u8]) -> LockRecord
     requires { ⌜ length (now p) ≤ 1024 ⌝ }
     ensures { λ r. ⌜ r ≡ lockOf (now (p .entry)) ⌝ }
@@ -35,7 +35,7 @@ pub fn is_locked(state: State) -> bool
     0 < state.lock.len
 }
 
-// Is this the passphrase that is kept? Only of a record whose length is within it.
+// Is this the passphrase that is kept? Only of a record whose length is within it, as a sound state's is.
 pub fn is_passphrase(state: State, p: &[u8]) -> bool
     requires { ⌜ state .lock .len ≤ 1024 ⌝ }
     ensures { λ r. ⌜ ((x : List ℕ) → r ≡ same (gatewayOf state x .lock) (now (p .entry))) ⌝ }
@@ -45,7 +45,7 @@ pub fn is_passphrase(state: State, p: &[u8]) -> bool
     is_same(&bytes[..len], p)
 }
 
-// The state with this passphrase; an empty one opens.
+// The state with this passphrase; an empty one opens. Who locks has tested the length.
 pub fn with_lock(state: State, p: &[u8]) -> State
     requires { ⌜ length (now p) ≤ 1024 ⌝ }
     ensures { λ r. ⌜ (r ≡ record { entries = state .entries; lock = lockOf (now (p .entry)); clock = state .clock; next = state .next }) × ((x : List ℕ) → Sound state x → Means r x (withLock (now (p .entry)) (gatewayOf state x))) ⌝ }

@@ -1,4 +1,5 @@
-// Reading the places: what each holds, and the searches over all of them. Only a call that has tested soundness comes here.
+// Reading the places: what each holds, and the searches over all of them. Only a call that has tested soundness comes here, and the test itself,
+// once the store's length is right. A place is below 8, since a search found it or a loop counts so far.
 use crate::Entry;
 use crate::State;
 use rule::Found;
