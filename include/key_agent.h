@@ -1,4 +1,5 @@
-/* The key agent for C: what the archive of the crate gateway (`rt staticlib gateway`) exports, on x86-64 Linux.
+/* The key agent for C: what the archive of the crate gateway exports. `rt staticlib gateway` writes it for x86-64 Linux, rust/arm/archive for
+ * aarch64 Linux.
  *
  * The agent decides and keeps; sockets, clock, panel, key check and signer stay on this side. Each call is handed the request's payload and
  * the answers so far, and hands back a question, a reply, or a close. What it promises is proved of the code in the archive; it holds while

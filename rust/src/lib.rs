@@ -505,10 +505,14 @@ fn self_test() {
     want.lock.bytes[..2].copy_from_slice(b"ab");
     want.lock.len = 2;
     assert_eq!(*g.state, want, "layout of State: the lock");
+    assert!(g.is_sound(), "is_sound");
     let long = [0; MAX_SIGNATURE + 1];
     a.signature = Some(Numbered { number: 1, answer: Some(&long) });
     assert_eq!(g.call(&[], 0, &a, &mut reply), Outcome::Refused(Refusal::SignatureTooLong), "refusal 5");
     assert_eq!(split(&[0, 0, 0, 1, 11, 0]), Split::Frame(4..5), "split");
     assert_eq!(split(&[0, 4, 0, 1]), Split::TooLong, "split");
     assert_eq!(split(&[0, 4, 0, 0]), Split::MoreNeeded, "split");
+    // the last field of a state by value: the next number is not above a held one
+    g.state.next = 1;
+    assert!(!g.is_sound(), "is_sound");
 }

@@ -1,0 +1,210 @@
+//! A walk of 100,000 calls from one seed. All that the core gives is folded into one number, which must be the same on every machine. The walk
+//! also has what the safe interface keeps out: answers of any number, short buffers, states and stores that were changed.
+use key_agent as _; // for the archive
+
+#[allow(dead_code)]
+#[path = "../src/raw.rs"]
+mod raw;
+
+const CALLS: usize = 100_000;
+/// What the walk comes to on x86-64.
+const FOLDED: u64 = 0x35c0_7b77_00a8_c226;
+
+struct Random(u64); // SplitMix64
+impl Random {
+    fn next(&mut self) -> u64 {
+        self.0 = self.0.wrapping_add(0x9e37_79b9_7f4a_7c15);
+        let z = (self.0 ^ (self.0 >> 30)).wrapping_mul(0xbf58_476d_1ce4_e5b9);
+        let z = (z ^ (z >> 27)).wrapping_mul(0x94d0_49bb_1331_11eb);
+        z ^ (z >> 31)
+    }
+    fn below(&mut self, n: usize) -> usize {
+        (self.next() % n as u64) as usize
+    }
+    fn percent(&mut self, n: usize) -> bool {
+        self.below(100) < n
+    }
+    /// `usual` nine times in ten, else one of the others.
+    fn mostly<T: Copy>(&mut self, usual: T, others: &[T]) -> T {
+        let other = others[self.below(others.len())];
+        if self.percent(90) {
+            usual
+        } else {
+            other
+        }
+    }
+}
+
+struct Fold(u64);
+impl Fold {
+    fn words<const N: usize>(&mut self, words: [u64; N]) {
+        for w in words {
+            self.0 = (self.0 ^ w).wrapping_mul(0x0000_0100_0000_01b3).rotate_left(29);
+        }
+    }
+    fn bytes(&mut self, b: &[u8]) {
+        self.words([b.len() as u64]);
+        for c in b.chunks(8) {
+            let mut w = [0; 8];
+            w[..c.len()].copy_from_slice(c);
+            self.words([u64::from_le_bytes(w)]);
+        }
+    }
+    fn state(&mut self, s: &raw::State) {
+        for e in &s.entries {
+            let small = u64::from(e.limited) << 40 | u64::from(e.confirm) << 32 | u64::from(e.seconds);
+            self.words([e.number, e.reading, small, e.blob_len as u64, e.fields_len as u64]);
+        }
+        self.bytes(&s.lock.bytes);
+        self.words([s.lock.len as u64, s.clock, s.next]);
+    }
+    fn outcome(&mut self, o: &raw::FlatOutcome) {
+        self.words([o.kind.into(), o.hash.into(), o.number, o.from as u64, o.to as u64]);
+    }
+}
+
+fn string(b: &[u8]) -> Vec<u8> {
+    [&(b.len() as u32).to_be_bytes()[..], b].concat()
+}
+/// Twelve keys of three types, their numbers made up: fields, blob.
+fn key(i: u8) -> (Vec<u8>, Vec<u8>) {
+    let (a, n, number) = (string(&[i; 32]), string(&vec![i; 80 * i as usize]), string(&[i]));
+    let (fields, blob) = match i % 3 {
+        0 => ([string(b"ssh-ed25519"), a.clone(), string(&[i; 64])], [string(b"ssh-ed25519"), a, vec![]]),
+        1 => {
+            let blob = [string(b"ecdsa-sha2-nistp256"), string(b"nistp256"), string(&[vec![4], vec![i; 64]].concat())];
+            ([blob.concat(), a, vec![]], blob)
+        }
+        _ => ([string(b"ssh-rsa"), [n.clone(), number.clone()].concat(), number.repeat(4)], [string(b"ssh-rsa"), number, n]),
+    };
+    (fields.concat(), blob.concat())
+}
+fn request(r: &mut Random) -> Vec<u8> {
+    let (fields, blob) = key(1 + r.below(12) as u8);
+    let constraints: &[u8] = [&[][..], &[2], &[1, 0, 0, 0, 9], &[1, 0, 1, 0, 0, 2], &[2, 1, 0, 0, 0, 0], &[3]][r.below(6)];
+    let data = vec![7; r.below(300)];
+    let pass = vec![b'a'; [0, 1, 1, 1, 2, 1024, 1025][r.below(7)]];
+    let mut p = match r.below(20) {
+        0 | 1 => vec![11],
+        2..=5 => [vec![17], fields, string(b"c")].concat(),
+        6..=8 => [vec![25], fields, string(b""), constraints.to_vec()].concat(),
+        9 | 10 => [vec![18], string(&blob)].concat(),
+        11 if r.percent(20) => vec![19],
+        11..=15 => [vec![13], string(&blob), string(&data), vec![0, 0, 0, r.below(8) as u8]].concat(),
+        16 if r.percent(30) => [vec![22], string(&pass)].concat(),
+        16..=18 => [vec![23], string(&pass)].concat(),
+        _ => vec![r.next() as u8; r.below(9)],
+    };
+    if r.percent(10) && !p.is_empty() {
+        let at = r.below(p.len());
+        match r.below(3) {
+            0 => p.truncate(at),
+            1 => p[at] = r.next() as u8,
+            _ => p.insert(at, r.next() as u8),
+        }
+    }
+    p
+}
+
+#[test]
+fn one_walk() {
+    let (mut r, mut f, mut kinds, mut sound, mut made) = (Random(1), Fold(0), [0; 12], [0; 2], 0);
+    let (mut state, mut store) = (unsafe { raw::key_agent_fresh() }, vec![0; 32_768]);
+    let mut reply = vec![0; 9_000];
+    let (long, mut reading) = (vec![11; 262_145], 0u64);
+    while made < CALLS {
+        if r.percent(1) {
+            (state, reading) = (unsafe { raw::key_agent_fresh() }, r.next() >> r.below(64));
+            store.fill(0);
+        }
+        let mut payload = request(&mut r);
+        if r.below(500) == 0 {
+            payload = long[..262_144 + r.below(2)].to_vec();
+        }
+        let mut a = raw::FlatAnswers::default();
+        let mut signature = vec![];
+        // as a host does: call, find out, call again
+        for _ in 0..6 {
+            reading = reading.wrapping_add(r.mostly(100, &[0, 5_000, u64::MAX]));
+            let (store_len, reply_len) = (r.mostly(32_768, &[32_768, 32_768, 32_767, 0]), r.mostly(8_265, &[9_000, 9_000, 8_264, 0]));
+            // SAFETY: lengths up to those of the vectors, which do not overlap; the truth values in the state are the core's.
+            let o = unsafe {
+                let (p, s) = (payload.as_ptr(), signature.as_ptr());
+                raw::key_agent_call(
+                    &mut state,
+                    store.as_mut_ptr(),
+                    store_len,
+                    p,
+                    payload.len(),
+                    reading,
+                    a,
+                    s,
+                    signature.len(),
+                    reply.as_mut_ptr(),
+                    reply_len,
+                )
+            };
+            made += 1;
+            f.outcome(&o);
+            f.state(&state);
+            kinds[if o.kind == 0 { 6 + o.number as usize } else { o.kind as usize }] += 1;
+            let said = r.mostly(2, &[0, 1, 3, 255]);
+            let number = r.mostly(o.number, &[o.number + 1, 1, 0, r.0]);
+            match o.kind {
+                1 => a.gate = said,
+                2 => a.check = said,
+                3 => (a.confirmation, a.confirmation_number) = (said, number),
+                4 => {
+                    (a.signature, a.signature_number) = (said, number);
+                    signature = vec![(o.hash >> 8) as u8; r.mostly(64, &[0, 2_048, 2_049])];
+                }
+                5 => f.bytes(&reply[..o.to]),
+                _ => {}
+            }
+            if o.kind > 4 {
+                break;
+            }
+        }
+        if r.percent(10) {
+            f.bytes(&store);
+            f.bytes(&reply);
+        }
+        // a state and a store with one value changed: sound or not, and a call on them
+        if r.percent(20) {
+            let (mut s, mut b) = (state, store.clone());
+            let (e, n) = (r.below(8), r.below(1_024));
+            let value = [r.next() >> r.below(64), r.below(5) as u64, u64::MAX][r.below(3)];
+            match r.below(10) {
+                0 => s.entries[e].number = value,
+                1 => s.entries[e].reading = value,
+                2 => s.entries[e].limited ^= 1,
+                3 => s.entries[e].seconds = value as u32,
+                4 => s.entries[e].blob_len = value as usize,
+                5 => s.entries[e].fields_len = value as usize,
+                6 => s.lock.len = value as usize,
+                7 => s.next = value,
+                8 => s.lock.bytes[n] = value as u8,
+                _ => b[4_096 * e + 4 * n] ^= value as u8,
+            }
+            // SAFETY: as above.
+            let (is, o) = unsafe {
+                let is = raw::key_agent_is_sound(s, b.as_ptr(), b.len());
+                (is, raw::key_agent_call(&mut s, b.as_mut_ptr(), b.len(), [11].as_ptr(), 1, 0, a, [0].as_ptr(), 0, reply.as_mut_ptr(), 8_265))
+            };
+            sound[is as usize] += 1;
+            kinds[9] += !is as usize;
+            assert_eq!(is, (o.kind, o.number) != (0, 3), "what is_sound says and refusal 3");
+            f.words([is.into()]);
+            f.outcome(&o);
+            f.state(&s);
+            f.bytes(&b[4_096 * e..][..4_096]);
+        }
+        let front = [&[0, r.mostly(0, &[4, 5, 255]), 0, r.below(40) as u8][..], &payload].concat();
+        // SAFETY: a vector's own length.
+        let s = unsafe { raw::key_agent_split(front.as_ptr(), front.len()) };
+        f.words([s.kind.into(), s.from as u64, s.to as u64]);
+    }
+    println!("{made} calls: kinds 1 to 6 {:?}, refusals 1 to 5 {:?}; sound no, yes {sound:?}; {:#x}", &kinds[1..7], &kinds[7..], f.0);
+    assert!(kinds[1..].iter().chain(&sound).all(|n| *n > 100), "each outcome occurs");
+    assert_eq!(f.0, FOLDED);
+}
