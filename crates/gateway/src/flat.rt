@@ -1,12 +1,12 @@
 // What crosses to C and Rust in place of the enums, as 01's numbers and values: answers on the way in, an outcome or a split on the way out.
 use client::frame::frame_payload;
 use client::frame::read_frame;
-use rule::Hash;
 use requests::Answers;
 use requests::Confirmed;
 use requests::Outcome;
 use requests::Said;
 use requests::Signed;
+use rule::Hash;
 use wire::Split;
 ghost use mathlib.Core.Path.{_≡_};
 ghost use Rattle.requests.specs.Outcomes.{hashBits};

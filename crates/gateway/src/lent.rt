@@ -1,7 +1,7 @@
 // The thin form: the state is lent by the gateway's loop, and altered there.
-use rule::Millis;
 use requests::Answers;
 use requests::Outcome;
+use rule::Millis;
 use server::call::call;
 use table::State;
 ghost use mathlib.Core.Path.{_≡_};
