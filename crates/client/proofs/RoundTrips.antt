@@ -1,4 +1,4 @@
--- The promises: the splitter finds what a writer wrote, refusals are told apart by number, and the readers find in a request what was given.
+-- The promises: the splitter finds what a writer wrote, refusals are told apart by number, and the gateway's rule reads from a request what was given.
 use Prim.Native.Nat.{ℕ, _+_, _^_, _≤_, _<_}
 use mathlib.Core.Path.{_≡_, refl, sym, ap, _∙_}
 use mathlib.Core.List.{List, [], _∷_, _++_, append-nil}
@@ -25,7 +25,7 @@ use Rattle.client.specs.declared.Wrote.the-variants.{Refused}
 use Rattle.client.specs.Refusals.{refusalNumber}
 use Rattle.client.specs.Requests.{signRequest, removeSmartcardAnswer, removeSmartcardLeft, addSmartcardAnswer, addSmartcardLeft}
 use Rattle.client.specs.Promises.{Holds, Splits, Sent, Writes, WriterRule, RemoveSmartcardRule, AddSmartcardRule, placeless, RefusalsApart, ListRead, LockRead, UnlockRead, SignRead}
-use Rattle.client.proofs.FormLaws.{bytes-cons, bytes-append, be32-bytes, string-bytes}
+use Rattle.client.proofs.ByteLaws.{bytes-cons, bytes-append, be32-bytes, string-bytes}
 use Rattle.client.proofs.WriteLaws.{Met, Stage, stage, untouched}
 
 -- ## Frames

@@ -13,19 +13,18 @@ use Rattle.wire.proofs.Longest.{utf8-end-whole}
 use Rattle.client.specs.declared.Refusal.{Refusal}
 use Rattle.client.specs.declared.Wrote.{Wrote}
 use Rattle.client.specs.declared.Wrote.the-variants.{Written, Refused}
-use Rattle.client.specs.declared.identities.Listing.{Listing}
 use Rattle.client.specs.Refusals.{refusalNumber}
-use Rattle.client.specs.Values.{grants, refuses, wroteSays, listingSays}
+use Rattle.client.specs.Values.{grants, refuses, wroteSays}
 use Rattle.client.specs.Requests.{headAnswer, plainSmartcard, constrainedSmartcard, removeSmartcard, addSmartcard, removeSmartcardAnswer, addSmartcardAnswer}
 use Rattle.client.specs.Promises.{WriterTable, RemoveSmartcardTable, AddSmartcardTable, SaysApart}
 
 -- ## Values
 
 -- what is granted is not refused
-granted : {B A : Type 0} {b : B} {n : ℕ} → grants b ≡ refuses n → A
+pub granted : {B A : Type 0} {b : B} {n : ℕ} → grants b ≡ refuses n → A
 granted e = let z : _≡_ {A = ℕ} 0 1 = cc in absurd (omega arith)
 
-not-granted : {B A : Type 0} {b : B} {n : ℕ} → refuses n ≡ grants b → A
+pub not-granted : {B A : Type 0} {b : B} {n : ℕ} → refuses n ≡ grants b → A
 not-granted e = let z : _≡_ {A = ℕ} 0 1 = cc in absurd (omega arith)
 
 wrote-written : (a : Wrote) (n : ℕ) → wroteSays a ≡ grants n → a ≡ Written n
@@ -36,16 +35,8 @@ wrote-refused : (a : Wrote) (n : ℕ) → wroteSays a ≡ refuses n → (r : Ref
 wrote-refused (Written m) n e = granted e
 wrote-refused (Refused r) n e = let q : refusalNumber r ≡ n = cc in (r, refl, q)
 
-listing-count : (a : Listing) (n : ℕ) → listingSays a ≡ grants n → a ≡ Listing.Count n
-listing-count (Listing.Count m) n e = let q : m ≡ n = cc in rw q
-listing-count (Listing.Refused r) n e = not-granted e
-
-listing-refused : (a : Listing) (n : ℕ) → listingSays a ≡ refuses n → (r : Refusal) × (a ≡ Listing.Refused r) × (refusalNumber r ≡ n)
-listing-refused (Listing.Count m) n e = granted e
-listing-refused (Listing.Refused r) n e = let q : refusalNumber r ≡ n = cc in (r, refl, q)
-
 pub says-apart : SaysApart
-says-apart = record { written = wrote-written; writer-refused = wrote-refused; counted = listing-count; list-refused = listing-refused }
+says-apart = record { written = wrote-written; writer-refused = wrote-refused }
 
 -- ## Frames
 

@@ -2,7 +2,4 @@
 pub mod Refusals
 pub mod Values
 pub mod Requests
-pub mod Identities
-pub mod Signatures
 pub mod Promises
-pub mod ReadPromises

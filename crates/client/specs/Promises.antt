@@ -20,9 +20,8 @@ use Rattle.client.specs.declared.Refusal.{Refusal}
 use Rattle.client.specs.declared.Refusal.the-variants.{OutputTooShort, Malformed, UnfitType, AgentFailure, OtherReply, NoSuchItem, PayloadTooLong, TooManyConstraints}
 use Rattle.client.specs.declared.Wrote.{Wrote}
 use Rattle.client.specs.declared.Wrote.the-variants.{Written, Refused}
-use Rattle.client.specs.declared.identities.Listing.{Listing}
 use Rattle.client.specs.Refusals.{refusalNumber}
-use Rattle.client.specs.Values.{grants, refuses, wroteSays, listingSays}
+use Rattle.client.specs.Values.{grants, refuses, wroteSays}
 use Rattle.client.specs.Requests.{requestIdentities, signRequest, lockRequest, unlockRequest, plainSmartcard, constrainedSmartcard, removeSmartcard, addSmartcard, answered, filled, removeSmartcardAnswer, removeSmartcardLeft, addSmartcardAnswer, addSmartcardLeft}
 
 -- ## Frames
@@ -110,12 +109,10 @@ AddSmartcardTable = (id pin : List ℕ) (cs : List Constraint) (count : ℕ) (ou
 
 -- ## Refusals
 
--- the values of an answer tell whether it is a refusal, and which number it has
+-- the values of a writer's answer tell whether it is a refusal, and which number it has
 pub record SaysApart : Type 0 where
   pub written : (a : Wrote) (n : ℕ) → wroteSays a ≡ grants n → a ≡ Written n
   pub writer-refused : (a : Wrote) (n : ℕ) → wroteSays a ≡ refuses n → (r : Refusal) × (a ≡ Refused r) × (refusalNumber r ≡ n)
-  pub counted : (a : Listing) (n : ℕ) → listingSays a ≡ grants n → a ≡ Listing.Count n
-  pub list-refused : (a : Listing) (n : ℕ) → listingSays a ≡ refuses n → (r : Refusal) × (a ≡ Listing.Refused r) × (refusalNumber r ≡ n)
 
 -- a refusal without the place of its fault
 abbrev pub placeless : Refusal → Refusal

@@ -1,9 +1,7 @@
--- 01's number for each refusal of a reader or writer ("When; output untouched"), and how a definition goes on behind a run.
+-- 01's number for each refusal of a reader or writer ("When; output untouched").
 use Prim.Native.Nat.{ℕ}
 use Rattle.client.specs.declared.Refusal.{Refusal}
 use Rattle.client.specs.declared.Refusal.the-variants.{OutputTooShort, Malformed, UnfitType, AgentFailure, OtherReply, NoSuchItem, PayloadTooLong, TooManyConstraints}
-use Rattle.client.specs.declared.Run.{Run}
-use Rattle.client.specs.declared.Run.the-variants.{End, Fault}
 
 abbrev pub refusalNumber : Refusal → ℕ
 refusalNumber OutputTooShort = 11
@@ -14,7 +12,3 @@ refusalNumber OtherReply = 15
 refusalNumber NoSuchItem = 16
 refusalNumber PayloadTooLong = 17
 refusalNumber TooManyConstraints = 18
-
-unfoldable pub run : {A : Type 0} → (ℕ → A) → Run → (ℕ → A) → A
-run z (End at) next = next at
-run z (Fault at) next = z at

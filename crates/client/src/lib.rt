@@ -1,8 +1,6 @@
-// The client's side: frames, requests, and the two replies that are read.
+// The client's side: frames and request writers, and the refusals that they share with the reply readers.
 pub mod frame;
-pub mod identities;
 pub mod requests;
-pub mod signature;
 
 // Why a reader or a writer refuses; its output is then untouched. 01's numbers are in specs/Refusals.antt.
 pub enum Refusal {
@@ -20,10 +18,4 @@ pub enum Refusal {
 pub enum Wrote {
     Written(usize),
     Refused(Refusal),
-}
-
-// Where a run of things that were read ends, or the place of the fault in it.
-pub enum Run {
-    End(usize),
-    Fault(usize),
 }

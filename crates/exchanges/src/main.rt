@@ -1,4 +1,4 @@
-// Runs outside vectors over client, and writes how many agree. make.py writes the input, and says where its vectors come from.
+// Runs outside vectors over client and readers, and writes how many agree. make.py writes the input, and says where its vectors come from.
 mod agree;
 mod judge;
 mod parts;

@@ -1,0 +1,16 @@
+-- The definition cuts the same part, or none, out of the payload. Assumes nothing.
+use borrow.Author.Needs.{needs}
+use Rattle.readers.specs.Identities.{blobOfItem}
+use Rattle.readers.proofs.identities.identity_blob.Statement.{statement}
+use Rattle.readers.proofs.identities.identity_blob.Tie as tie
+
+returns : tie.Need-returns
+unfolding blobOfItem
+returns c = rw (← c .before .before .before .before .identity .ensures, c .before .before .item .given .1) (c .cut .ensures)
+
+returns-2 : tie.Need-returns-2
+unfolding blobOfItem
+returns-2 c = rw (← c .before .before .before .identity .ensures, c .before .enum-told .given .1) (c .cut2 .ensures)
+
+pub identity-blob-spec : {M : Type 1} → statement M
+identity-blob-spec = tie.close (tie.spec (λ c κs. search needs) (λ c. search needs) (λ c κs. search needs) (λ c. search needs) (λ c κs. search needs) returns returns-2)

@@ -1,0 +1,27 @@
+-- The definition goes by the same string and test. Assumes nothing.
+use Rattle.wire.specs.Steps.{so, part}
+use Rattle.readers.specs.Signatures.{signatureEnd}
+use Rattle.readers.proofs.ReadSteps.{all}
+use Rattle.readers.proofs.signature.signature_end.Statement.{statement}
+use Rattle.readers.proofs.signature.signature_end.Tie as tie
+
+returns-2 : tie.Need-returns-2
+unfolding signatureEnd so part
+returns-2 c = rw (← c .before .before .before .before .before .string .ensures, c .before .before .before .to .given .1, c .before .if1 .taken) (c .touched-end .ensures)
+
+returns-3 : tie.Need-returns-3
+unfolding signatureEnd so part
+returns-3 c = rw (← c .before .before .before .before .string .ensures, c .before .before .to .given .1, c .if1 .left)
+
+pub signature-end-spec : {M : Type 1} → statement M
+unfolding signatureEnd
+signature-end-spec =
+    tie.close
+    (tie.spec
+    (λ c κs. search all depth 16)
+    (λ c. search all depth 16)
+    (λ c. search all depth 16)
+    (λ c. search all depth 16)
+    (λ c κs. search all depth 16)
+    returns-2
+    returns-3)

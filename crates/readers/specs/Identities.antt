@@ -1,0 +1,71 @@
+-- The identities reader: "payload empty or not type 12: count 0. Else all items must be whole, comments UTF-8".
+use Prim.Native.Nat.{ℕ, zero, suc, _-_}
+use mathlib.Core.List.{List}
+use mathlib.Core.Bool.{Bool, false}
+use lib.ListN.{length, getD}
+use lib.Dec.{leb, ltb, eqb}
+use Rattle.wire.specs.Texts.{bytes}
+use Rattle.wire.specs.Read.{cutOf, same, numberAt, stringAt, textAt}
+use Rattle.wire.specs.Steps.{so, number, part}
+use Rattle.client.specs.declared.Refusal.the-variants.{Malformed, NoSuchItem}
+use Rattle.readers.specs.declared.Run.{Run}
+use Rattle.readers.specs.declared.Run.the-variants.{End, Fault}
+use Rattle.readers.specs.declared.identities.Listing.{Listing}
+use Rattle.readers.specs.declared.identities.Item.{Item}
+use Rattle.readers.specs.Runs.{run}
+
+-- where a number of items ends: each is a blob and a text
+unfoldable pub itemsAt : ℕ → List ℕ → ℕ → Run
+itemsAt zero s at = End at
+itemsAt (suc n) s at =
+    part (λ _. Fault at) (stringAt s at) λ f t k.
+    part Fault (textAt s (k .at)) λ g u l.
+    itemsAt n s (l .at)
+
+-- the number of items
+unfoldable pub countOf : List ℕ → Listing
+countOf payload =
+    so (Listing.Count 0) (ltb 0 (length payload))
+    (so (Listing.Count 0) (eqb (getD payload 0 0) 12)
+    (number (λ _. Listing.Refused (Malformed 1)) (numberAt payload 1) λ n k.
+    run (λ at. Listing.Refused (Malformed at)) (itemsAt n payload (k .at)) λ end.
+    Listing.Count n))
+
+-- going on with the number of items
+unfoldable pub counted : {A : Type 0} → (Listing → A) → Listing → (ℕ → A) → A
+counted z (Listing.Count n) next = next n
+counted z (Listing.Refused r) next = z (Listing.Refused r)
+
+unfoldable pub endsIn : List ℕ → List ℕ → Bool
+endsIn v end = so false (leb (length end) (length v)) (same (cutOf v (length v - length end) (length v)) end)
+
+-- "a certificate mark if its first string is UTF-8 and ends in `-cert-v01@openssh.com`"
+abbrev pub certificateEnd : List ℕ
+certificateEnd = bytes "-cert-v01@openssh.com"
+
+unfoldable pub certificate : List ℕ → Bool
+certificate blob = part (λ _. false) (textAt blob 0) λ f t k. endsIn (cutOf blob f t) certificateEnd
+
+unfoldable pub itemAt : List ℕ → ℕ → Item
+itemAt payload at =
+    part (λ _. Item.Refused (Malformed at)) (stringAt payload at) λ f t k.
+    Item.Blob f t (certificate (cutOf payload f t))
+
+-- "item i is handed out as part of the payload"; "identities 12, 16"
+abbrev pub refusedItem : Listing → Item
+refusedItem (Listing.Count n) = Item.Refused NoSuchItem
+refusedItem (Listing.Refused r) = Item.Refused r
+
+unfoldable pub itemOf : List ℕ → ℕ → Item
+itemOf payload index =
+    counted refusedItem (countOf payload) λ count.
+    so (Item.Refused NoSuchItem) (ltb index count)
+    (run (λ at. Item.Refused (Malformed at)) (itemsAt index payload 5) λ at.
+    itemAt payload at)
+
+abbrev pub itemBlob : List ℕ → Item → List ℕ
+itemBlob payload (Item.Blob f t c) = cutOf payload f t
+itemBlob payload (Item.Refused r) = cutOf payload 0 0
+
+unfoldable pub blobOfItem : List ℕ → ℕ → List ℕ
+blobOfItem payload index = itemBlob payload (itemOf payload index)

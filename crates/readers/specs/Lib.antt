@@ -1,0 +1,6 @@
+-- The definitions that contracts cite, and the statements of what is promised.
+pub mod Runs
+pub mod Values
+pub mod Identities
+pub mod Signatures
+pub mod ReadPromises

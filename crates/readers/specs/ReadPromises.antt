@@ -1,0 +1,180 @@
+-- What the readers of the two replies promise, as statements; the proofs are in proofs/.
+use Prim.Native.Nat.{ℕ, _^_, _≤_, _<_}
+use mathlib.Core.Path.{_≡_}
+use mathlib.Core.List.{List, [], _∷_, _++_, map}
+use mathlib.Core.Bool.{true}
+use mathlib.Core.Logic.{_↔_}
+use lib.ListN.{length, getD}
+use Rattle.wire.specs.Numbers.{Bytes, be32}
+use Rattle.wire.specs.Texts.{bytes}
+use Rattle.wire.specs.Abnf.{Octets}
+use Rattle.wire.specs.Write.{write, string}
+use Rattle.rule.specs.Gateway.{Entry, Place}
+use Rattle.rule.specs.Order.{Begins}
+use Rattle.rule.specs.Rule.{live, items, listed, signatureReply}
+use Rattle.client.specs.declared.Refusal.{Refusal}
+use Rattle.client.specs.declared.Refusal.the-variants.{OutputTooShort}
+use Rattle.client.specs.declared.Wrote.the-variants.{Written, Refused}
+use Rattle.client.specs.Refusals.{refusalNumber}
+use Rattle.client.specs.Values.{grants, refuses, wroteSays}
+use Rattle.readers.specs.declared.identities.Listing.{Listing}
+use Rattle.readers.specs.Values.{listingSays, itemSays}
+use Rattle.readers.specs.Identities.{countOf, certificateEnd, certificate, itemOf, blobOfItem}
+use Rattle.readers.specs.Signatures.{fits, signatureAnswer, signatureLeft}
+
+-- ## The list of keys
+
+-- items as the draft writes them, beside their blobs: each is a blob and a comment of UTF-8
+pub data ItemForms : List (List ℕ) → List ℕ → Type 0 where
+  none : ItemForms [] []
+  item : {blobs : List (List ℕ)} {forms : List ℕ} (blob comment : List ℕ) → length blob < 2 ^ 32 → length comment < 2 ^ 32 → Octets comment
+      → ItemForms blobs forms → ItemForms (blob ∷ blobs) (string blob ++ (string comment ++ forms))
+
+-- what stands behind the 12: a count, as many items, and anything
+pub record ListForm (p : List ℕ) (blobs : List (List ℕ)) : Type 0 where
+  pub forms : List ℕ
+  pub rest : List ℕ
+  pub few : length blobs < 2 ^ 32
+  pub whole : ItemForms blobs forms
+  pub shape : p ≡ be32 (length blobs) ++ (forms ++ rest)
+
+-- n items are counted exactly where n items stand whole
+abbrev pub CountRule : Type 0
+CountRule = (p : List ℕ) (n : ℕ) → Bytes p → (countOf (12 ∷ p) ≡ Listing.Count n) ↔ ((blobs : List (List ℕ)) × ListForm p blobs × (length blobs ≡ n))
+
+-- and each is handed out as its blob
+abbrev pub ItemRule : Type 0
+ItemRule = (p : List ℕ) (blobs : List (List ℕ)) → Bytes p → ListForm p blobs → (i : ℕ) → i < length blobs → blobOfItem (12 ∷ p) i ≡ getD blobs i []
+
+-- when each answer comes: "payload empty or not type 12: count 0"; "identities 12, 16"
+pub record ListSays (payload : List ℕ) : Type 0 where
+  pub other : ((p : List ℕ) → payload ≡ 12 ∷ p → ⊥) → listingSays (countOf payload) ≡ grants 0
+  pub faulty : (p : List ℕ) → payload ≡ 12 ∷ p → ((blobs : List (List ℕ)) → ListForm p blobs → ⊥) → listingSays (countOf payload) ≡ refuses 12
+  pub counts : (p : List ℕ) (blobs : List (List ℕ)) → payload ≡ 12 ∷ p → ListForm p blobs → listingSays (countOf payload) ≡ grants (length blobs)
+
+abbrev pub ListTable : Type 0
+ListTable = (payload : List ℕ) → Bytes payload → ListSays payload
+
+pub record ItemSays (payload : List ℕ) (i : ℕ) : Type 0 where
+  pub faulty : listingSays (countOf payload) ≡ refuses 12 → itemSays payload (itemOf payload i) ≡ refuses 12
+  pub beyond : (n : ℕ) → listingSays (countOf payload) ≡ grants n → n ≤ i → itemSays payload (itemOf payload i) ≡ refuses 16
+  pub item : (p : List ℕ) (blobs : List (List ℕ)) → payload ≡ 12 ∷ p → ListForm p blobs → i < length blobs
+      → itemSays payload (itemOf payload i) ≡ grants (record { blob = getD blobs i []; marked = certificate (getD blobs i []) })
+
+abbrev pub ItemTable : Type 0
+ItemTable = (payload : List ℕ) (i : ℕ) → Bytes payload → ItemSays payload i
+
+-- the values of a count tell whether it is a refusal, and which number it has
+pub record ListingsApart : Type 0 where
+  pub counted : (a : Listing) (n : ℕ) → listingSays a ≡ grants n → a ≡ Listing.Count n
+  pub list-refused : (a : Listing) (n : ℕ) → listingSays a ≡ refuses n → (r : Refusal) × (a ≡ Listing.Refused r) × (refusalNumber r ≡ n)
+
+-- the payload of the gateway's list reply
+abbrev pub listReply : List Entry → List ℕ
+listReply es = 12 ∷ (be32 (length es) ++ items es)
+
+abbrev pub blobsOf : List Entry → List (List ℕ)
+blobsOf es = map (λ e. e .blob) es
+
+abbrev pub ListedIs : Type 0
+ListedIs = (ps : List Place) → listed ps ≡ string (listReply (live ps))
+
+pub record ReadsList (es : List Entry) : Type 0 where
+  pub count : countOf (listReply es) ≡ Listing.Count (length es)
+  pub blobs : (i : ℕ) → i < length es → blobOfItem (listReply es) i ≡ getD (blobsOf es) i []
+
+-- the list reply is read item by item
+abbrev pub ListReplyRead : Type 0
+ListReplyRead =
+    (es : List Entry) → ((i : ℕ) → Bytes (getD (blobsOf es) i []) × (length (getD (blobsOf es) i []) < 2 ^ 32)) → length es < 2 ^ 32
+    → ReadsList es
+
+-- ## The mark
+
+-- the first string is a text that ends as the type of a certificate does
+pub record Marked (blob : List ℕ) : Type 0 where
+  pub front : List ℕ
+  pub rest : List ℕ
+  pub small : length (front ++ certificateEnd) < 2 ^ 32
+  pub text : Octets (front ++ certificateEnd)
+  pub shape : blob ≡ string (front ++ certificateEnd) ++ rest
+
+abbrev pub MarkRule : Type 0
+MarkRule = (blob : List ℕ) → Bytes blob → (certificate blob ≡ true) ↔ Marked blob
+
+-- ## The signature
+
+-- a hash, and a type that fits it
+pub data Fitting : ℕ → List ℕ → Type 0 where
+  any : (t : List ℕ) → Fitting 0 t
+  sha256 : Fitting 2 (bytes "rsa-sha2-256")
+  sha512 : Fitting 4 (bytes "rsa-sha2-512")
+
+abbrev pub FitRule : Type 0
+FitRule = (hash : ℕ) (t : List ℕ) → (fits hash t ≡ true) ↔ Fitting hash t
+
+-- a type, and a signature of it as the draft writes it: type and bytes, and for a type of a touch key a byte of flags and a counter
+pub data SignatureForm : List ℕ → List ℕ → Type 0 where
+  plain : (t sig : List ℕ) → Octets t → ((w : List ℕ) → t ≡ bytes "sk-" ++ w → ⊥) → SignatureForm t (string t ++ string sig)
+  touched : (w sig : List ℕ) (flags counter : ℕ) → Octets (bytes "sk-" ++ w) → counter < 2 ^ 32
+      → SignatureForm (bytes "sk-" ++ w) (string (bytes "sk-" ++ w) ++ (string sig ++ (flags ∷ be32 counter)))
+
+-- a reply that carries one; what is left over inside its string and behind it is ignored
+pub record CarriesSignature (payload : List ℕ) (t signature : List ℕ) : Type 0 where
+  pub rest : List ℕ
+  pub behind : List ℕ
+  pub form : SignatureForm t signature
+  pub small : length (signature ++ rest) < 2 ^ 32
+  pub shape : payload ≡ 14 ∷ (string (signature ++ rest) ++ behind)
+
+-- the signature with its length is written to the front of an output that it fits in
+pub record WritesSignature (payload : List ℕ) (hash : ℕ) (signature out : List ℕ) : Type 0 where
+  pub written : length (string signature) ≤ length out → signatureAnswer payload hash out ≡ Written (length (string signature))
+  pub left : length (string signature) ≤ length out → signatureLeft payload hash out ≡ write out 0 (string signature)
+  pub short : length out < length (string signature) → signatureAnswer payload hash out ≡ Refused OutputTooShort
+  pub untouched : length out < length (string signature) → signatureLeft payload hash out ≡ out
+
+abbrev pub SignatureRule : Type 0
+SignatureRule =
+    (payload : List ℕ) (hash : ℕ) (t signature out : List ℕ) → Bytes payload → Fitting hash t → CarriesSignature payload t signature
+    → WritesSignature payload hash signature out
+
+-- a signature is written exactly where a reply carries it, its type fits the hash, and the output has room
+abbrev pub WrittenRule : Type 0
+WrittenRule =
+    (payload : List ℕ) (hash : ℕ) (out : List ℕ) (n : ℕ) → Bytes payload
+    → (signatureAnswer payload hash out ≡ Written n)
+    ↔ ((t : List ℕ) × (signature : List ℕ) × Fitting hash t × CarriesSignature payload t signature × (length (string signature) ≡ n) × (n ≤ length out))
+
+-- a reply whose string starts with the text t, and holds anything behind it
+pub record Typed (payload t : List ℕ) : Type 0 where
+  pub rest : List ℕ
+  pub behind : List ℕ
+  pub text : Octets t
+  pub small : length (string t ++ rest) < 2 ^ 32
+  pub shape : payload ≡ 14 ∷ (string (string t ++ rest) ++ behind)
+
+-- when each answer comes: "signature 14, 15, 12 (up to t), 13, 12, 11"
+pub record SignatureSays (payload : List ℕ) (hash : ℕ) (out : List ℕ) : Type 0 where
+  pub failure : Begins 5 payload → wroteSays (signatureAnswer payload hash out) ≡ refuses 14
+  pub other : (Begins 5 payload → ⊥) → (Begins 14 payload → ⊥) → wroteSays (signatureAnswer payload hash out) ≡ refuses 15
+  pub no-type : Begins 14 payload → ((t : List ℕ) → Typed payload t → ⊥) → wroteSays (signatureAnswer payload hash out) ≡ refuses 12
+  pub unfit : (t : List ℕ) → Typed payload t → (Fitting hash t → ⊥) → wroteSays (signatureAnswer payload hash out) ≡ refuses 13
+  pub no-signature : (t : List ℕ) → Typed payload t → Fitting hash t → ((signature : List ℕ) → CarriesSignature payload t signature → ⊥)
+      → wroteSays (signatureAnswer payload hash out) ≡ refuses 12
+  pub short : (t signature : List ℕ) → Fitting hash t → CarriesSignature payload t signature → length out < length (string signature)
+      → wroteSays (signatureAnswer payload hash out) ≡ refuses 11
+  pub written : (t signature : List ℕ) → Fitting hash t → CarriesSignature payload t signature → length (string signature) ≤ length out
+      → wroteSays (signatureAnswer payload hash out) ≡ grants (length (string signature))
+
+abbrev pub SignatureTable : Type 0
+SignatureTable = (payload : List ℕ) (hash : ℕ) (out : List ℕ) → Bytes payload → SignatureSays payload hash out
+
+-- the gateway's sign reply is read whole: all that stands behind the 14 is written
+abbrev pub SignatureRead : Type 0
+SignatureRead =
+    (hash : ℕ) (t signature out : List ℕ) → Bytes signature → length signature < 2 ^ 32 → Fitting hash t → SignatureForm t signature
+    → WritesSignature (14 ∷ string signature) hash signature out
+
+abbrev pub SignatureReplyIs : Type 0
+SignatureReplyIs = (signature : List ℕ) → signatureReply signature ≡ string (14 ∷ string signature)
