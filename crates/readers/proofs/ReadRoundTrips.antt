@@ -25,7 +25,7 @@ use Rattle.readers.specs.declared.Run.the-variants.{End}
 use Rattle.readers.specs.declared.identities.Listing.{Listing}
 use Rattle.readers.specs.Runs.{run}
 use Rattle.readers.specs.Identities.{itemsAt, countOf, counted, itemAt, itemOf, blobOfItem, certificate, certificateEnd}
-use Rattle.readers.specs.ReadPromises.{ItemForms, item, ListForm, CountRule, ItemRule, blobsOf, ListedIs, ListReplyRead, Marked, MarkRule}
+use Rattle.readers.specs.Promises.{ItemForms, item, ListForm, CountRule, ItemRule, blobsOf, ListedIs, ListReplyRead, Marked, MarkRule}
 use Rattle.readers.proofs.ReadSteps.{run-cases, fault}
 use Rattle.readers.proofs.FormLaws.{lies-next, ends-rule, text-reads, took}
 

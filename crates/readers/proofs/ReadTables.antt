@@ -20,7 +20,7 @@ use Rattle.readers.specs.declared.identities.Listing.{Listing}
 use Rattle.readers.specs.Runs.{run}
 use Rattle.readers.specs.Values.{listingSays, itemSays}
 use Rattle.readers.specs.Identities.{itemsAt, countOf, counted, itemAt, itemOf, certificate}
-use Rattle.readers.specs.ReadPromises.{ListForm, ListTable, ItemTable, ListingsApart}
+use Rattle.readers.specs.Promises.{ListForm, ListTable, ItemTable, ListingsApart}
 use Rattle.readers.proofs.ReadSteps.{run-cases}
 use Rattle.readers.proofs.ReadRoundTrips.{some-there, forms-at, lists-counted, count-rule}
 

@@ -31,7 +31,7 @@ use Rattle.readers.specs.declared.signature.Signature.{Signature}
 use Rattle.readers.specs.declared.signature.Signature.the-variants.{Whole}
 use Rattle.readers.specs.Runs.{run}
 use Rattle.readers.specs.Signatures.{wroteOf, fits, startsIn, touchedEnd, signatureEnd, signatureAt, replyAt, signatureAnswer, signatureLeft}
-use Rattle.readers.specs.ReadPromises.{Fitting, any, sha256, sha512, FitRule, SignatureForm, plain, touched, CarriesSignature, WritesSignature, SignatureRule, WrittenRule, SignatureRead, SignatureReplyIs}
+use Rattle.readers.specs.Promises.{Fitting, any, sha256, sha512, FitRule, SignatureForm, plain, touched, CarriesSignature, WritesSignature, SignatureRule, WrittenRule, SignatureRead, SignatureReplyIs}
 use Rattle.readers.proofs.ReadSteps.{run-cases, byte-cases, fault}
 use Rattle.readers.proofs.SignatureLaws.{string-short, string-fits, refused}
 use Rattle.readers.proofs.FormLaws.{starts-rule, text-reads, took, lies-to}

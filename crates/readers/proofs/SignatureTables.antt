@@ -23,7 +23,7 @@ use Rattle.readers.specs.declared.signature.Signature.{Signature}
 use Rattle.readers.specs.declared.signature.Signature.the-variants.{Whole}
 use Rattle.readers.specs.Runs.{run}
 use Rattle.readers.specs.Signatures.{fits, startsIn, signatureEnd, signatureAt, replyAt, wroteOf, signatureAnswer}
-use Rattle.readers.specs.ReadPromises.{Fitting, CarriesSignature, Typed, SignatureTable}
+use Rattle.readers.specs.Promises.{Fitting, CarriesSignature, Typed, SignatureTable}
 use Rattle.readers.proofs.ReadSteps.{run-cases}
 use Rattle.readers.proofs.FormLaws.{text-reads, took}
 use Rattle.readers.proofs.SignatureRoundTrips.{fit-rule, signature-rule, end-taken}

@@ -3,4 +3,4 @@ pub mod Runs
 pub mod Values
 pub mod Identities
 pub mod Signatures
-pub mod ReadPromises
+pub mod Promises
