@@ -1,5 +1,5 @@
 -- What ends as a result is that result laid out, since a sound state and store are the one writing of their meaning.
-use mathlib.Core.Path.{_≡_, sym, ap, _∙_}
+use mathlib.Core.Path.{sym, ap, _∙_}
 use Rattle.table.specs.Meaning.{stateOf, layout}
 use Rattle.table.proofs.WritingLaws.{sound-canonical}
 use Rattle.requests.specs.Ends.{EndsLaidOut, EndsDecides}

@@ -1,7 +1,7 @@
 -- What is read of one place: its entry and its part of the store are the place that the meaning has there.
 use Prim.Native.Nat.{ℕ, zero, suc, _*_, _-_, _≤_, _<_}
 use mathlib.Core.Path.{_≡_, refl, sym, ap, _∙_}
-use mathlib.Core.Bool.{Bool, true, false, not, and-true, and-false}
+use mathlib.Core.Bool.{true, not}
 use mathlib.Core.Option.{none, some}
 use mathlib.Core.List.{List, [], _∷_}
 use native.Mathlib.Omega.{arith}
@@ -9,17 +9,15 @@ use borrow.Author.Tests.{lt-ltb, eq-eqb, ne-eqb, eqb-true}
 use lib.Dec.{eqb, ltb}
 use lib.ListN.{length, take, drop, getD, length-drop}
 use lib.Seq.{length-take-le}
-use Rattle.wire.specs.Read.{same}
 use Rattle.wire.specs.Steps.{so}
-use Rattle.rule.specs.Gateway.{Place, isFree}
-use Rattle.rule.specs.Soundness.{everyEntry, apart}
+use Rattle.rule.specs.Gateway.{isFree}
 use Rattle.rule.specs.Rule.{numberIn, confirmIn}
 use Rattle.rule.proofs.Cases.{so-cases}
 use Rattle.table.specs.declared.Entry.{Entry}
 use Rattle.table.specs.declared.State.{State}
 use Rattle.table.specs.Each.{Each, offset}
 use Rattle.table.specs.Meaning.{size, keyOf, placeOf, blobIn, view, freeEntry, entryFor}
-use Rattle.table.specs.Soundness.{soundPlace, soundPlaces, unlike, SoundPlace, free, held, Housed, Sound}
+use Rattle.table.specs.Soundness.{soundPlace, soundPlaces, SoundPlace, free, held, Housed, Sound}
 use Rattle.table.proofs.EachLaws.{offset-even, each-length, each-at, every-at, each-says}
 use Rattle.table.proofs.TestLaws.{place-says}
 use Rattle.table.proofs.WritingLaws.{Seen, seen-free, seen-held, seen}
@@ -108,27 +106,3 @@ pub some-taken : (n : ℕ) (bs : List ℕ) (m : ℕ) → length bs ≡ suc m →
 some-taken zero bs m l = refl
 some-taken (suc n) [] m l = absurd (omega arith)
 some-taken (suc n) (b ∷ bs) m l = lt-ltb 0 (suc n) (omega arith) ∙ sym (lt-ltb 0 (suc (length (take n bs))) (omega arith))
-
--- ## Two places
-
-module _ (e : Entry) (p : List ℕ) where
-  module _ (f : Entry) (q : List ℕ) where
-    pub unlike-of-free : f .number ≡ 0 → true ≡ unlike (placeOf e p) (placeOf f q ∷ [])
-    unfolding unlike everyEntry
-    unlike-of-free h = rw (place-free f q h) (by-place (placeOf e p))
-      where
-        by-place : (r : Place) → true ≡ unlike r (none ∷ [])
-        by-place none = refl
-        by-place (some k) = refl
-
-    module _ (held-e : e .number ≡ 0 → ⊥) (held-f : f .number ≡ 0 → ⊥) where
-      keys-unlike : unlike (placeOf e p) (placeOf f q ∷ []) ≡ apart (keyOf e p) (keyOf f q)
-      unfolding unlike everyEntry
-      keys-unlike = rw (place-held e p held-e, place-held f q held-f) (and-true (apart (keyOf e p) (keyOf f q)))
-
-      pub unlike-number : e .number ≡ f .number → false ≡ unlike (placeOf e p) (placeOf f q ∷ [])
-      unlike-number h = rw (keys-unlike, eq-eqb (e .number) (f .number) h) (sym (and-false (not (same (take (e .«blob_len») p) (take (f .«blob_len») q)))))
-
-      pub unlike-blob : (e .number ≡ f .number → ⊥) → (r : Bool) → r ≡ same (take (e .«blob_len») p) (take (f .«blob_len») q)
-          → not r ≡ unlike (placeOf e p) (placeOf f q ∷ [])
-      unlike-blob h r g = rw (keys-unlike, ne-eqb (e .number) (f .number) h, g) (sym (and-true (not (same (take (e .«blob_len») p) (take (f .«blob_len») q)))))
