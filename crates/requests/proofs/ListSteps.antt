@@ -21,7 +21,7 @@ use Rattle.rule.proofs.Cases.{true-not-false}
 use Rattle.rule.proofs.PlaceLaws.{every-at}
 use Rattle.table.specs.declared.State.{State}
 use Rattle.table.specs.Meaning.{gatewayOf, blobIn}
-use Rattle.requests.specs.Lists.{itemIn, one}
+use Rattle.requests.specs.Lists.{itemIn, countIn}
 use Rattle.requests.proofs.EndSteps.{eight-places}
 
 -- ## One place
@@ -73,14 +73,14 @@ module _ (g : Gateway) (i : ℕ) where
             let n : length (v ++ string []) ≡ length v + 4 = length-append v (string []) in
             rw (← q) (omega arith, w)
 
-    pub held-counts : b ≡ true → 1 ≡ one here
+    pub held-counts : b ≡ true → 1 ≡ countIn here
     held-counts e = go here (sym test ∙ e)
       where
-        go : (p : Place) → not (isFree p) ≡ true → 1 ≡ one p
+        go : (p : Place) → not (isFree p) ≡ true → 1 ≡ countIn p
         go none h = absurd (true-not-false (sym h))
         go (some k) h = refl
 
-    pub free-counts : b ≡ false → 0 ≡ one here
+    pub free-counts : b ≡ false → 0 ≡ countIn here
     free-counts e = rw (free-is here (sym test ∙ e))
 
 -- ## The first places
@@ -94,7 +94,7 @@ items-suc (none ∷ ps) (suc i) h = items-suc ps i (le-of-suc-le-suc h)
 items-suc (some e ∷ ps) (suc i) h =
     ap (λ (l : List ℕ). item e ++ l) (items-suc ps i (le-of-suc-le-suc h)) ∙ sym (append-assoc (item e) (items (live (take i ps))) (itemIn (getD ps i none)))
 
-count-suc : (ps : List Place) (i : ℕ) → i < length ps → length (live (take (suc i) ps)) ≡ length (live (take i ps)) + one (getD ps i none)
+count-suc : (ps : List Place) (i : ℕ) → i < length ps → length (live (take (suc i) ps)) ≡ length (live (take i ps)) + countIn (getD ps i none)
 unfolding live
 count-suc [] i h = absurd (not-suc-le-zero h)
 count-suc (none ∷ ps) zero h = refl
@@ -152,7 +152,7 @@ module _ (s : State) where
   none-counted = record { up-to = omega arith; count = λ x. refl; few = omega arith }
 
   module _ (eight : length (s .entries) ≡ 8) (i n : ℕ) (c : Counted s i n) where
-    pub one-counted : (k : ℕ) → i < 8 → ((x : List ℕ) → k ≡ one (getD (gatewayOf s x .places) i none)) → k ≤ 1 → Counted s (i + 1) (n + k)
+    pub one-counted : (k : ℕ) → i < 8 → ((x : List ℕ) → k ≡ countIn (getD (gatewayOf s x .places) i none)) → k ≤ 1 → Counted s (i + 1) (n + k)
     one-counted k h e b = record { up-to = omega arith; count = count; few = omega arith }
       where
         count : (x : List ℕ) → n + k ≡ length (live (take (i + 1) (gatewayOf s x .places)))

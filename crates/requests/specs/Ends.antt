@@ -43,6 +43,6 @@ EndsDecides =
     (buffer : List ℕ) (result : rule.Result) (r s : Called) (x y out other : List ℕ) → Ends buffer r x out result → Ends buffer s y other result
     → (r ≡ s) × (x ≡ y) × (out ≡ other)
 
--- the state as it was, and a reply whose payload is one byte in front of the buffer
+-- the state as it was, and at the buffer's front a reply of five bytes, whose payload is the one byte `kind`
 abbrev pub Answered : ℕ → State → List ℕ → Called → List ℕ → Type 0
 Answered kind state buffer r reply = (r ≡ record { outcome = Reply 5; state = state }) × (reply ≡ write buffer 0 (string (kind ∷ [])))

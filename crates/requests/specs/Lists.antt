@@ -1,4 +1,4 @@
--- What one place adds to a list.
+-- What countIn place adds to a list.
 use Prim.Native.Nat.{ℕ}
 use mathlib.Core.Option.{none, some}
 use mathlib.Core.List.{List, []}
@@ -9,6 +9,6 @@ abbrev pub itemIn : Place → List ℕ
 itemIn none = []
 itemIn (some e) = item e
 
-abbrev pub one : Place → ℕ
-one none = 0
-one (some e) = 1
+abbrev pub countIn : Place → ℕ
+countIn none = 0
+countIn (some e) = 1

@@ -1,6 +1,6 @@
 // Each request once it is past the gate: an outcome and the new state come out, and store and reply buffer hold what the rule says.
-// Its functions require what a call's refusals 1, 3 and 5 have tested: room for the reply, a sound state and store, a signature that is not too
-// long. Only `server::call` calls them, and meets it.
+// Its functions require what a call's refusals 1, 2, 3 and 5 have tested: room for the reply, a sound state and store, a signature that is not too
+// long. Only the call, in crate server, comes here.
 pub mod add;
 pub mod list;
 pub mod lock;

@@ -18,7 +18,7 @@ ghost use Rattle.rule.specs.Calls as rule;
 ghost use Rattle.rule.specs.Calls.{lent, follow};
 ghost use Rattle.table.specs.Meaning.{gatewayOf};
 ghost use Rattle.table.specs.Soundness.{Sound};
-ghost use Rattle.requests.specs.Lists.{one, itemIn};
+ghost use Rattle.requests.specs.Lists.{countIn, itemIn};
 ghost use Rattle.requests.specs.Ends.{Ends};
 
 // What place i adds to the list: nothing where it is free.
@@ -49,7 +49,7 @@ fn put_items(state: State, store: &[u8], reply: &mut [u8], at: usize) -> usize
 
 fn count_at(state: State, i: usize) -> usize
     requires { ⌜ i < 8 ⌝ }
-    ensures { λ r. ⌜ ((x : List ℕ) → r ≡ one (getD (gatewayOf state x .places) i none)) × (r ≤ 1) ⌝ }
+    ensures { λ r. ⌜ ((x : List ℕ) → r ≡ countIn (getD (gatewayOf state x .places) i none)) × (r ≤ 1) ⌝ }
 {
     if places::is_held(state, i) {
         return 1;

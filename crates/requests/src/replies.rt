@@ -1,4 +1,4 @@
-// How a call ends: a reply of five bytes, or nothing written.
+// The short ends of a request: SUCCESS or FAILURE in five bytes, or a close, which writes nothing.
 use crate::Called;
 use crate::Outcome;
 use table::State;

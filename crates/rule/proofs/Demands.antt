@@ -25,7 +25,7 @@ pub as-lent : AsLent
 as-lent g cs = any-order ownFrame ownAnswers g cs (own-kept g cs)
 
 pub demand-3 : Demand3
-demand-3 frames oracles g cs _ keeps = any-order (λ c. frames (c .request)) (λ c. oracles (c .request)) g cs keeps
+demand-3 frames oracles g cs keeps = any-order (λ c. frames (c .request)) (λ c. oracles (c .request)) g cs keeps
 
 -- ## Refused calls drop out
 

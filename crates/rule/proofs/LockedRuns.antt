@@ -13,7 +13,7 @@ use Rattle.rule.specs.Gateway.{Gateway, locked, opened, advance}
 use Rattle.rule.specs.Rule.{Question, gate, Answer, Landing, FAILURE, SUCCESS, Plan, land, ask, fails, unlocking, gated, row, table, rule}
 use Rattle.rule.specs.Calls.{given, Call, asks, Result, call}
 use Rattle.rule.specs.Runs.{heard, heardIn, greatest, Turn, turn, turnsFrom, endOf, Landed, alone}
-use Rattle.rule.specs.Order.{EveryTurn, settled, ownAnswers, Begins, NoUnlocking, EveryQuestion, someAccepted, WhileLocked, LockStores, BetweenLockAndUnlock, Needs, here, behind}
+use Rattle.rule.specs.Order.{EveryTurn, settled, ownAnswers, Begins, NoUnlocking, EveryQuestion, someAccepted, WhileLocked, BetweenLockAndUnlock, Needs, here, behind}
 use Rattle.rule.proofs.Cases.{so-cases, part-cases}
 use Rattle.rule.proofs.Clock.{advance-lock}
 use Rattle.rule.proofs.Plans.{EveryLanding, alone-has, refused-not-asks}
@@ -164,10 +164,7 @@ while-locked g cs h no-unlocking =
 
 -- ## The lock's success
 
-pub lock-stores : LockStores
-lock-stores g c passphrase begins carries e = ap (λ after. after .lock) (lock-holds g c passphrase begins carries e)
-
 pub between-lock-and-unlock : BetweenLockAndUnlock
 between-lock-and-unlock g c passphrase begins carries some-byte e cs =
-    let stored = lock-stores g c passphrase begins carries e in
+    let stored = ap (λ after. after .lock) (lock-holds g c passphrase begins carries e) in
     while-locked (call g c .gateway) cs (rw stored (lt-ltb _ _ some-byte))

@@ -87,7 +87,7 @@ AloneFinds =
 -- "each request keeps its frame, and a question asked twice within it gets one answer": frame and oracle go by the request
 abbrev pub Demand3 : Type 0
 Demand3 =
-    (frames : ℕ → Frame) (oracles : ℕ → Oracle) (g : Gateway) (cs : List Call) → Sound g
+    (frames : ℕ → Frame) (oracles : ℕ → Oracle) (g : Gateway) (cs : List Call)
     → EveryAccepted (Keeps (λ c. frames (c .request)) (λ c. oracles (c .request))) g cs
     → AsOneAtATime (λ c. frames (c .request)) (λ c. oracles (c .request)) g cs
 
@@ -150,12 +150,6 @@ pub record OnlyExpiry (before : Gateway) (cs : List Call) : Type 0 where
 
 abbrev pub WhileLocked : Type 0
 WhileLocked = (g : Gateway) (cs : List Call) → locked g ≡ true → NoUnlocking (turns g cs) → OnlyExpiry g cs
-
--- a LOCK's success stores its passphrase, whole
-abbrev pub LockStores : Type 0
-LockStores =
-    (g : Gateway) (c : Call) (passphrase : List ℕ) → Begins 22 (c .frame .payload) → Carries passphrase (c .frame .payload)
-    → call g c .outcome ≡ lands SUCCESS → call g c .gateway .lock ≡ passphrase
 
 abbrev pub BetweenLockAndUnlock : Type 0
 BetweenLockAndUnlock =

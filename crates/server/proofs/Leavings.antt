@@ -5,7 +5,7 @@ use mathlib.Core.Path.{_≡_, refl, sym, ap, _∙_, subst}
 use mathlib.Core.Logic.{_≢_}
 use mathlib.Core.Bool.{Bool, true, false, not}
 use mathlib.Core.Option.{Option, none, some}
-use mathlib.Core.List.{List}
+use mathlib.Core.List.{List, [], _∷_}
 use native.Mathlib.Omega.{arith}
 use lib.ListN.{length, take, drop}
 use lib.Seq.{drop-at}
@@ -34,13 +34,13 @@ use Rattle.requests.specs.declared.Answers.{Answers}
 use Rattle.requests.specs.declared.Signed.{Signed}
 use Rattle.requests.specs.declared.Signed.the-variants.{Missing, Nothing, Given}
 use Rattle.requests.specs.declared.Called.{Called}
-use Rattle.requests.specs.declared.Outcome.the-variants.{Refused, Reply}
-use Rattle.requests.specs.Outcomes.{signatureOf, lentOf, code, written, outcomeOf}
+use Rattle.requests.specs.declared.Outcome.the-variants.{Refused, Reply, Close}
+use Rattle.requests.specs.Outcomes.{signatureOf, lentOf, code, written, outcomeOf, outcomeValues}
 use Rattle.requests.specs.Ends.{Done, laidOut, Ends}
 use Rattle.server.specs.Calls.{callOf}
-use Rattle.server.specs.Runs.{Meets, NoSecondAnswer, Unchanged, CodeRefusalLeaves, Step, stateAfter, storeAfter, MeetsCall, asCall, outcomeAfter}
+use Rattle.server.specs.Runs.{Meets, endedWith, NoSecondAnswer, Unchanged, CodeRefusalLeaves, Step, stateAfter, storeAfter, MeetsCall, asCall, outcomeAfter}
 use Rattle.server.specs.Runs.{CodeRefusals, OnlyClock, CodeQuestionLeaves, CodeCloseLeaves, CodeFailureLeaves, CodeReplyLeaves, Fills, CodeReplyBytes, CodeOthersStay}
-use Rattle.requests.proofs.OutcomeLaws.{outcomes-read}
+use Rattle.requests.proofs.OutcomeLaws.{outcomes-apart, outcomes-read}
 use Rattle.server.proofs.CallLaws.{sound-passed, refusalHere, refuses-1, refuses-2, refuses-3, refuses-4, refuses-5, none-applies}
 use Rattle.server.proofs.RowSteps.{lent-given}
 
@@ -80,7 +80,7 @@ code-refusal-leaves state store payload reading answers signature buffer done n 
   where
     by : (o : Option ℕ) (g : Gateway) (frame : Frame) (lent : calls.Answers)
         → done ≡ given o (laidOut buffer (served g frame lent)) (refusedDone state store buffer) → Unchanged state store buffer done
-    by none g frame lent is = absurd (served-not-refused buffer done g frame lent n is e)
+    by none g frame lent is = absurd (served-not-refused buffer done g frame lent n is (outcomes-apart _ (Refused n) e))
     by (some number) g frame lent is = rw is (record { state-stays = refl; store-stays = refl; buffer-stays = refl })
 
 -- what the rule gives of a step that is not refused
@@ -150,13 +150,14 @@ module _ (state : State) (store : List ℕ) (k : Step) (m : MeetsCall state stor
   abbrev refusing : ℕ → Called
   refusing n = record { outcome = Refused n; state = state }
 
-  refuses : (n : ℕ) → refusing n ≡ callOf state store (k .payload) (k .reading) (k .answers) (k .signature) (k .buffer) .called → k .done .called .outcome ≡ Refused n
-  refuses n e = ap (λ (c : Called). c .outcome) (m .called-is ∙ sym e)
+  refuses : (n : ℕ) → refusing n ≡ callOf state store (k .payload) (k .reading) (k .answers) (k .signature) (k .buffer) .called → endedWith (k .done) ≡ 0 ∷ n ∷ []
+  refuses n e = ap (λ (c : Called). outcomeValues (c .outcome)) (m .called-is ∙ sym e)
 
-  not-refused : (n : ℕ) → refusalHere state store (k .payload) (k .reading) (k .answers) (k .signature) (k .buffer) ≡ none → k .done .called .outcome ≢ Refused n
-  not-refused n e =
+  not-refused : (n : ℕ) → refusalHere state store (k .payload) (k .reading) (k .answers) (k .signature) (k .buffer) ≡ none → endedWith (k .done) ≢ 0 ∷ n ∷ []
+  not-refused n e v =
       served-not-refused (k .buffer) (k .done) _ _ _ n
       (step-is state store k m ∙ ap (λ (o : Option ℕ). given o (laidOut (k .buffer) (servedHere state store k)) (refusedDone state store (k .buffer))) e)
+      (outcomes-apart _ (Refused n) v)
 
 pub code-refusals : CodeRefusals
 code-refusals state store k eight long m = record {
@@ -240,7 +241,7 @@ close-not-success never = let z : _≡_ {A = ℕ} 0 1 = cc in omega arith
 pub code-close-leaves : CodeCloseLeaves
 unfolding written outcomeOf
 code-close-leaves state store k S m e =
-    let o = ruled-is state store k S m (lands close) (ap (λ o. outcomeOf o (k .done .reply)) e) in
+    let o = ruled-is state store k S m (lands close) (ap (λ o. outcomeOf o (k .done .reply)) (outcomes-apart (k .done .called .outcome) Close e)) in
     record { only-clock = landing-leaves state store k S m close o close-not-success; buffer-stays = wrote state store k S m (lands close) o }
 
 pub code-failure-leaves : CodeFailureLeaves
@@ -249,7 +250,7 @@ code-failure-leaves state store k S m e =
     let o = ruled-is state store k S m (lands FAILURE) e in
     record {
       only-clock = landing-leaves state store k S m FAILURE o (λ never. success-not-failure never refl);
-      outcome = said-length state store k S m _ o;
+      ended = ap outcomeValues (said-length state store k S m _ o);
       buffer = wrote state store k S m (lands FAILURE) o;
     }
 
@@ -257,7 +258,7 @@ pub code-reply-leaves : CodeReplyLeaves
 code-reply-leaves state store k l S m e other = landing-leaves state store k S m l (ruled-is state store k S m (lands l) e) other
 
 pub code-reply-bytes : CodeReplyBytes
-code-reply-bytes state store k n S m e = reply-fills state store k S m n e
+code-reply-bytes state store k n S m e = reply-fills state store k S m n (outcomes-apart _ (Reply n) e)
 
 pub code-others-stay : CodeOthersStay
 unfolding code written
@@ -267,7 +268,7 @@ code-others-stay state store k m never =
     unwritten : (o : calls.Outcome) → k .done .called .outcome ≡ code o → written o (k .buffer) ≡ k .buffer
     unwritten (refused n) e = refl
     unwritten (asks q) e = refl
-    unwritten (lands (reply bytes)) e = absurd (never _ e)
+    unwritten (lands (reply bytes)) e = absurd (never _ (ap outcomeValues e))
     unwritten (lands close) e = refl
 
     by : (o : Option ℕ) (r : Result) → k .done ≡ given o (laidOut (k .buffer) r) (refusedDone state store (k .buffer)) → k .done .reply ≡ k .buffer

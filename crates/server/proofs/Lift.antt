@@ -21,6 +21,7 @@ use Rattle.rule.proofs.PlaceLaws.{some-not-none}
 use Rattle.rule.proofs.RefusalLaws.{refused-by}
 use Rattle.rule.proofs.Crossing.{own-cases}
 use Rattle.rule.proofs.Demands as demands
+use Rattle.rule.proofs.LockLaws.{lock-holds}
 use Rattle.rule.proofs.LockedRuns as locks
 use Rattle.rule.proofs.SoundLaws.{never-refused-3}
 use Rattle.table.specs.declared.State.{State}
@@ -30,7 +31,8 @@ use Rattle.table.proofs.WritingLaws.{sound-meaning}
 use Rattle.requests.specs.declared.Outcome.{Outcome}
 use Rattle.requests.specs.declared.Outcome.the-variants.{Refused, Gate, Check, Confirm, Sign, Reply, Close}
 use Rattle.requests.specs.Outcomes.{outcomeOf}
-use Rattle.server.specs.Runs.{Unchanged}
+use Rattle.requests.proofs.OutcomeLaws.{outcomes-apart}
+use Rattle.server.specs.Runs.{endedWith, Unchanged}
 use Rattle.server.specs.Runs.{Step, MeetsCall, stateAfter, storeAfter, CodeRun, endState, endStore, EveryStep, asCall, RuleRun, IsARun, CodeIsARun}
 use Rattle.server.specs.Runs.{outcomeAfter, isAccepted, Accepted, heardAt, heardOver, turnsOver, turnsOf, askedOver, acceptedOver, acceptedSteps}
 use Rattle.server.specs.Runs.{CodeAsOneAtATime, CodeDemand3, CodeAsLent, CodeRefusedDropOut, NeverFallOver, CodeOwnReadings, CodeOnlyExpiry, CodeWhileLocked, CodeBetweenLockAndUnlock, CodeNeverRefused3, CodePromises}
@@ -213,7 +215,7 @@ code-demand-3 frames oracles state store ks S run keeps =
     let is = code-is-a-run state store ks S run in
     let g = gatewayOf state store in
     as-one-at-a-time state store ks is _ _
-    (demands.demand-3 frames oracles g (map asCall ks) (sound-meaning state store S) (kept-steps (Keeps (λ c. frames (c .request)) (λ c. oracles (c .request))) ks g (is .calls) keeps))
+    (demands.demand-3 frames oracles g (map asCall ks) (kept-steps (Keeps (λ c. frames (c .request)) (λ c. oracles (c .request))) ks g (is .calls) keeps))
 
 pub code-own-readings : CodeOwnReadings
 code-own-readings state store ks S run low =
@@ -232,7 +234,7 @@ pub code-between-lock-and-unlock : CodeBetweenLockAndUnlock
 code-between-lock-and-unlock state store [] lock ks passphrase S run begins carries some-byte e no-unlocking =
     let g = gatewayOf state store in
     let step = step-ends state store S lock (run .0) in
-    let stored = locks.lock-stores g (asCall lock) passphrase begins carries (sym (ended-is lock (call g (asCall lock)) step) ∙ e) in
+    let stored = ap (λ (after : Gateway). after .lock) (lock-holds g (asCall lock) passphrase begins carries (sym (ended-is lock (call g (asCall lock)) step) ∙ e)) in
     let h : locked (gatewayOf (stateAfter lock) (storeAfter lock)) ≡ true = rw (step .means .gateway, stored) (lt-ltb _ _ some-byte) in
     code-while-locked (stateAfter lock) (storeAfter lock) ks (step .means .sound) (run .1) h no-unlocking
 code-between-lock-and-unlock state store (k ∷ before) lock ks passphrase S run begins carries some-byte e no-unlocking =
@@ -241,11 +243,11 @@ code-between-lock-and-unlock state store (k ∷ before) lock ks passphrase S run
 
 -- ## Refusals that never occur
 
-refused-steps : (n : ℕ) (ks : List Step) (g : Gateway) → RuleRun g ks → EveryOutcome (λ o. o ≢ refused n) g (map asCall ks) → EveryStep (λ k. k .done .called .outcome ≢ Refused n) ks
+refused-steps : (n : ℕ) (ks : List Step) (g : Gateway) → RuleRun g ks → EveryOutcome (λ o. o ≢ refused n) g (map asCall ks) → EveryStep (λ k. endedWith (k .done) ≢ 0 ∷ n ∷ []) ks
 unfolding outcomeOf
 refused-steps n [] g run all = tt
 refused-steps n (k ∷ ks) g run all = (
-  (λ e. all .0 (sym (ended-is k (call g (asCall k)) (run .0)) ∙ ap (λ o. outcomeOf o (k .done .reply)) e)),
+  (λ v. all .0 (sym (ended-is k (call g (asCall k)) (run .0)) ∙ ap (λ o. outcomeOf o (k .done .reply)) (outcomes-apart _ (Refused n) v))),
   refused-steps n ks (call g (asCall k) .gateway) (run .1) (all .1),
 )
 

@@ -18,8 +18,7 @@ use Rattle.table.specs.Meaning.{gatewayOf}
 use Rattle.table.specs.Soundness.{Sound, Means}
 use Rattle.requests.specs.declared.Signed.the-variants.{Given}
 use Rattle.requests.specs.declared.Answers.{Answers}
-use Rattle.requests.specs.declared.Outcome.the-variants.{Refused, Reply, Close}
-use Rattle.requests.specs.Outcomes.{lentOf, outcomeOf}
+use Rattle.requests.specs.Outcomes.{lentOf, outcomeOf, outcomeValues}
 use Rattle.requests.specs.Ends.{Done, Ends}
 use Rattle.server.specs.Calls.{calledOf, storeOf, replyOf}
 
@@ -31,6 +30,10 @@ module _ (state : State) (store payload : List ℕ) (reading : Millis) (answers 
     pub called-is : done .called ≡ calledOf state store payload reading answers signature buffer
     pub store-is : done .store ≡ storeOf state store payload reading answers signature buffer
     pub reply-is : done .reply ≡ replyOf state store payload reading answers signature buffer
+
+-- 01's number and values of how a call ended
+abbrev pub endedWith : Done → List ℕ
+endedWith done = outcomeValues (done .called .outcome)
 
 -- "no second answer satisfies the contract"
 abbrev pub NoSecondAnswer : Type 0
@@ -47,7 +50,7 @@ pub record Unchanged (state : State) (store buffer : List ℕ) (done : Done) : T
 abbrev pub CodeRefusalLeaves : Type 0
 CodeRefusalLeaves =
     (state : State) (store payload : List ℕ) (reading : Millis) (answers : Answers) (signature buffer : List ℕ) (done : Done) (n : ℕ)
-    → Meets state store payload reading answers signature buffer done → done .called .outcome ≡ Refused n → Unchanged state store buffer done
+    → Meets state store payload reading answers signature buffer done → endedWith done ≡ 0 ∷ n ∷ [] → Unchanged state store buffer done
 
 -- ## Runs
 
@@ -160,14 +163,14 @@ acceptedOver before (k ∷ ks) = acceptedOver (so before (isAccepted (outcomeAft
 
 -- "Call refusals, first that applies"
 pub record RefusalsInOrder (state : State) (store : List ℕ) (k : Step) : Type 0 where
-  pub first : length (k .buffer) < 8265 → k .done .called .outcome ≡ Refused 1
-  pub second : 8265 ≤ length (k .buffer) → length store ≢ 32768 → k .done .called .outcome ≡ Refused 2
-  pub third : 8265 ≤ length (k .buffer) → length store ≡ 32768 → (Sound state store → ⊥) → k .done .called .outcome ≡ Refused 3
-  pub fourth : 8265 ≤ length (k .buffer) → Sound state store → 262144 < length (k .payload) → k .done .called .outcome ≡ Refused 4
+  pub first : length (k .buffer) < 8265 → endedWith (k .done) ≡ 0 ∷ 1 ∷ []
+  pub second : 8265 ≤ length (k .buffer) → length store ≢ 32768 → endedWith (k .done) ≡ 0 ∷ 2 ∷ []
+  pub third : 8265 ≤ length (k .buffer) → length store ≡ 32768 → (Sound state store → ⊥) → endedWith (k .done) ≡ 0 ∷ 3 ∷ []
+  pub fourth : 8265 ≤ length (k .buffer) → Sound state store → 262144 < length (k .payload) → endedWith (k .done) ≡ 0 ∷ 4 ∷ []
   pub fifth : 8265 ≤ length (k .buffer) → Sound state store → length (k .payload) ≤ 262144
-      → (n : ℕ) → k .answers .signature ≡ Given n → 2048 < length (k .signature) → k .done .called .outcome ≡ Refused 5
+      → (n : ℕ) → k .answers .signature ≡ Given n → 2048 < length (k .signature) → endedWith (k .done) ≡ 0 ∷ 5 ∷ []
   pub accepted : 8265 ≤ length (k .buffer) → Sound state store → length (k .payload) ≤ 262144
-      → ((n : ℕ) → k .answers .signature ≡ Given n → length (k .signature) ≤ 2048) → (n : ℕ) → k .done .called .outcome ≢ Refused n
+      → ((n : ℕ) → k .answers .signature ≡ Given n → length (k .signature) ≤ 2048) → (n : ℕ) → endedWith (k .done) ≢ 0 ∷ n ∷ []
 
 -- on any state and store; the two lengths are the arrays'
 abbrev pub CodeRefusals : Type 0
@@ -191,13 +194,13 @@ CodeQuestionLeaves =
 
 abbrev pub CodeCloseLeaves : Type 0
 CodeCloseLeaves =
-    (state : State) (store : List ℕ) (k : Step) → Sound state store → MeetsCall state store k → k .done .called .outcome ≡ Close
+    (state : State) (store : List ℕ) (k : Step) → Sound state store → MeetsCall state store k → endedWith (k .done) ≡ 6 ∷ []
     → Quiet state store k
 
 -- ".. nor does FAILURE": five bytes, and the reply buffer's others stay
 pub record Failed (state : State) (store : List ℕ) (k : Step) : Type 0 where
   pub only-clock : OnlyClock state store k
-  pub outcome : k .done .called .outcome ≡ Reply 5
+  pub ended : endedWith (k .done) ≡ 5 ∷ 5 ∷ []
   pub buffer : k .done .reply ≡ 0 ∷ 0 ∷ 0 ∷ 1 ∷ 5 ∷ drop 5 (k .buffer)
 
 abbrev pub CodeFailureLeaves : Type 0
@@ -219,13 +222,13 @@ pub record Fills (n : ℕ) (k : Step) : Type 0 where
 
 abbrev pub CodeReplyBytes : Type 0
 CodeReplyBytes =
-    (state : State) (store : List ℕ) (k : Step) (n : ℕ) → Sound state store → MeetsCall state store k → k .done .called .outcome ≡ Reply n
+    (state : State) (store : List ℕ) (k : Step) (n : ℕ) → Sound state store → MeetsCall state store k → endedWith (k .done) ≡ 5 ∷ n ∷ []
     → Fills n k
 
 -- ".. and in other outcomes all its bytes, stay": on any state and store
 abbrev pub CodeOthersStay : Type 0
 CodeOthersStay =
-    (state : State) (store : List ℕ) (k : Step) → MeetsCall state store k → ((n : ℕ) → k .done .called .outcome ≢ Reply n)
+    (state : State) (store : List ℕ) (k : Step) → MeetsCall state store k → ((n : ℕ) → endedWith (k .done) ≢ 5 ∷ n ∷ [])
     → k .done .reply ≡ k .buffer
 
 -- ## Demand 3
@@ -306,8 +309,8 @@ CodeBetweenLockAndUnlock =
 
 -- from a sound state on, neither for the state nor for the store
 pub record NeverUnsound (state : State) (store : List ℕ) (ks : List Step) : Type 0 where
-  pub never-3 : EveryStep (λ k. k .done .called .outcome ≢ Refused 3) ks
-  pub never-2 : EveryStep (λ k. k .done .called .outcome ≢ Refused 2) ks
+  pub never-3 : EveryStep (λ k. endedWith (k .done) ≢ 0 ∷ 3 ∷ []) ks
+  pub never-2 : EveryStep (λ k. endedWith (k .done) ≢ 0 ∷ 2 ∷ []) ks
   pub end-sound : Sound (endState state ks) (endStore store ks)
 
 abbrev pub CodeNeverRefused3 : Type 0

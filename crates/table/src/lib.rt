@@ -1,5 +1,5 @@
 // The gateway's state by value and its key store lent: eight places of 4,096 bytes, the lock record, the kept clock, the next number.
-// Nobody above this crate names an offset or a size of it.
+// Nobody else names an offset in the store or the size of a place; 01's limits stand where they are tested.
 pub mod bytes;
 pub mod changes;
 pub mod locks;

@@ -1,5 +1,6 @@
 // Writing into a lent buffer at a place; all other bytes stay. Each function answers the place behind what it wrote. None refuses, since
-// a refusal halfway would leave a frame half written: whoever writes a frame tests its room, once, before its first byte.
+// a refusal halfway would leave a frame half written: whoever writes a frame tests its room, once, before its first byte. A string's length has
+// four bytes, so `put_string` also wants fewer than 2^32 of them: whoever calls it has a limit far below, or cut them out of a string.
 ghost use mathlib.Core.Path.{_≡_};
 ghost use mathlib.Core.List.{[], _∷_};
 ghost use Prim.Native.Nat.{_+_, _≤_, _<_, _^_};
