@@ -30,7 +30,7 @@ use Rattle.table.specs.Soundness.{Means}
 use Rattle.table.proofs.WritingLaws.{sound-meaning}
 use Rattle.requests.specs.declared.Outcome.{Outcome}
 use Rattle.requests.specs.declared.Outcome.the-variants.{Refused, Gate, Check, Confirm, Sign, Reply, Close}
-use Rattle.requests.specs.Outcomes.{outcomeOf}
+use Rattle.requests.specs.Outcomes.{outcomeOf, outcomeValues}
 use Rattle.requests.proofs.OutcomeLaws.{outcomes-apart}
 use Rattle.server.specs.Runs.{endedWith, Unchanged}
 use Rattle.server.specs.Runs.{Step, MeetsCall, stateAfter, storeAfter, CodeRun, endState, endStore, EveryStep, asCall, RuleRun, IsARun, CodeIsARun}
@@ -145,7 +145,7 @@ drop-out (k ∷ ks) m state store run =
     (λ _. alike-with m state store k _ ks (run .0) (drop-out ks (heardAt m k) (stateAfter k) (storeAfter k) (run .1)))
     (λ no-step.
     let (n, e) = refused-by-name (k .done .called .outcome) (k .done .reply) no-step in
-    let u = code-refusal-leaves state store (k .payload) (k .reading) (k .answers) (k .signature) (k .buffer) (k .done) n (run .0) e in
+    let u = code-refusal-leaves state store (k .payload) (k .reading) (k .answers) (k .signature) (k .buffer) (k .done) n (run .0) (ap outcomeValues e) in
     alike-without m state store k _ ks (run .0) n e u (drop-out ks m state store (rw (u .state-stays, u .store-stays) at (run .1))))
 
 pub code-refused-drop-out : CodeRefusedDropOut
@@ -247,7 +247,7 @@ refused-steps : (n : ℕ) (ks : List Step) (g : Gateway) → RuleRun g ks → Ev
 unfolding outcomeOf
 refused-steps n [] g run all = tt
 refused-steps n (k ∷ ks) g run all = (
-  (λ v. all .0 (sym (ended-is k (call g (asCall k)) (run .0)) ∙ ap (λ o. outcomeOf o (k .done .reply)) (outcomes-apart _ (Refused n) v))),
+  (λ v. all .0 (sym (ended-is k (call g (asCall k)) (run .0)) ∙ ap (λ o. outcomeOf o (k .done .reply)) (outcomes-apart (k .done .called .outcome) (Refused n) v))),
   refused-steps n ks (call g (asCall k) .gateway) (run .1) (all .1),
 )
 
