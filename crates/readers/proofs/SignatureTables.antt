@@ -17,12 +17,14 @@ use Rattle.wire.proofs.Reading.{le-or-lt}
 use Rattle.keys.proofs.FieldLaws.{Lies, lies-cut, lies-bytes, behind, found, At, inside, string-stands, string-reads}
 use Rattle.rule.specs.Order.{Begins}
 use Rattle.rule.proofs.Cases.{part-cases}
-use Rattle.client.specs.declared.Refusal.the-variants.{Malformed, UnfitType}
+use Rattle.client.specs.declared.Refusal.the-variants.{OutputTooShort, Malformed, UnfitType}
+use Rattle.client.specs.declared.Wrote.{Wrote}
 use Rattle.client.specs.Values.{refuses, wroteSays}
+use Rattle.client.proofs.WriterTables.{granted}
 use Rattle.readers.specs.declared.signature.Signature.{Signature}
 use Rattle.readers.specs.declared.signature.Signature.the-variants.{Whole}
 use Rattle.readers.specs.Runs.{run}
-use Rattle.readers.specs.Signatures.{fits, startsIn, signatureEnd, signatureAt, replyAt, wroteOf, signatureAnswer}
+use Rattle.readers.specs.Signatures.{fits, startsIn, signatureEnd, signatureAt, replyAt, stringAnswer, stringLeft, wroteOf, leftOf, signatureAnswer, signatureLeft}
 use Rattle.readers.specs.Promises.{Fitting, CarriesSignature, Typed, SignatureTable}
 use Rattle.readers.proofs.ReadSteps.{run-cases}
 use Rattle.readers.proofs.FormLaws.{text-reads, took}
@@ -140,6 +142,22 @@ module _ (payload : List ℕ) (hash : ℕ) (out : List ℕ) (small : Bytes paylo
         shape = typed .shape ∙ ap (λ (v : List ℕ). 14 ∷ (string v ++ typed .behind)) split;
       })))
 
+-- ## Refusals
+
+module _ (payload : List ℕ) (hash : ℕ) (out : List ℕ) (n : ℕ) where
+  short-left : (b : Bool) (m : ℕ) (left : List ℕ) → wroteSays (so (Wrote.Refused OutputTooShort) b (Wrote.Written m)) ≡ refuses n → so out b left ≡ out
+  unfolding so
+  short-left true m left e = granted e
+  short-left false m left e = refl
+
+  refused-left : wroteSays (signatureAnswer payload hash out) ≡ refuses n → signatureLeft payload hash out ≡ out
+  unfolding signatureAnswer signatureLeft stringAnswer stringLeft
+  refused-left = go (replyAt payload hash)
+    where
+      go : (r : Signature) → wroteSays (wroteOf payload out r) ≡ refuses n → leftOf payload out r ≡ out
+      go (Whole f t) e = short-left _ _ _ e
+      go (Signature.Refused why) e = refl
+
 pub signature-table : SignatureTable
 signature-table payload hash out small = record {
   failure = failed hash out payload;
@@ -149,4 +167,5 @@ signature-table payload hash out small = record {
   no-signature = none-there payload hash out small;
   short = λ t signature fit c h. ap wroteSays (signature-rule payload hash t signature out small fit c .short h);
   written = λ t signature fit c h. ap wroteSays (signature-rule payload hash t signature out small fit c .written h);
+  untouched = refused-left payload hash out;
 }

@@ -154,7 +154,7 @@ pub record Typed (payload t : List ℕ) : Type 0 where
   pub small : length (string t ++ rest) < 2 ^ 32
   pub shape : payload ≡ 14 ∷ (string (string t ++ rest) ++ behind)
 
--- when each answer comes: "signature 14, 15, 12 (up to t), 13, 12, 11"
+-- when each answer comes: "signature 14, 15, 12 (up to t), 13, 12, 11"; and no refusal touches the output
 pub record SignatureSays (payload : List ℕ) (hash : ℕ) (out : List ℕ) : Type 0 where
   pub failure : Begins 5 payload → wroteSays (signatureAnswer payload hash out) ≡ refuses 14
   pub other : (Begins 5 payload → ⊥) → (Begins 14 payload → ⊥) → wroteSays (signatureAnswer payload hash out) ≡ refuses 15
@@ -166,6 +166,7 @@ pub record SignatureSays (payload : List ℕ) (hash : ℕ) (out : List ℕ) : Ty
       → wroteSays (signatureAnswer payload hash out) ≡ refuses 11
   pub written : (t signature : List ℕ) → Fitting hash t → CarriesSignature payload t signature → length (string signature) ≤ length out
       → wroteSays (signatureAnswer payload hash out) ≡ grants (length (string signature))
+  pub untouched : (n : ℕ) → wroteSays (signatureAnswer payload hash out) ≡ refuses n → signatureLeft payload hash out ≡ out
 
 abbrev pub SignatureTable : Type 0
 SignatureTable = (payload : List ℕ) (hash : ℕ) (out : List ℕ) → Bytes payload → SignatureSays payload hash out
