@@ -3,11 +3,12 @@ use Prim.Native.Nat.{ℕ, suc, _≤_, _<_}
 use mathlib.Core.Path.{_≡_, refl, ap}
 use mathlib.Core.List.{List, [], _∷_, _++_}
 use mathlib.Core.Logic.{_⊎_, inl, inr, ⊎-elim}
-use borrow.Author.Tests.{lt-ltb, le-ltb, ne-eqb}
+use native.Mathlib.Omega.{arith}
+use borrow.Author.Tests.{le-leb, lt-ltb, le-ltb, ne-eqb}
 use lib.Dec.{ltb, eqb}
 use lib.ListN.{length, getD}
 use Rattle.wire.specs.Numbers.{Bytes}
-use Rattle.wire.specs.Read.{numberAt}
+use Rattle.wire.specs.Read.{cutOf, numberAt}
 use Rattle.wire.specs.Steps.{so, part}
 use Rattle.wire.proofs.Format.{number-form}
 use Rattle.keys.proofs.FieldLaws.{lies-cut, inside}
@@ -17,9 +18,10 @@ use Rattle.client.specs.Refusals.{refusalNumber}
 use Rattle.client.specs.Values.{grants, refuses}
 use Rattle.client.proofs.WriterTables.{granted, not-granted}
 use Rattle.readers.specs.declared.identities.Listing.{Listing}
+use Rattle.readers.specs.declared.identities.Item.{Item}
 use Rattle.readers.specs.Runs.{run}
 use Rattle.readers.specs.Values.{listingSays, itemSays}
-use Rattle.readers.specs.Identities.{itemsAt, countOf, counted, itemAt, itemOf, certificate}
+use Rattle.readers.specs.Identities.{itemsAt, countOf, counted, itemAt, itemOf, itemBlob, blobOfItem, certificate}
 use Rattle.readers.specs.Promises.{ListForm, ListTable, ItemTable, ListingsApart}
 use Rattle.readers.proofs.ReadSteps.{run-cases}
 use Rattle.readers.proofs.ReadRoundTrips.{some-there, forms-at, lists-counted, count-rule}
@@ -89,9 +91,19 @@ item-there p blobs i small l h =
     let (place, q, a) = forms-at s small 5 (l .rest) (l .whole) r i h in
     rw (lists-counted p blobs (bytes-tail 12 p small) l, lt-ltb i (length blobs) h, q, a .read, lies-cut (inside a))
 
+-- no part is handed out of a refused item
+item-empty : (payload : List ℕ) (i n : ℕ) → itemSays payload (itemOf payload i) ≡ refuses n → blobOfItem payload i ≡ []
+unfolding blobOfItem cutOf
+item-empty payload i n = go (itemOf payload i)
+  where
+    go : (r : Item) → itemSays payload r ≡ refuses n → itemBlob payload r ≡ []
+    go (Item.Blob f t c) e = granted e
+    go (Item.Refused why) e = rw (le-leb 0 (length payload) (omega arith))
+
 pub item-table : ItemTable
 item-table payload i small = record {
   faulty = item-refused payload i 12;
   beyond = item-beyond payload i;
   item = λ p blobs e l h. rw e (item-there p blobs i (rw e at small) l h);
+  else-empty = item-empty payload i;
 }

@@ -55,11 +55,13 @@ pub record ListSays (payload : List ℕ) : Type 0 where
 abbrev pub ListTable : Type 0
 ListTable = (payload : List ℕ) → Bytes payload → ListSays payload
 
+-- and of each item; its blob is "empty unless granted"
 pub record ItemSays (payload : List ℕ) (i : ℕ) : Type 0 where
   pub faulty : listingSays (countOf payload) ≡ refuses 12 → itemSays payload (itemOf payload i) ≡ refuses 12
   pub beyond : (n : ℕ) → listingSays (countOf payload) ≡ grants n → n ≤ i → itemSays payload (itemOf payload i) ≡ refuses 16
   pub item : (p : List ℕ) (blobs : List (List ℕ)) → payload ≡ 12 ∷ p → ListForm p blobs → i < length blobs
       → itemSays payload (itemOf payload i) ≡ grants (record { blob = getD blobs i []; marked = certificate (getD blobs i []) })
+  pub else-empty : (n : ℕ) → itemSays payload (itemOf payload i) ≡ refuses n → blobOfItem payload i ≡ []
 
 abbrev pub ItemTable : Type 0
 ItemTable = (payload : List ℕ) (i : ℕ) → Bytes payload → ItemSays payload i
