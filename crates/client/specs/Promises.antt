@@ -61,8 +61,8 @@ pub record Sent (payload out left : List ℕ) (n : ℕ) : Type 0 where
 
 -- a writer sends its payload, or leaves the output as it was
 pub record Writes (payload out : List ℕ) (answer : Wrote) (left : List ℕ) : Type 0 where
-  pub sent : (n : ℕ) → answer ≡ Written n → Sent payload out left n
-  pub untouched : (r : Refusal) → answer ≡ Refused r → left ≡ out
+  pub sent : (n : ℕ) → wroteSays answer ≡ grants n → Sent payload out left n
+  pub untouched : (n : ℕ) → wroteSays answer ≡ refuses n → left ≡ out
 
 abbrev pub WriterRule : Type 0
 WriterRule = (payload out : List ℕ) → Writes payload out (answered payload out) (filled payload out)

@@ -20,7 +20,7 @@ use Rattle.client.proofs.WriterTables.{granted, not-granted}
 use Rattle.readers.specs.declared.identities.Listing.{Listing}
 use Rattle.readers.specs.declared.identities.Item.{Item}
 use Rattle.readers.specs.Runs.{run}
-use Rattle.readers.specs.Values.{listingSays, itemSays}
+use Rattle.readers.specs.Values.{listingSays, Identity, itemSays}
 use Rattle.readers.specs.Identities.{itemsAt, countOf, counted, itemAt, itemOf, itemBlob, blobOfItem, certificate}
 use Rattle.readers.specs.Promises.{ListForm, ListTable, ItemTable, ListingsApart}
 use Rattle.readers.proofs.ReadSteps.{run-cases}
@@ -36,8 +36,19 @@ listing-refused : (a : Listing) (n : ℕ) → listingSays a ≡ refuses n → (r
 listing-refused (Listing.Count m) n e = granted e
 listing-refused (Listing.Refused r) n e = let q : refusalNumber r ≡ n = cc in (r, refl, q)
 
+item-blob : (payload : List ℕ) (a : Item) (x : Identity) → itemSays payload a ≡ grants x
+    → (f : ℕ) × (t : ℕ) × (a ≡ Item.Blob f t (x .marked)) × (cutOf payload f t ≡ x .blob)
+item-blob payload (Item.Blob f t c) x e =
+    let q : record { blob = cutOf payload f t; marked = c } ≡ x = cc in
+    (f, t, ap (λ (y : Identity). Item.Blob f t (y .marked)) q, ap (λ (y : Identity). y .blob) q)
+item-blob payload (Item.Refused r) x e = not-granted e
+
+item-number : (payload : List ℕ) (a : Item) (n : ℕ) → itemSays payload a ≡ refuses n → (r : Refusal) × (a ≡ Item.Refused r) × (refusalNumber r ≡ n)
+item-number payload (Item.Blob f t c) n e = granted e
+item-number payload (Item.Refused r) n e = let q : refusalNumber r ≡ n = cc in (r, refl, q)
+
 pub listings-apart : ListingsApart
-listings-apart = record { counted = listing-count; list-refused = listing-refused }
+listings-apart = record { counted = listing-count; list-refused = listing-refused; item = item-blob; item-refused = item-number }
 
 -- ## The list of keys
 
@@ -45,10 +56,10 @@ bytes-tail : (b : ℕ) (p : List ℕ) → Bytes (b ∷ p) → Bytes p
 bytes-tail b p small i = small (suc i)
 
 -- no other refusal comes
-count-or-fault : (payload : List ℕ) → ((n : ℕ) × (countOf payload ≡ Listing.Count n)) ⊎ (listingSays (countOf payload) ≡ refuses 12)
+count-or-fault : (payload : List ℕ) → ((n : ℕ) × (listingSays (countOf payload) ≡ grants n)) ⊎ (listingSays (countOf payload) ≡ refuses 12)
 unfolding countOf
 count-or-fault payload =
-    let P : Listing → Type 0 = λ r. ((n : ℕ) × (r ≡ Listing.Count n)) ⊎ (listingSays r ≡ refuses 12) in
+    let P : Listing → Type 0 = λ r. ((n : ℕ) × (listingSays r ≡ grants n)) ⊎ (listingSays r ≡ refuses 12) in
     so-cases P (ltb 0 (length payload))
     (λ _. so-cases P (eqb (getD payload 0 0) 12)
     (λ _. number-cases P (numberAt payload 1) (λ _ _. inr refl) λ n k _.

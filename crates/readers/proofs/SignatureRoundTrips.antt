@@ -23,8 +23,9 @@ use Rattle.wire.proofs.Laws.{byte-rule, answers-apart}
 use Rattle.keys.proofs.FieldLaws.{Lies, lies-join, lies-cut, lies-split, lies-bytes, behind, found, At, inside, string-stands, string-reads}
 use Rattle.rule.specs.Rule.{signatureReply}
 use Rattle.rule.proofs.Cases.{so-cases, part-cases, number-cases, true-not-false}
-use Rattle.client.specs.declared.Wrote.the-variants.{Written}
+use Rattle.client.specs.Values.{grants, wroteSays}
 use Rattle.client.proofs.ByteLaws.{bytes-cons, string-bytes}
+use Rattle.client.proofs.WriterTables.{not-granted}
 use Rattle.readers.specs.declared.Run.{Run}
 use Rattle.readers.specs.declared.Run.the-variants.{End}
 use Rattle.readers.specs.declared.signature.Signature.{Signature}
@@ -117,9 +118,9 @@ unfolding signatureAnswer signatureLeft
 replied-writes payload hash signature out r =
     let fits = string-fits signature out (length (string signature)) (write out 0 (string signature)) in
     record {
-      written = λ h. rw (r .found, r .cut) (sym (fits (omega arith) (omega arith) refl .0));
+      written = λ h. rw (r .found, r .cut) (ap wroteSays (sym (fits (omega arith) (omega arith) refl .0)));
       left = λ h. rw (r .found, r .cut) (sym (fits (omega arith) (omega arith) refl .1));
-      short = λ h. rw (r .found, r .cut) (sym (string-short signature out (omega arith) .0));
+      short = λ h. rw (r .found, r .cut) (ap wroteSays (sym (string-short signature out (omega arith) .0)));
       untouched = λ h. rw (r .found, r .cut) (sym (string-short signature out (omega arith) .1));
     }
 
@@ -244,13 +245,13 @@ reply-taken (b ∷ p) hash f end small =
     (λ _. refused)
 
 -- an answer that is a length comes of a signature that was found
-answer-found : (payload : List ℕ) (hash : ℕ) (out : List ℕ) (n : ℕ) → Bytes payload → signatureAnswer payload hash out ≡ Written n → Answered hash payload
+answer-found : (payload : List ℕ) (hash : ℕ) (out : List ℕ) (n : ℕ) → Bytes payload → wroteSays (signatureAnswer payload hash out) ≡ grants n → Answered hash payload
 unfolding signatureAnswer
 answer-found payload hash out n small = go (replyAt payload hash) refl
   where
-    go : (r : Signature) → replyAt payload hash ≡ r → wroteOf payload out r ≡ Written n → Answered hash payload
+    go : (r : Signature) → replyAt payload hash ≡ r → wroteSays (wroteOf payload out r) ≡ grants n → Answered hash payload
     go (Whole f end) e q = reply-taken payload hash f end small e
-    go (Signature.Refused why) e q = let z : _≡_ {A = ℕ} 0 1 = cc in absurd (omega arith)
+    go (Signature.Refused why) e q = not-granted q
 
 pub written-rule : WrittenRule
 written-rule payload hash out n small = (
@@ -259,7 +260,7 @@ written-rule payload hash out n small = (
       let w = signature-rule payload hash t signature out small fit c in
       ⊎-elim
       (λ (h : length (string signature) ≤ length out). let q = w .written h in let p : length (string signature) ≡ n = cc in (t, signature, fit, c, p, omega arith))
-      (λ (h : length out < length (string signature)). let q = w .short h in let z : _≡_ {A = ℕ} 0 1 = cc in absurd (omega arith))
+      (λ (h : length out < length (string signature)). not-granted (sym (w .short h) ∙ e))
       (le-or-lt (length (string signature)) (length out))),
-  (λ (t, signature, fit, c, p, h). signature-rule payload hash t signature out small fit c .written (omega arith) ∙ ap Written p),
+  (λ (t, signature, fit, c, p, h). signature-rule payload hash t signature out small fit c .written (omega arith) ∙ ap grants p),
 )

@@ -165,7 +165,7 @@ signature-table payload hash out small = record {
   no-type = no-type-there hash out payload small;
   unfit = unfit-there payload hash out small;
   no-signature = none-there payload hash out small;
-  short = λ t signature fit c h. ap wroteSays (signature-rule payload hash t signature out small fit c .short h);
-  written = λ t signature fit c h. ap wroteSays (signature-rule payload hash t signature out small fit c .written h);
+  short = λ t signature fit c h. signature-rule payload hash t signature out small fit c .short h;
+  written = λ t signature fit c h. signature-rule payload hash t signature out small fit c .written h;
   untouched = refused-left payload hash out;
 }
