@@ -5,7 +5,7 @@ use mathlib.Core.Path.{_≡_}
 use mathlib.Core.List.{List, [], _++_}
 use lib.ListN.{length, take, drop}
 use Rattle.wire.specs.declared.Constraint.{Constraint}
-use Rattle.wire.specs.declared.Split.the-variants.{MoreNeeded, TooLong, Frame}
+use Rattle.wire.specs.declared.Split.{Split}
 use Rattle.wire.specs.declared.read.Cursor.{Cursor}
 use Rattle.wire.specs.declared.read.Number.{Number}
 use Rattle.wire.specs.declared.read.Part.the-variants.{Whole}
@@ -14,6 +14,7 @@ use Rattle.wire.specs.Abnf.{Octets}
 use Rattle.wire.specs.Read.{cutOf, numberAt, stringAt}
 use Rattle.wire.specs.Write.{string}
 use Rattle.wire.specs.Frames.{splitOf, framePayload}
+use Rattle.wire.specs.Promises.{OneToOne}
 use Rattle.rule.specs.Order.{Begins, Carries}
 use Rattle.rule.specs.Content.{SignRequest}
 use Rattle.client.specs.declared.Refusal.{Refusal}
@@ -21,14 +22,18 @@ use Rattle.client.specs.declared.Refusal.the-variants.{OutputTooShort, M
 use Rattle.client.specs.declared.Wrote.{Wrote}
 use Rattle.client.specs.declared.Wrote.the-variants.{Written, Refused}
 use Rattle.client.specs.Refusals.{refusalNumber}
-use Rattle.client.specs.Values.{grants, refuses, wroteSays}
+use Rattle.client.specs.Values.{splitNumber, grants, refuses, wroteSays}
 use Rattle.client.specs.Requests.{requestIdentities, signRequest, lockRequest, unlockRequest, plainSmartcard, constrainedSmartcard, removeSmartcard, addSmartcard, answered, filled, removeSmartcardAnswer, removeSmartcardLeft, addSmartcardAnswer, addSmartcardLeft}
 
 -- ## Frames
 
+-- the number of the splitter's answer tells it from the others
+abbrev pub SplitsApart : Type 0
+SplitsApart = OneToOne Split ℕ splitNumber
+
 -- the splitter says that a frame is whole, and hands out its payload
 pub record Holds (s payload : List ℕ) : Type 0 where
-  pub frame : splitOf s ≡ Frame
+  pub frame : splitNumber (splitOf s) ≡ 2
   pub payload-is : framePayload s ≡ payload
 
 -- a payload's frame alone, and with more bytes behind it
@@ -42,11 +47,11 @@ Splits = (payload : List ℕ) → length payload ≤ 262144 → SplitsBack paylo
 -- what the splitter says of any bytes: under 4 of them; a length above 262,144, with however many behind it; fewer bytes than the length
 -- announces; and all of them. Unless a frame is whole, its payload is empty
 pub record SplitSays (s : List ℕ) : Type 0 where
-  pub few : length s < 4 → splitOf s ≡ MoreNeeded
-  pub long : (n : ℕ) (rest : List ℕ) → s ≡ be32 n ++ rest → n < 2 ^ 32 → 262144 < n → splitOf s ≡ TooLong
-  pub short : (n : ℕ) (rest : List ℕ) → s ≡ be32 n ++ rest → n ≤ 262144 → length rest < n → splitOf s ≡ MoreNeeded
+  pub few : length s < 4 → splitNumber (splitOf s) ≡ 0
+  pub long : (n : ℕ) (rest : List ℕ) → s ≡ be32 n ++ rest → n < 2 ^ 32 → 262144 < n → splitNumber (splitOf s) ≡ 1
+  pub short : (n : ℕ) (rest : List ℕ) → s ≡ be32 n ++ rest → n ≤ 262144 → length rest < n → splitNumber (splitOf s) ≡ 0
   pub whole : (n : ℕ) (rest : List ℕ) → s ≡ be32 n ++ rest → n ≤ 262144 → n ≤ length rest → Holds s (take n rest)
-  pub else-empty : (splitOf s ≡ Frame → ⊥) → framePayload s ≡ []
+  pub else-empty : (splitNumber (splitOf s) ≡ 2 → ⊥) → framePayload s ≡ []
 
 abbrev pub SplitTable : Type 0
 SplitTable = (s : List ℕ) → SplitSays s
