@@ -27,7 +27,7 @@ use Rattle.client.specs.Requests.{signRequest, removeSmartcardAnswer, re
 use Rattle.client.specs.Promises.{Holds, Splits, Sent, Writes, WriterRule, RemoveSmartcardRule, AddSmartcardRule, placeless, RefusalsApart, ListRead, LockRead, UnlockRead, SignRead}
 use Rattle.client.proofs.ByteLaws.{bytes-cons, bytes-append, be32-bytes, string-bytes}
 use Rattle.client.proofs.WriteLaws.{Met, Stage, stage, untouched}
-use Rattle.client.proofs.WriterTables.{not-granted, says-apart}
+use Rattle.client.proofs.WriterTables.{not-granted, wrote-apart}
 
 -- ## Frames
 
@@ -80,8 +80,8 @@ module _ (p out : List ℕ) (n : ℕ) (left : List ℕ) (s : Stage (length p) p 
 module _ (p out : List ℕ) (answer : Wrote) (left : List ℕ) (e : Met (length p) p out answer left) where
   writes : Writes p out answer left
   writes = record {
-    sent = λ n f. sent p out n left (stage (length p) p out answer left e n (says-apart .written answer n f));
-    untouched = λ n f. let (r, g, _) = says-apart .writer-refused answer n f in untouched (length p) p out answer left e r g;
+    sent = λ n f. sent p out n left (stage (length p) p out answer left e n (wrote-apart .written answer n f));
+    untouched = λ n f. let (r, g, _) = wrote-apart .refused answer n f in untouched (length p) p out answer left e r g;
   }
 
 pub writer-rule : WriterRule

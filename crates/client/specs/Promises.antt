@@ -115,9 +115,9 @@ AddSmartcardTable = (id pin : List ℕ) (cs : List Constraint) (count : ℕ) (ou
 -- ## Refusals
 
 -- the values of a writer's answer tell whether it is a refusal, and which number it has
-pub record SaysApart : Type 0 where
+pub record WroteApart : Type 0 where
   pub written : (a : Wrote) (n : ℕ) → wroteSays a ≡ grants n → a ≡ Written n
-  pub writer-refused : (a : Wrote) (n : ℕ) → wroteSays a ≡ refuses n → (r : Refusal) × (a ≡ Refused r) × (refusalNumber r ≡ n)
+  pub refused : (a : Wrote) (n : ℕ) → wroteSays a ≡ refuses n → (r : Refusal) × (a ≡ Refused r) × (refusalNumber r ≡ n)
 
 -- a refusal without the place of its fault
 abbrev pub placeless : Refusal → Refusal
