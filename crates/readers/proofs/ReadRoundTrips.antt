@@ -21,14 +21,14 @@ use Rattle.rule.proofs.Cases.{part-cases, number-cases}
 use Rattle.client.specs.Values.{grants}
 use Rattle.client.proofs.ByteLaws.{bytes-cons, bytes-append, be32-bytes, string-bytes}
 use Rattle.client.proofs.WriterTables.{not-granted}
-use Rattle.readers.specs.declared.Run.{Run}
-use Rattle.readers.specs.declared.Run.the-variants.{End}
+use Rattle.readers.specs.declared.Reach.{Reach}
+use Rattle.readers.specs.declared.Reach.the-variants.{End}
 use Rattle.readers.specs.declared.identities.Listing.{Listing}
-use Rattle.readers.specs.Runs.{run}
+use Rattle.readers.specs.Reaches.{reach}
 use Rattle.readers.specs.Values.{listingSays}
 use Rattle.readers.specs.Identities.{itemsAt, countOf, counted, itemAt, itemOf, blobOfItem, certificate, certificateEnd}
 use Rattle.readers.specs.Promises.{ItemForms, item, ListForm, CountRule, ItemRule, blobsOf, ListedIs, ListReplyRead, Marked, MarkRule}
-use Rattle.readers.proofs.ReadSteps.{run-cases, fault}
+use Rattle.readers.proofs.ReadSteps.{reach-cases, fault}
 use Rattle.readers.proofs.FormLaws.{lies-next, ends-rule, text-reads, took}
 
 -- ## Items
@@ -85,7 +85,7 @@ walked-forms s small zero at end h = λ e.
     let p : at ≡ end = cc in
     record { blobs = []; forms = []; as-many = refl; whole = ItemForms.none; lies = rw (← p) (lies-none at h) }
 walked-forms s small (suc n) at end h =
-    let P : Run → Type 0 = λ r. r ≡ End end → Walked s (suc n) at end in
+    let P : Reach → Type 0 = λ r. r ≡ End end → Walked s (suc n) at end in
     part-cases P (stringAt s at) (λ _ _. fault) λ f t k e.
     part-cases P (textAt s (k .at)) (λ _ _. fault) λ g u l d q.
     let x = took small {at = at} (string-reads small) f t k e in
@@ -112,7 +112,7 @@ counted-lists p n small =
     let P : Listing → Type 0 = λ r. listingSays r ≡ grants n → (blobs : List (List ℕ)) × ListForm p blobs × (length blobs ≡ n) in
     rw (some-there 12 p)
     (number-cases P (numberAt s 1) (λ _ _. not-granted) λ m k e.
-    run-cases P (itemsAt m s (k .at)) (λ _. not-granted) λ end d q.
+    reach-cases P (itemsAt m s (k .at)) (λ _. not-granted) λ end d q.
     let w = number-read s 1 m k e in
     let r = walked-forms s (twelve p small) m 5 end (omega arith) (rw (w .place) at d) in
     let many : length (r .blobs) ≡ n = (let c : m ≡ n = cc in r .as-many ∙ c) in
@@ -129,7 +129,7 @@ counted-lists p n small =
     ))
 
 pub lists-counted : (p : List ℕ) (blobs : List (List ℕ)) → Bytes p → ListForm p blobs → countOf (12 ∷ p) ≡ Listing.Count (length blobs)
-unfolding countOf so number run
+unfolding countOf so number reach
 lists-counted p blobs small l =
     let s : List ℕ = 12 ∷ p in
     let (e, r) = number-form s 1 (length blobs) (l .forms ++ l .rest) (twelve p small) (l .few) .0 (l .shape) in
@@ -139,7 +139,7 @@ pub count-rule : CountRule
 count-rule p n small = (counted-lists p n small, λ (blobs, l, e). rw (← e) (ap listingSays (lists-counted p blobs small l)))
 
 pub item-rule : ItemRule
-unfolding blobOfItem itemOf counted so run itemAt part
+unfolding blobOfItem itemOf counted so reach itemAt part
 item-rule p blobs small l i h =
     let s : List ℕ = 12 ∷ p in
     let (e, r) = number-form s 1 (length blobs) (l .forms ++ l .rest) (twelve p small) (l .few) .0 (l .shape) in

@@ -19,11 +19,11 @@ use Rattle.client.specs.Values.{grants, refuses}
 use Rattle.client.proofs.WriterTables.{granted, not-granted}
 use Rattle.readers.specs.declared.identities.Listing.{Listing}
 use Rattle.readers.specs.declared.identities.Item.{Item}
-use Rattle.readers.specs.Runs.{run}
+use Rattle.readers.specs.Reaches.{reach}
 use Rattle.readers.specs.Values.{listingSays, Identity, itemSays}
 use Rattle.readers.specs.Identities.{itemsAt, countOf, counted, itemAt, itemOf, itemBlob, blobOfItem, certificate}
 use Rattle.readers.specs.Promises.{ListForm, ListTable, ItemTable, ListingsApart}
-use Rattle.readers.proofs.ReadSteps.{run-cases}
+use Rattle.readers.proofs.ReadSteps.{reach-cases}
 use Rattle.readers.proofs.ReadRoundTrips.{some-there, forms-at, lists-counted, count-rule}
 
 -- ## Values
@@ -63,7 +63,7 @@ count-or-fault payload =
     so-cases P (ltb 0 (length payload))
     (λ _. so-cases P (eqb (getD payload 0 0) 12)
     (λ _. number-cases P (numberAt payload 1) (λ _ _. inr refl) λ n k _.
-    run-cases P (itemsAt n payload (k .at)) (λ _. inr refl) λ _ _. inl (n, refl))
+    reach-cases P (itemsAt n payload (k .at)) (λ _. inr refl) λ _ _. inl (n, refl))
     (λ _. inl (0, refl)))
     (λ _. inl (0, refl))
 
@@ -95,7 +95,7 @@ item-beyond payload i n e h = rw (listings-apart .counted (countOf payload) n e,
 
 item-there : (p : List ℕ) (blobs : List (List ℕ)) (i : ℕ) → Bytes (12 ∷ p) → ListForm p blobs → i < length blobs
     → itemSays (12 ∷ p) (itemOf (12 ∷ p) i) ≡ grants (record { blob = getD blobs i []; marked = certificate (getD blobs i []) })
-unfolding itemOf counted so run itemAt part
+unfolding itemOf counted so reach itemAt part
 item-there p blobs i small l h =
     let s : List ℕ = 12 ∷ p in
     let (e, r) = number-form s 1 (length blobs) (l .forms ++ l .rest) small (l .few) .0 (l .shape) in

@@ -23,10 +23,10 @@ use Rattle.client.specs.Values.{refuses, wroteSays}
 use Rattle.client.proofs.WriterTables.{granted}
 use Rattle.readers.specs.declared.signature.Signature.{Signature}
 use Rattle.readers.specs.declared.signature.Signature.the-variants.{Whole}
-use Rattle.readers.specs.Runs.{run}
+use Rattle.readers.specs.Reaches.{reach}
 use Rattle.readers.specs.Signatures.{fits, startsIn, signatureEnd, signatureAt, replyAt, stringAnswer, stringLeft, wroteOf, leftOf, signatureAnswer, signatureLeft}
 use Rattle.readers.specs.Promises.{Fitting, CarriesSignature, Typed, SignatureTable}
-use Rattle.readers.proofs.ReadSteps.{run-cases}
+use Rattle.readers.proofs.ReadSteps.{reach-cases}
 use Rattle.readers.proofs.FormLaws.{text-reads, took}
 use Rattle.readers.proofs.SignatureRoundTrips.{fit-rule, signature-rule, end-taken}
 
@@ -99,7 +99,7 @@ record Continues (payload : List ℕ) (hash : ℕ) (t rest : List ℕ) : Type 0 
   lies : Lies (14 ∷ string (string t ++ rest)) 5 (string t) (behind 5 t)
   goes-on : replyAt payload hash
       ≡ so (Signature.Refused UnfitType) (fits hash t)
-      (run (λ place. Signature.Refused (Malformed place)) (signatureEnd (14 ∷ string (string t ++ rest)) (behind 5 t) (startsIn t (bytes "sk-"))) (λ end. Whole 5 end))
+      (reach (λ place. Signature.Refused (Malformed place)) (signatureEnd (14 ∷ string (string t ++ rest)) (behind 5 t) (startsIn t (bytes "sk-"))) (λ end. Whole 5 end))
 
 continues : (hash : ℕ) (t rest tail : List ℕ) → Octets t → length (string t ++ rest) < 2 ^ 32 → Bytes (14 ∷ (string (string t ++ rest) ++ tail))
     → Continues (14 ∷ (string (string t ++ rest) ++ tail)) hash t rest
@@ -130,7 +130,7 @@ module _ (payload : List ℕ) (hash : ℕ) (out : List ℕ) (small : Bytes paylo
       let s : List ℕ = 14 ∷ string (string t ++ typed .rest) in
       let c = typed-continues in
       rw (c .goes-on, fit-rule hash t .1 fit)
-      (run-cases (λ (r : Signature). wroteSays (wroteOf payload out r) ≡ refuses 12) (signatureEnd s (behind 5 t) (startsIn t (bytes "sk-"))) (λ _. refl) λ end e.
+      (reach-cases (λ (r : Signature). wroteSays (wroteOf payload out r) ≡ refuses 12) (signatureEnd s (behind 5 t) (startsIn t (bytes "sk-"))) (λ _. refl) λ end e.
       let y = end-taken s (c .small) 5 (behind 5 t) t end (typed .text) (c .lies) e in
       let split : string t ++ typed .rest ≡ y .signature ++ drop end s = y .lies .shape in
       absurd (never (y .signature)
