@@ -119,7 +119,7 @@ fn reply_at(payload: &[u8], hash: u32) -> Signature
     signature_at(cut(payload, 0, to), from, hash)
 }
 
-// Writes a signature as a string to the front of the output.
+// Writes a signature as a string to the front of the output. `write_signature` cuts it out of a string, whose length has four bytes.
 fn put_signature(v: &[u8], out: &mut [u8]) -> Wrote
     requires { ⌜ length (now v) < 2 ^ 32 ⌝ }
     ensures { λ r. ⌜ (r ≡ stringAnswer (now (v .entry)) (now (out .entry))) × (now (out .exit) ≡ stringLeft (now (v .entry)) (now (out .entry))) ⌝ }
