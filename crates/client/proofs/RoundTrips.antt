@@ -13,6 +13,7 @@ use Rattle.wire.specs.declared.read.Number.{Number}
 use Rattle.wire.specs.Numbers.{Bytes, be32}
 use Rattle.wire.specs.Read.{cutOf, numberAt}
 use Rattle.wire.specs.Steps.{so, number}
+use Rattle.wire.specs.Values.{numberReads, partReads}
 use Rattle.wire.specs.Write.{write, string}
 use Rattle.wire.specs.Frames.{splitOf, framePayload}
 use Rattle.wire.proofs.Reading.{number-there, cut-there}
@@ -168,10 +169,10 @@ sign-read blob bytes flags hb hd lb ld lf =
       key = record { from = _; to = _; next = record { at = 1 + 4 + length blob }; read = r .0; is = r .1 };
       from = _;
       to = _;
-      next = record { at = 1 + 4 + length blob + 4 + length bytes };
+      next = 1 + 4 + length blob + 4 + length bytes;
       end = _;
-      data-read = s .0;
+      data-read = ap partReads (s .0);
       data-is = s .1;
-      flags-read = n .0;
+      flags-read = ap numberReads (n .0);
       form = record { rest = []; short = lf; shape = refl };
     }

@@ -6,12 +6,10 @@ use mathlib.Core.List.{List, [], _++_}
 use lib.ListN.{length, take, drop}
 use Rattle.wire.specs.declared.Constraint.{Constraint}
 use Rattle.wire.specs.declared.Split.{Split}
-use Rattle.wire.specs.declared.read.Cursor.{Cursor}
-use Rattle.wire.specs.declared.read.Number.{Number}
-use Rattle.wire.specs.declared.read.Part.the-variants.{Whole}
 use Rattle.wire.specs.Numbers.{Bytes, be32}
 use Rattle.wire.specs.Abnf.{Octets}
 use Rattle.wire.specs.Read.{cutOf, numberAt, stringAt}
+use Rattle.wire.specs.Values.{read, numberReads, partReads}
 use Rattle.wire.specs.Write.{string}
 use Rattle.wire.specs.Frames.{splitOf, framePayload}
 use Rattle.wire.specs.Promises.{OneToOne}
@@ -151,11 +149,11 @@ pub record SignReads (payload blob bytes : List ℕ) (flags : ℕ) : Type 0 wher
   pub key : Carries blob payload
   pub from : ℕ
   pub to : ℕ
-  pub next : Cursor
-  pub end : Cursor
-  pub data-read : stringAt payload (key .next .at) ≡ Whole from to next
+  pub next : ℕ
+  pub end : ℕ
+  pub data-read : partReads (stringAt payload (key .next .at)) ≡ read (record { from = from; to = to }) next
   pub data-is : cutOf payload from to ≡ bytes
-  pub flags-read : numberAt payload (next .at) ≡ Number.Value flags end
+  pub flags-read : numberReads (numberAt payload next) ≡ read flags end
   pub form : SignRequest payload blob bytes flags
 
 abbrev pub SignRead : Type 0
