@@ -4,6 +4,6 @@ pub mod ByteLaws
 pub mod WriteLaws
 pub mod ConstraintLaws
 pub mod SmartcardLaws
-pub mod RoundTrips
 pub mod WriterTables
+pub mod RoundTrips
 pub mod SplitTables

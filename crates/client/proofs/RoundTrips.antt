@@ -13,6 +13,7 @@ use Rattle.wire.specs.declared.read.Number.{Number}
 use Rattle.wire.specs.Numbers.{Bytes, be32}
 use Rattle.wire.specs.Read.{cutOf, numberAt}
 use Rattle.wire.specs.Steps.{so, number}
+use Rattle.wire.specs.Values.{numberReads, partReads}
 use Rattle.wire.specs.Write.{write, string}
 use Rattle.wire.specs.Frames.{splitOf, framePayload}
 use Rattle.wire.proofs.Reading.{number-there, cut-there}
@@ -27,6 +28,7 @@ use Rattle.client.specs.Requests.{signRequest, removeSmartcardAnswer, re
 use Rattle.client.specs.Promises.{Holds, Splits, Sent, Writes, WriterRule, RemoveSmartcardRule, AddSmartcardRule, placeless, RefusalsApart, ListRead, LockRead, UnlockRead, SignRead}
 use Rattle.client.proofs.ByteLaws.{bytes-cons, bytes-append, be32-bytes, string-bytes}
 use Rattle.client.proofs.WriteLaws.{Met, Stage, stage, untouched}
+use Rattle.client.proofs.WriterTables.{not-granted, wrote-apart}
 
 -- ## Frames
 
@@ -78,7 +80,10 @@ module _ (p out : List ℕ) (n : ℕ) (left : List ℕ) (s : Stage (length p) p 
 
 module _ (p out : List ℕ) (answer : Wrote) (left : List ℕ) (e : Met (length p) p out answer left) where
   writes : Writes p out answer left
-  writes = record { sent = λ n f. sent p out n left (stage (length p) p out answer left e n f); untouched = λ r f. untouched (length p) p out answer left e r f }
+  writes = record {
+    sent = λ n f. sent p out n left (stage (length p) p out answer left e n (wrote-apart .written answer n f));
+    untouched = λ n f. let (r, g, _) = wrote-apart .refused answer n f in untouched (length p) p out answer left e r g;
+  }
 
 pub writer-rule : WriterRule
 writer-rule p out = writes p out _ _ (refl, refl)
@@ -87,7 +92,7 @@ writer-rule p out = writes p out _ _ (refl, refl)
 tested : (p out : List ℕ) (r : Refusal) (b : Bool) (answer : Wrote) (left : List ℕ) → Writes p out answer left → Writes p out (so (Refused r) b answer) (so out b left)
 unfolding so
 tested p out r true answer left w = w
-tested p out r false answer left w = record { sent = λ n e. (let z : _≡_ {A = ℕ} 0 1 = cc in absurd (omega arith)); untouched = λ k e. refl }
+tested p out r false answer left w = record { sent = λ n e. not-granted e; untouched = λ n e. refl }
 
 pub remove-smartcard-rule : RemoveSmartcardRule
 unfolding removeSmartcardAnswer removeSmartcardLeft
@@ -164,10 +169,10 @@ sign-read blob bytes flags hb hd lb ld lf =
       key = record { from = _; to = _; next = record { at = 1 + 4 + length blob }; read = r .0; is = r .1 };
       from = _;
       to = _;
-      next = record { at = 1 + 4 + length blob + 4 + length bytes };
+      next = 1 + 4 + length blob + 4 + length bytes;
       end = _;
-      data-read = s .0;
+      data-read = ap partReads (s .0);
       data-is = s .1;
-      flags-read = n .0;
+      flags-read = ap numberReads (n .0);
       form = record { rest = []; short = lf; shape = refl };
     }

@@ -1,4 +1,4 @@
--- When each answer of the splitter comes: four bytes are there or not, and their number is what stands in front. Nothing is assumed of the bytes.
+-- The splitter's answers told apart, and when each comes: four bytes are there or not, and their number is what stands in front. Nothing is assumed of the bytes.
 use Prim.Native.Nat.{ℕ, _+_, _^_, _≤_, _<_}
 use mathlib.Core.Path.{_≡_, refl, sym, ap, _∙_}
 use mathlib.Core.List.{List, [], _++_}
@@ -6,7 +6,9 @@ use mathlib.Core.Logic.{⊎-elim}
 use native.Mathlib.Omega.{arith}
 use native.Mathlib.Nat.{add-sub-cancel-left}
 use borrow.Author.Tests.{le-leb, lt-leb}
+use lib.Dec.{eqb}
 use lib.ListN.{length, take}
+use Rattle.wire.specs.declared.Split.{Split}
 use Rattle.wire.specs.declared.Split.the-variants.{MoreNeeded, TooLong, Frame}
 use Rattle.wire.specs.declared.read.Number.{Number}
 use Rattle.wire.specs.Numbers.{be32, beAt}
@@ -15,19 +17,36 @@ use Rattle.wire.specs.Steps.{so, number}
 use Rattle.wire.specs.Frames.{splitOf, framePayload}
 use Rattle.wire.proofs.Reading.{le-or-lt, number-there, number-cut, cut-there}
 use Rattle.wire.proofs.Format.{be-written}
-use Rattle.client.specs.Promises.{Holds, SplitTable}
+use Rattle.client.specs.Values.{splitNumber}
+use Rattle.client.specs.Promises.{SplitsApart, Holds, SplitTable}
+
+-- ## Values
+
+splitFor : ℕ → Split
+splitFor n = so (so MoreNeeded (eqb n 1) TooLong) (eqb n 2) Frame
+
+split-for : (x : Split) → splitFor (splitNumber x) ≡ x
+unfolding splitFor so
+split-for MoreNeeded = refl
+split-for TooLong = refl
+split-for Frame = refl
+
+pub splits-apart : SplitsApart
+splits-apart a b e = sym (split-for a) ∙ ap splitFor e ∙ split-for b
+
+-- ## The table
 
 -- a length and what stands behind it
 module _ (n : ℕ) (rest : List ℕ) (small : n < 2 ^ 32) where
   length-read : numberAt (be32 n ++ rest) 0 ≡ Number.Value n (record { at = 4 })
   length-read = sym (number-there (be32 n ++ rest) 0 (omega arith)) ∙ ap (λ (i : ℕ). Number.Value i (record { at = 4 })) (be-written (be32 n ++ rest) 0 n rest small refl)
 
-  split-long : 262144 < n → splitOf (be32 n ++ rest) ≡ TooLong
+  split-long : 262144 < n → splitNumber (splitOf (be32 n ++ rest)) ≡ 1
   unfolding splitOf number so
   split-long h = rw (length-read, lt-leb n 262144 h)
 
   module _ (h : n ≤ 262144) where
-    split-short : length rest < n → splitOf (be32 n ++ rest) ≡ MoreNeeded
+    split-short : length rest < n → splitNumber (splitOf (be32 n ++ rest)) ≡ 0
     unfolding splitOf number so
     split-short l = rw (length-read, le-leb n 262144 h, lt-leb (4 + n) (length (be32 n ++ rest)) (omega arith))
 
@@ -41,11 +60,11 @@ module _ (n : ℕ) (rest : List ℕ) (small : n < 2 ^ 32) where
         }
 
 module _ (s : List ℕ) where
-  split-few : length s < 4 → splitOf s ≡ MoreNeeded
+  split-few : length s < 4 → splitNumber (splitOf s) ≡ 0
   unfolding splitOf number
   split-few h = rw (← number-cut s 0 h)
 
-  split-empty : (splitOf s ≡ Frame → ⊥) → framePayload s ≡ []
+  split-empty : (splitNumber (splitOf s) ≡ 2 → ⊥) → framePayload s ≡ []
   unfolding splitOf framePayload number so
   split-empty never =
       ⊎-elim

@@ -16,7 +16,7 @@ use Rattle.client.specs.declared.Wrote.the-variants.{Written, Refused}
 use Rattle.client.specs.Refusals.{refusalNumber}
 use Rattle.client.specs.Values.{grants, refuses, wroteSays}
 use Rattle.client.specs.Requests.{headAnswer, plainSmartcard, constrainedSmartcard, removeSmartcard, addSmartcard, removeSmartcardAnswer, addSmartcardAnswer}
-use Rattle.client.specs.Promises.{WriterTable, RemoveSmartcardTable, AddSmartcardTable, SaysApart}
+use Rattle.client.specs.Promises.{WriterTable, RemoveSmartcardTable, AddSmartcardTable, WroteApart}
 
 -- ## Values
 
@@ -35,8 +35,8 @@ wrote-refused : (a : Wrote) (n : ℕ) → wroteSays a ≡ refuses n → (r : Ref
 wrote-refused (Written m) n e = granted e
 wrote-refused (Refused r) n e = let q : refusalNumber r ≡ n = cc in (r, refl, q)
 
-pub says-apart : SaysApart
-says-apart = record { written = wrote-written; writer-refused = wrote-refused }
+pub wrote-apart : WroteApart
+wrote-apart = record { written = wrote-written; refused = wrote-refused }
 
 -- ## Frames
 

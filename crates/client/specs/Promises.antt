@@ -5,15 +5,14 @@ use mathlib.Core.Path.{_≡_}
 use mathlib.Core.List.{List, [], _++_}
 use lib.ListN.{length, take, drop}
 use Rattle.wire.specs.declared.Constraint.{Constraint}
-use Rattle.wire.specs.declared.Split.the-variants.{MoreNeeded, TooLong, Frame}
-use Rattle.wire.specs.declared.read.Cursor.{Cursor}
-use Rattle.wire.specs.declared.read.Number.{Number}
-use Rattle.wire.specs.declared.read.Part.the-variants.{Whole}
+use Rattle.wire.specs.declared.Split.{Split}
 use Rattle.wire.specs.Numbers.{Bytes, be32}
 use Rattle.wire.specs.Abnf.{Octets}
 use Rattle.wire.specs.Read.{cutOf, numberAt, stringAt}
+use Rattle.wire.specs.Values.{read, numberReads, partReads}
 use Rattle.wire.specs.Write.{string}
 use Rattle.wire.specs.Frames.{splitOf, framePayload}
+use Rattle.wire.specs.Promises.{OneToOne}
 use Rattle.rule.specs.Order.{Begins, Carries}
 use Rattle.rule.specs.Content.{SignRequest}
 use Rattle.client.specs.declared.Refusal.{Refusal}
@@ -21,14 +20,18 @@ use Rattle.client.specs.declared.Refusal.the-variants.{OutputTooShort, M
 use Rattle.client.specs.declared.Wrote.{Wrote}
 use Rattle.client.specs.declared.Wrote.the-variants.{Written, Refused}
 use Rattle.client.specs.Refusals.{refusalNumber}
-use Rattle.client.specs.Values.{grants, refuses, wroteSays}
+use Rattle.client.specs.Values.{splitNumber, grants, refuses, wroteSays}
 use Rattle.client.specs.Requests.{requestIdentities, signRequest, lockRequest, unlockRequest, plainSmartcard, constrainedSmartcard, removeSmartcard, addSmartcard, answered, filled, removeSmartcardAnswer, removeSmartcardLeft, addSmartcardAnswer, addSmartcardLeft}
 
 -- ## Frames
 
+-- the number of the splitter's answer tells it from the others
+abbrev pub SplitsApart : Type 0
+SplitsApart = OneToOne Split ℕ splitNumber
+
 -- the splitter says that a frame is whole, and hands out its payload
 pub record Holds (s payload : List ℕ) : Type 0 where
-  pub frame : splitOf s ≡ Frame
+  pub frame : splitNumber (splitOf s) ≡ 2
   pub payload-is : framePayload s ≡ payload
 
 -- a payload's frame alone, and with more bytes behind it
@@ -42,11 +45,11 @@ Splits = (payload : List ℕ) → length payload ≤ 262144 → SplitsBack paylo
 -- what the splitter says of any bytes: under 4 of them; a length above 262,144, with however many behind it; fewer bytes than the length
 -- announces; and all of them. Unless a frame is whole, its payload is empty
 pub record SplitSays (s : List ℕ) : Type 0 where
-  pub few : length s < 4 → splitOf s ≡ MoreNeeded
-  pub long : (n : ℕ) (rest : List ℕ) → s ≡ be32 n ++ rest → n < 2 ^ 32 → 262144 < n → splitOf s ≡ TooLong
-  pub short : (n : ℕ) (rest : List ℕ) → s ≡ be32 n ++ rest → n ≤ 262144 → length rest < n → splitOf s ≡ MoreNeeded
+  pub few : length s < 4 → splitNumber (splitOf s) ≡ 0
+  pub long : (n : ℕ) (rest : List ℕ) → s ≡ be32 n ++ rest → n < 2 ^ 32 → 262144 < n → splitNumber (splitOf s) ≡ 1
+  pub short : (n : ℕ) (rest : List ℕ) → s ≡ be32 n ++ rest → n ≤ 262144 → length rest < n → splitNumber (splitOf s) ≡ 0
   pub whole : (n : ℕ) (rest : List ℕ) → s ≡ be32 n ++ rest → n ≤ 262144 → n ≤ length rest → Holds s (take n rest)
-  pub else-empty : (splitOf s ≡ Frame → ⊥) → framePayload s ≡ []
+  pub else-empty : (splitNumber (splitOf s) ≡ 2 → ⊥) → framePayload s ≡ []
 
 abbrev pub SplitTable : Type 0
 SplitTable = (s : List ℕ) → SplitSays s
@@ -61,8 +64,8 @@ pub record Sent (payload out left : List ℕ) (n : ℕ) : Type 0 where
 
 -- a writer sends its payload, or leaves the output as it was
 pub record Writes (payload out : List ℕ) (answer : Wrote) (left : List ℕ) : Type 0 where
-  pub sent : (n : ℕ) → answer ≡ Written n → Sent payload out left n
-  pub untouched : (r : Refusal) → answer ≡ Refused r → left ≡ out
+  pub sent : (n : ℕ) → wroteSays answer ≡ grants n → Sent payload out left n
+  pub untouched : (n : ℕ) → wroteSays answer ≡ refuses n → left ≡ out
 
 abbrev pub WriterRule : Type 0
 WriterRule = (payload out : List ℕ) → Writes payload out (answered payload out) (filled payload out)
@@ -110,9 +113,9 @@ AddSmartcardTable = (id pin : List ℕ) (cs : List Constraint) (count : ℕ) (ou
 -- ## Refusals
 
 -- the values of a writer's answer tell whether it is a refusal, and which number it has
-pub record SaysApart : Type 0 where
+pub record WroteApart : Type 0 where
   pub written : (a : Wrote) (n : ℕ) → wroteSays a ≡ grants n → a ≡ Written n
-  pub writer-refused : (a : Wrote) (n : ℕ) → wroteSays a ≡ refuses n → (r : Refusal) × (a ≡ Refused r) × (refusalNumber r ≡ n)
+  pub refused : (a : Wrote) (n : ℕ) → wroteSays a ≡ refuses n → (r : Refusal) × (a ≡ Refused r) × (refusalNumber r ≡ n)
 
 -- a refusal without the place of its fault
 abbrev pub placeless : Refusal → Refusal
@@ -146,11 +149,11 @@ pub record SignReads (payload blob bytes : List ℕ) (flags : ℕ) : Type 0 wher
   pub key : Carries blob payload
   pub from : ℕ
   pub to : ℕ
-  pub next : Cursor
-  pub end : Cursor
-  pub data-read : stringAt payload (key .next .at) ≡ Whole from to next
+  pub next : ℕ
+  pub end : ℕ
+  pub data-read : partReads (stringAt payload (key .next .at)) ≡ read (record { from = from; to = to }) next
   pub data-is : cutOf payload from to ≡ bytes
-  pub flags-read : numberAt payload (next .at) ≡ Number.Value flags end
+  pub flags-read : numberReads (numberAt payload next) ≡ read flags end
   pub form : SignRequest payload blob bytes flags
 
 abbrev pub SignRead : Type 0

@@ -1,6 +1,6 @@
 // The client's side: frames and request writers, and the refusals that they share with the reply readers.
 pub mod frame;
-pub mod requests;
+pub mod writers;
 
 // Why a reader or a writer refuses; its output is then untouched. 01's numbers are in specs/Refusals.antt.
 pub enum Refusal {

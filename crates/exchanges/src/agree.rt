@@ -1,4 +1,4 @@
-// Whether the client answers what is expected, each over plain bytes.
+// Whether client and readers answer what is expected, each over plain bytes.
 use crate::parts::Entry;
 use crate::parts::Piece;
 use crate::parts::Request;
@@ -7,12 +7,12 @@ use client::Refusal;
 use client::Wrote;
 use client::frame::frame_payload;
 use client::frame::read_frame;
-use client::requests::add_smartcard_key;
-use client::requests::lock;
-use client::requests::prepare_sign_request;
-use client::requests::remove_smartcard_key;
-use client::requests::request_identities;
-use client::requests::unlock;
+use client::writers::add_smartcard_key;
+use client::writers::lock;
+use client::writers::prepare_sign_request;
+use client::writers::remove_smartcard_key;
+use client::writers::request_identities;
+use client::writers::unlock;
 use readers::identities::Item;
 use readers::identities::Listing;
 use readers::identities::identities;

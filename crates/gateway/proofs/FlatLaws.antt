@@ -7,8 +7,6 @@ use mathlib.Core.Logic.{⊎-elim}
 use native.Mathlib.Omega.{arith}
 use borrow.Author.Tests.{le-leb, lt-leb}
 use lib.ListN.{length}
-use lib.Dec.{eqb}
-use Rattle.wire.specs.declared.Split.{Split}
 use Rattle.wire.specs.declared.Split.the-variants.{MoreNeeded, TooLong, Frame}
 use Rattle.wire.specs.Steps.{so, number}
 use Rattle.wire.specs.Numbers.{beAt}
@@ -25,7 +23,7 @@ use Rattle.requests.specs.declared.Signed.the-variants as signed
 use Rattle.requests.specs.declared.Outcome.the-variants.{Refused, Gate, Check, Confirm, Sign, Reply, Close}
 use Rattle.requests.proofs.OutcomeLaws.{outcomes-apart}
 use Rattle.gateway.specs.Flat.{saidOf, confirmedOf, signedOf, answersOf, flatOf, flatSplit, splitAs}
-use Rattle.gateway.specs.Promises.{OthersMissing, saidNumber, confirmedNumber, confirmedFor, signedNumber, signedFor, EveryAnswer, flatValues, SameValues, FlatApart, splitNumber, SplitsApart, SplitsAs, SplitRule}
+use Rattle.gateway.specs.Promises.{OthersMissing, saidNumber, confirmedNumber, confirmedFor, signedNumber, signedFor, EveryAnswer, flatValues, SameValues, FlatApart, SplitsAs, SplitRule}
 use Rattle.gateway.proofs.FlatSteps.{told-nothing}
 
 -- ## Answers
@@ -76,18 +74,6 @@ pub flat-apart : FlatApart
 flat-apart a b e = outcomes-apart a b (sym (same-values a) ∙ ap flatValues e ∙ same-values b)
 
 -- ## The split
-
-splitFor : ℕ → Split
-splitFor n = so (so MoreNeeded (eqb n 1) TooLong) (eqb n 2) Frame
-
-split-for : (x : Split) → splitFor (splitNumber x) ≡ x
-unfolding splitFor so
-split-for MoreNeeded = refl
-split-for TooLong = refl
-split-for Frame = refl
-
-pub splits-apart : SplitsApart
-splits-apart a b e = sym (split-for a) ∙ ap splitFor e ∙ split-for b
 
 module _ (s : List ℕ) where
   nothing : cutOf s 0 0 ≡ []

@@ -5,8 +5,6 @@ use mathlib.Core.Bool.{Bool, true, false}
 use mathlib.Core.List.{List, [], _∷_}
 use lib.ListN.{length}
 use lib.Dec.{eqb}
-use Rattle.wire.specs.declared.Split.{Split}
-use Rattle.wire.specs.declared.Split.the-variants.{MoreNeeded, TooLong, Frame}
 use Rattle.wire.specs.Steps.{so}
 use Rattle.wire.specs.Read.{cutOf}
 use Rattle.wire.specs.Frames.{splitOf, framePayload}
@@ -24,6 +22,7 @@ use Rattle.requests.specs.declared.Outcome.{Outcome}
 use Rattle.requests.specs.Outcomes.{outcomeValues}
 use Rattle.server.specs.Calls.{calledOf, storeOf, replyOf}
 use Rattle.server.specs.Runs.{Meets}
+use Rattle.client.specs.Values.{splitNumber}
 use Rattle.gateway.specs.declared.flat.FlatAnswers.{FlatAnswers}
 use Rattle.gateway.specs.declared.flat.FlatOutcome.{FlatOutcome}
 use Rattle.gateway.specs.Flat.{saidOf, confirmedOf, signedOf, answersOf, flatOf, flatSplit}
@@ -124,14 +123,6 @@ LentMeets =
     → Meets state store payload reading answers signature buffer (record { called = record { outcome = outcome; state = after }; store = storeAfter; reply = replyAfter })
 
 -- ## The split
-
-abbrev pub splitNumber : Split → ℕ
-splitNumber MoreNeeded = 0
-splitNumber TooLong = 1
-splitNumber Frame = 2
-
-abbrev pub SplitsApart : Type 0
-SplitsApart = OneToOne Split ℕ splitNumber
 
 -- the split's number, and a part of s that is its payload and nothing else
 pub record SplitsAs (s : List ℕ) : Type 0 where

@@ -18,15 +18,17 @@ use Rattle.keys.proofs.FieldLaws.{Lies, lies-none, lies-cut, behind, found, At,
 use Rattle.rule.specs.Gateway.{Entry}
 use Rattle.rule.specs.Rule.{items, listed}
 use Rattle.rule.proofs.Cases.{part-cases, number-cases}
-use Rattle.client.specs.declared.Refusal.{Refusal}
+use Rattle.client.specs.Values.{grants}
 use Rattle.client.proofs.ByteLaws.{bytes-cons, bytes-append, be32-bytes, string-bytes}
-use Rattle.readers.specs.declared.Run.{Run}
-use Rattle.readers.specs.declared.Run.the-variants.{End}
+use Rattle.client.proofs.WriterTables.{not-granted}
+use Rattle.readers.specs.declared.Reach.{Reach}
+use Rattle.readers.specs.declared.Reach.the-variants.{End}
 use Rattle.readers.specs.declared.identities.Listing.{Listing}
-use Rattle.readers.specs.Runs.{run}
+use Rattle.readers.specs.Reaches.{reach}
+use Rattle.readers.specs.Values.{listingSays}
 use Rattle.readers.specs.Identities.{itemsAt, countOf, counted, itemAt, itemOf, blobOfItem, certificate, certificateEnd}
 use Rattle.readers.specs.Promises.{ItemForms, item, ListForm, CountRule, ItemRule, blobsOf, ListedIs, ListReplyRead, Marked, MarkRule}
-use Rattle.readers.proofs.ReadSteps.{run-cases, fault}
+use Rattle.readers.proofs.ReadSteps.{reach-cases, fault}
 use Rattle.readers.proofs.FormLaws.{lies-next, ends-rule, text-reads, took}
 
 -- ## Items
@@ -83,7 +85,7 @@ walked-forms s small zero at end h = λ e.
     let p : at ≡ end = cc in
     record { blobs = []; forms = []; as-many = refl; whole = ItemForms.none; lies = rw (← p) (lies-none at h) }
 walked-forms s small (suc n) at end h =
-    let P : Run → Type 0 = λ r. r ≡ End end → Walked s (suc n) at end in
+    let P : Reach → Type 0 = λ r. r ≡ End end → Walked s (suc n) at end in
     part-cases P (stringAt s at) (λ _ _. fault) λ f t k e.
     part-cases P (textAt s (k .at)) (λ _ _. fault) λ g u l d q.
     let x = took small {at = at} (string-reads small) f t k e in
@@ -103,17 +105,14 @@ twelve p small = bytes-cons 12 p (omega arith) small
 pub some-there : (b : ℕ) (p : List ℕ) → ltb 0 (length (b ∷ p)) ≡ true
 some-there b p = lt-ltb 0 (length (b ∷ p)) (omega arith)
 
-refused : {why : Refusal} {n : ℕ} {A : Type 0} → Listing.Refused why ≡ Listing.Count n → A
-refused e = let z : _≡_ {A = ℕ} 0 1 = cc in absurd (omega arith)
-
-counted-lists : (p : List ℕ) (n : ℕ) → Bytes p → countOf (12 ∷ p) ≡ Listing.Count n → (blobs : List (List ℕ)) × ListForm p blobs × (length blobs ≡ n)
+counted-lists : (p : List ℕ) (n : ℕ) → Bytes p → listingSays (countOf (12 ∷ p)) ≡ grants n → (blobs : List (List ℕ)) × ListForm p blobs × (length blobs ≡ n)
 unfolding countOf so
 counted-lists p n small =
     let s : List ℕ = 12 ∷ p in
-    let P : Listing → Type 0 = λ r. r ≡ Listing.Count n → (blobs : List (List ℕ)) × ListForm p blobs × (length blobs ≡ n) in
+    let P : Listing → Type 0 = λ r. listingSays r ≡ grants n → (blobs : List (List ℕ)) × ListForm p blobs × (length blobs ≡ n) in
     rw (some-there 12 p)
-    (number-cases P (numberAt s 1) (λ _ _. refused) λ m k e.
-    run-cases P (itemsAt m s (k .at)) (λ _. refused) λ end d q.
+    (number-cases P (numberAt s 1) (λ _ _. not-granted) λ m k e.
+    reach-cases P (itemsAt m s (k .at)) (λ _. not-granted) λ end d q.
     let w = number-read s 1 m k e in
     let r = walked-forms s (twelve p small) m 5 end (omega arith) (rw (w .place) at d) in
     let many : length (r .blobs) ≡ n = (let c : m ≡ n = cc in r .as-many ∙ c) in
@@ -130,17 +129,17 @@ counted-lists p n small =
     ))
 
 pub lists-counted : (p : List ℕ) (blobs : List (List ℕ)) → Bytes p → ListForm p blobs → countOf (12 ∷ p) ≡ Listing.Count (length blobs)
-unfolding countOf so number run
+unfolding countOf so number reach
 lists-counted p blobs small l =
     let s : List ℕ = 12 ∷ p in
     let (e, r) = number-form s 1 (length blobs) (l .forms ++ l .rest) (twelve p small) (l .few) .0 (l .shape) in
     rw (some-there 12 p, e, forms-passed s (twelve p small) 5 (l .rest) (l .whole) r)
 
 pub count-rule : CountRule
-count-rule p n small = (counted-lists p n small, λ (blobs, l, e). rw (← e) (lists-counted p blobs small l))
+count-rule p n small = (counted-lists p n small, λ (blobs, l, e). rw (← e) (ap listingSays (lists-counted p blobs small l)))
 
 pub item-rule : ItemRule
-unfolding blobOfItem itemOf counted so run itemAt part
+unfolding blobOfItem itemOf counted so reach itemAt part
 item-rule p blobs small l i h =
     let s : List ℕ = 12 ∷ p in
     let (e, r) = number-form s 1 (length blobs) (l .forms ++ l .rest) (twelve p small) (l .few) .0 (l .shape) in
@@ -173,7 +172,7 @@ list-reply-read es h few =
     let n : length (blobsOf es) ≡ length es = length-map es (λ e. e .blob) in
     let l : ListForm p (blobsOf es) =
     record { forms = items es; rest = []; few = omega arith; whole = items-form es (λ i. h i .1); shape = rw (n, append-nil) refl } in
-    record { count = rw n at (lists-counted p (blobsOf es) small l); blobs = λ i k. item-rule p (blobsOf es) small l i (omega arith) }
+    record { count = rw n at (ap listingSays (lists-counted p (blobsOf es) small l)); blobs = λ i k. item-rule p (blobsOf es) small l i (omega arith) }
 
 -- ## The mark
 

@@ -1,4 +1,4 @@
--- What `search all` is handed here: the wire's steps, how a definition goes on behind a run and a count, and what calls answered; and the cases of a run.
+-- What `search all` is handed here: the wire's steps, how a definition goes on behind a reach and a count, and what calls answered; and a reach's cases.
 use Prim.Native.Nat.{ℕ}
 use mathlib.Core.Path.{_≡_, refl}
 use mathlib.Core.List.{List}
@@ -10,23 +10,23 @@ use Rattle.wire.specs.Read.{same}
 use Rattle.wire.specs.Steps.{byte}
 use Rattle.wire.proofs.Steps.{so-yes, so-no, number-fault, number-value, part-fault, part-whole, plain, some-yes, some-no, eqb-yes, eqb-no, all as wire-all}
 use Rattle.client.specs.declared.Refusal.{Refusal}
-use Rattle.readers.specs.declared.Run.{Run}
-use Rattle.readers.specs.declared.Run.the-variants.{End, Fault}
+use Rattle.readers.specs.declared.Reach.{Reach}
+use Rattle.readers.specs.declared.Reach.the-variants.{End, Fault}
 use Rattle.readers.specs.declared.identities.Listing.{Listing}
 use Rattle.readers.specs.declared.identities.Item.{Item}
 use Rattle.readers.specs.declared.signature.Signature.{Signature}
-use Rattle.readers.specs.Runs.{run}
+use Rattle.readers.specs.Reaches.{reach}
 use Rattle.readers.specs.Identities.{counted, endsIn, certificate}
 use Rattle.readers.specs.Signatures.{signatureAt}
 
 module _ {A : Type 0} where
-  pub run-end : (z : ℕ → A) (p r : Run) (F : ℕ → A) (x : A) (at : ℕ) → r ≡ End at → r ≡ p → x ≡ F at → x ≡ run z p F
-  unfolding run
-  run-end z p r F x at q e g = rw (← e, q) g
+  pub reach-end : (z : ℕ → A) (p r : Reach) (F : ℕ → A) (x : A) (at : ℕ) → r ≡ End at → r ≡ p → x ≡ F at → x ≡ reach z p F
+  unfolding reach
+  reach-end z p r F x at q e g = rw (← e, q) g
 
-  pub run-fault : (z : ℕ → A) (p r : Run) (F : ℕ → A) (x : A) (at : ℕ) → r ≡ Fault at → r ≡ p → x ≡ z at → x ≡ run z p F
-  unfolding run
-  run-fault z p r F x at q e g = rw (← e, q) g
+  pub reach-fault : (z : ℕ → A) (p r : Reach) (F : ℕ → A) (x : A) (at : ℕ) → r ≡ Fault at → r ≡ p → x ≡ z at → x ≡ reach z p F
+  unfolding reach
+  reach-fault z p r F x at q e g = rw (← e, q) g
 
   pub counted-count : (z : Listing → A) (p r : Listing) (F : ℕ → A) (x : A) (n : ℕ) → r ≡ Listing.Count n → r ≡ p → x ≡ F n → x ≡ counted z p F
   unfolding counted
@@ -52,17 +52,17 @@ pub signature-by : (r : Signature) (x X : List ℕ) (at hash : ℕ) → r ≡ si
 signature-by r x X at hash e f = cc
 
 -- for a function with many tests: a larger set breaks off there
-pub ruleset runs = (so-yes, so-no, number-fault, number-value, part-fault, part-whole, plain, some-yes, some-no, eqb-yes, eqb-no, run-end, run-fault, signature-by)
+pub ruleset reaches = (so-yes, so-no, number-fault, number-value, part-fault, part-whole, plain, some-yes, some-no, eqb-yes, eqb-no, reach-end, reach-fault, signature-by)
 
-pub ruleset all = (wire-all, run-end, run-fault, counted-count, counted-refused, same-by, ends-by, blob-by)
+pub ruleset all = (wire-all, reach-end, reach-fault, counted-count, counted-refused, same-by, ends-by, blob-by)
 
 -- ## Cases
 
--- either way on behind a run and a byte
-pub run-cases : {A : Type 0} (P : A → Type 0) (r : Run) {z next : ℕ → A} → ((at : ℕ) → P (z at)) → ((at : ℕ) → r ≡ End at → P (next at)) → P (run z r next)
-unfolding run
-run-cases P (End at) g h = h at refl
-run-cases P (Fault at) g h = g at
+-- either way on behind a reach and a byte
+pub reach-cases : {A : Type 0} (P : A → Type 0) (r : Reach) {z next : ℕ → A} → ((at : ℕ) → P (z at)) → ((at : ℕ) → r ≡ End at → P (next at)) → P (reach z r next)
+unfolding reach
+reach-cases P (End at) g h = h at refl
+reach-cases P (Fault at) g h = g at
 
 pub byte-cases : {A : Type 0} (P : A → Type 0) (o : Octet) {z : ℕ → A} {next : ℕ → Cursor → A} → ((at : ℕ) → P (z at))
     → ((b : ℕ) (k : Cursor) → o ≡ Octet.Value b k → P (next b k)) → P (byte z o next)
@@ -70,6 +70,6 @@ unfolding byte
 byte-cases P (Octet.Value b k) g h = h b k refl
 byte-cases P (Octet.Fault at) g h = g at
 
--- a run that ended had no fault
+-- reading that came to an end had no fault
 pub fault : {at end : ℕ} {A : Type 0} → Fault at ≡ End end → A
 fault e = let z : _≡_ {A = ℕ} 0 1 = cc in absurd (omega arith)

@@ -3,11 +3,12 @@ use Prim.Native.Nat.{ℕ, suc, _≤_, _<_}
 use mathlib.Core.Path.{_≡_, refl, ap}
 use mathlib.Core.List.{List, [], _∷_, _++_}
 use mathlib.Core.Logic.{_⊎_, inl, inr, ⊎-elim}
-use borrow.Author.Tests.{lt-ltb, le-ltb, ne-eqb}
+use native.Mathlib.Omega.{arith}
+use borrow.Author.Tests.{le-leb, lt-ltb, le-ltb, ne-eqb}
 use lib.Dec.{ltb, eqb}
 use lib.ListN.{length, getD}
 use Rattle.wire.specs.Numbers.{Bytes}
-use Rattle.wire.specs.Read.{numberAt}
+use Rattle.wire.specs.Read.{cutOf, numberAt}
 use Rattle.wire.specs.Steps.{so, part}
 use Rattle.wire.proofs.Format.{number-form}
 use Rattle.keys.proofs.FieldLaws.{lies-cut, inside}
@@ -17,11 +18,12 @@ use Rattle.client.specs.Refusals.{refusalNumber}
 use Rattle.client.specs.Values.{grants, refuses}
 use Rattle.client.proofs.WriterTables.{granted, not-granted}
 use Rattle.readers.specs.declared.identities.Listing.{Listing}
-use Rattle.readers.specs.Runs.{run}
-use Rattle.readers.specs.Values.{listingSays, itemSays}
-use Rattle.readers.specs.Identities.{itemsAt, countOf, counted, itemAt, itemOf, certificate}
+use Rattle.readers.specs.declared.identities.Item.{Item}
+use Rattle.readers.specs.Reaches.{reach}
+use Rattle.readers.specs.Values.{listingSays, Identity, itemSays}
+use Rattle.readers.specs.Identities.{itemsAt, countOf, counted, itemAt, itemOf, itemBlob, blobOfItem, certificate}
 use Rattle.readers.specs.Promises.{ListForm, ListTable, ItemTable, ListingsApart}
-use Rattle.readers.proofs.ReadSteps.{run-cases}
+use Rattle.readers.proofs.ReadSteps.{reach-cases}
 use Rattle.readers.proofs.ReadRoundTrips.{some-there, forms-at, lists-counted, count-rule}
 
 -- ## Values
@@ -34,8 +36,19 @@ listing-refused : (a : Listing) (n : ℕ) → listingSays a ≡ refuses n → (r
 listing-refused (Listing.Count m) n e = granted e
 listing-refused (Listing.Refused r) n e = let q : refusalNumber r ≡ n = cc in (r, refl, q)
 
+item-blob : (payload : List ℕ) (a : Item) (x : Identity) → itemSays payload a ≡ grants x
+    → (f : ℕ) × (t : ℕ) × (a ≡ Item.Blob f t (x .marked)) × (cutOf payload f t ≡ x .blob)
+item-blob payload (Item.Blob f t c) x e =
+    let q : record { blob = cutOf payload f t; marked = c } ≡ x = cc in
+    (f, t, ap (λ (y : Identity). Item.Blob f t (y .marked)) q, ap (λ (y : Identity). y .blob) q)
+item-blob payload (Item.Refused r) x e = not-granted e
+
+item-number : (payload : List ℕ) (a : Item) (n : ℕ) → itemSays payload a ≡ refuses n → (r : Refusal) × (a ≡ Item.Refused r) × (refusalNumber r ≡ n)
+item-number payload (Item.Blob f t c) n e = granted e
+item-number payload (Item.Refused r) n e = let q : refusalNumber r ≡ n = cc in (r, refl, q)
+
 pub listings-apart : ListingsApart
-listings-apart = record { counted = listing-count; list-refused = listing-refused }
+listings-apart = record { counted = listing-count; list-refused = listing-refused; item = item-blob; item-refused = item-number }
 
 -- ## The list of keys
 
@@ -43,14 +56,14 @@ bytes-tail : (b : ℕ) (p : List ℕ) → Bytes (b ∷ p) → Bytes p
 bytes-tail b p small i = small (suc i)
 
 -- no other refusal comes
-count-or-fault : (payload : List ℕ) → ((n : ℕ) × (countOf payload ≡ Listing.Count n)) ⊎ (listingSays (countOf payload) ≡ refuses 12)
+count-or-fault : (payload : List ℕ) → ((n : ℕ) × (listingSays (countOf payload) ≡ grants n)) ⊎ (listingSays (countOf payload) ≡ refuses 12)
 unfolding countOf
 count-or-fault payload =
-    let P : Listing → Type 0 = λ r. ((n : ℕ) × (r ≡ Listing.Count n)) ⊎ (listingSays r ≡ refuses 12) in
+    let P : Listing → Type 0 = λ r. ((n : ℕ) × (listingSays r ≡ grants n)) ⊎ (listingSays r ≡ refuses 12) in
     so-cases P (ltb 0 (length payload))
     (λ _. so-cases P (eqb (getD payload 0 0) 12)
     (λ _. number-cases P (numberAt payload 1) (λ _ _. inr refl) λ n k _.
-    run-cases P (itemsAt n payload (k .at)) (λ _. inr refl) λ _ _. inl (n, refl))
+    reach-cases P (itemsAt n payload (k .at)) (λ _. inr refl) λ _ _. inl (n, refl))
     (λ _. inl (0, refl)))
     (λ _. inl (0, refl))
 
@@ -82,16 +95,26 @@ item-beyond payload i n e h = rw (listings-apart .counted (countOf payload) n e,
 
 item-there : (p : List ℕ) (blobs : List (List ℕ)) (i : ℕ) → Bytes (12 ∷ p) → ListForm p blobs → i < length blobs
     → itemSays (12 ∷ p) (itemOf (12 ∷ p) i) ≡ grants (record { blob = getD blobs i []; marked = certificate (getD blobs i []) })
-unfolding itemOf counted so run itemAt part
+unfolding itemOf counted so reach itemAt part
 item-there p blobs i small l h =
     let s : List ℕ = 12 ∷ p in
     let (e, r) = number-form s 1 (length blobs) (l .forms ++ l .rest) small (l .few) .0 (l .shape) in
     let (place, q, a) = forms-at s small 5 (l .rest) (l .whole) r i h in
     rw (lists-counted p blobs (bytes-tail 12 p small) l, lt-ltb i (length blobs) h, q, a .read, lies-cut (inside a))
 
+-- no part is handed out of a refused item
+item-empty : (payload : List ℕ) (i n : ℕ) → itemSays payload (itemOf payload i) ≡ refuses n → blobOfItem payload i ≡ []
+unfolding blobOfItem cutOf
+item-empty payload i n = go (itemOf payload i)
+  where
+    go : (r : Item) → itemSays payload r ≡ refuses n → itemBlob payload r ≡ []
+    go (Item.Blob f t c) e = granted e
+    go (Item.Refused why) e = rw (le-leb 0 (length payload) (omega arith))
+
 pub item-table : ItemTable
 item-table payload i small = record {
   faulty = item-refused payload i 12;
   beyond = item-beyond payload i;
   item = λ p blobs e l h. rw e (item-there p blobs i (rw e at small) l h);
+  else-empty = item-empty payload i;
 }

@@ -22,12 +22,12 @@ use Rattle.rule.proofs.Cases.{so-cases, part-cases, number-cases}
 use Rattle.client.specs.declared.Refusal.{Refusal}
 use Rattle.client.specs.declared.Refusal.the-variants.{OutputTooShort, Malformed, UnfitType}
 use Rattle.client.specs.declared.Wrote.{Wrote}
-use Rattle.readers.specs.declared.Run.{Run}
-use Rattle.readers.specs.declared.Run.the-variants.{End, Fault}
+use Rattle.readers.specs.declared.Reach.{Reach}
+use Rattle.readers.specs.declared.Reach.the-variants.{End, Fault}
 use Rattle.readers.specs.declared.signature.Signature.{Signature}
 use Rattle.readers.specs.declared.signature.Signature.the-variants.{Whole}
-use Rattle.readers.specs.Runs.{run}
-use Rattle.readers.proofs.ReadSteps.{run-cases, byte-cases, fault}
+use Rattle.readers.specs.Reaches.{reach}
+use Rattle.readers.proofs.ReadSteps.{reach-cases, byte-cases, fault}
 use Rattle.readers.specs.Signatures.{fits, startsIn, touchedEnd, signatureEnd, signatureAt, replyAt, stringAnswer, stringLeft}
 
 -- ## The hash that was asked for
@@ -61,18 +61,18 @@ module _ (s : List ℕ) (at hash : ℕ) (r : Part) (kind : r ≡ textAt s at) wh
     unfolding signatureAt part so
     unfit-type h = rw (← kind, e, ← cut, ← tested, not-true fit h)
 
-    module _ (h : not fit ≡ false) (w : List ℕ) (again : w ≡ cutOf s f t) (sk : Bool) (starts : sk ≡ startsIn w (bytes "sk-")) (end : Run)
+    module _ (h : not fit ≡ false) (w : List ℕ) (again : w ≡ cutOf s f t) (sk : Bool) (starts : sk ≡ startsIn w (bytes "sk-")) (end : Reach)
         (ended : end ≡ signatureEnd s (k .at) sk) where
-      ends : run (λ place. Signature.Refused (Malformed place)) end (λ behind. Whole at behind) ≡ signatureAt s at hash
+      ends : reach (λ place. Signature.Refused (Malformed place)) end (λ behind. Whole at behind) ≡ signatureAt s at hash
       unfolding signatureAt part so
       ends = rw (← kind, e, ← again, ← starts, again, ← cut, ← tested, not-false fit h, ← ended)
 
       pub signature-cut : (place : ℕ) → end ≡ Fault place → Signature.Refused (Malformed place) ≡ signatureAt s at hash
-      unfolding run
+      unfolding reach
       signature-cut place q = rw q at ends
 
       pub signature-whole : (behind : ℕ) → end ≡ End behind → Whole at behind ≡ signatureAt s at hash
-      unfolding run
+      unfolding reach
       signature-whole behind q = rw q at ends
 
 pub ruleset signing = (no-type, unfit-type, signature-cut, signature-whole, needs)
@@ -98,7 +98,7 @@ refused e = let z : _≡_ {A = ℕ} 0 1 = cc in absurd (omega arith)
 touched-within : (s : List ℕ) (at end : ℕ) → touchedEnd s at ≡ End end → end ≤ length s
 unfolding touchedEnd
 touched-within s at end =
-    let P : Run → Type 0 = λ r. r ≡ End end → end ≤ length s in
+    let P : Reach → Type 0 = λ r. r ≡ End end → end ≤ length s in
     byte-cases P (byteAt s at) (λ _. fault) λ flags k _.
     number-cases P (numberAt s (k .at)) (λ _ _. fault) λ counter l e q.
     let w = number-read s (k .at) counter l e in
@@ -108,7 +108,7 @@ touched-within s at end =
 end-within : (s : List ℕ) (at : ℕ) (touched : Bool) (end : ℕ) → signatureEnd s at touched ≡ End end → end ≤ length s
 unfolding signatureEnd
 end-within s at touched end =
-    let P : Run → Type 0 = λ r. r ≡ End end → end ≤ length s in
+    let P : Reach → Type 0 = λ r. r ≡ End end → end ≤ length s in
     part-cases P (stringAt s at) (λ _ _. fault) λ f t k e.
     so-cases P touched (λ _. touched-within s t end) λ _ q.
     let w = string-read s at f t k e in
@@ -126,7 +126,7 @@ signature-within s at hash f t =
     let P : Signature → Type 0 = λ r. r ≡ Whole f t → Within s at f t in
     part-cases P (textAt s at) (λ _ _. refused) λ g u k _.
     so-cases P (fits hash (cutOf s g u))
-    (λ _. run-cases P (signatureEnd s (k .at) (startsIn (cutOf s g u) (bytes "sk-"))) (λ _. refused) λ end e q.
+    (λ _. reach-cases P (signatureEnd s (k .at) (startsIn (cutOf s g u) (bytes "sk-"))) (λ _. refused) λ end e q.
     let p : end ≡ t = cc in
     record { start = cc; end = omega (arith, end-within s (k .at) (startsIn (cutOf s g u) (bytes "sk-")) end e) })
     (λ _. refused)

@@ -23,16 +23,17 @@ use Rattle.wire.proofs.Laws.{byte-rule, answers-apart}
 use Rattle.keys.proofs.FieldLaws.{Lies, lies-join, lies-cut, lies-split, lies-bytes, behind, found, At, inside, string-stands, string-reads}
 use Rattle.rule.specs.Rule.{signatureReply}
 use Rattle.rule.proofs.Cases.{so-cases, part-cases, number-cases, true-not-false}
-use Rattle.client.specs.declared.Wrote.the-variants.{Written}
+use Rattle.client.specs.Values.{grants, wroteSays}
 use Rattle.client.proofs.ByteLaws.{bytes-cons, string-bytes}
-use Rattle.readers.specs.declared.Run.{Run}
-use Rattle.readers.specs.declared.Run.the-variants.{End}
+use Rattle.client.proofs.WriterTables.{not-granted}
+use Rattle.readers.specs.declared.Reach.{Reach}
+use Rattle.readers.specs.declared.Reach.the-variants.{End}
 use Rattle.readers.specs.declared.signature.Signature.{Signature}
 use Rattle.readers.specs.declared.signature.Signature.the-variants.{Whole}
-use Rattle.readers.specs.Runs.{run}
+use Rattle.readers.specs.Reaches.{reach}
 use Rattle.readers.specs.Signatures.{wroteOf, fits, startsIn, touchedEnd, signatureEnd, signatureAt, replyAt, signatureAnswer, signatureLeft}
 use Rattle.readers.specs.Promises.{Fitting, any, sha256, sha512, FitRule, SignatureForm, plain, touched, CarriesSignature, WritesSignature, SignatureRule, WrittenRule, SignatureRead, SignatureReplyIs}
-use Rattle.readers.proofs.ReadSteps.{run-cases, byte-cases, fault}
+use Rattle.readers.proofs.ReadSteps.{reach-cases, byte-cases, fault}
 use Rattle.readers.proofs.SignatureLaws.{string-short, string-fits, refused}
 use Rattle.readers.proofs.FormLaws.{starts-rule, text-reads, took, lies-to}
 
@@ -72,7 +73,7 @@ module _ (s : List ℕ) (small : Bytes s) where
 
   signature-read : {t x : List ℕ} (at hash : ℕ) (rest : List ℕ) → SignatureForm t x → Fitting hash t → length x < 2 ^ 32 → drop at s ≡ x ++ rest
       → signatureAt s at hash ≡ Whole at (at + length x)
-  unfolding signatureAt signatureEnd part so run
+  unfolding signatureAt signatureEnd part so reach
   signature-read at hash rest (plain t sig o other) f l e =
       let n = simp length-append at l in
       let (a, r) = string-stands small {at = at} t (string sig ++ rest) (omega arith) (e ∙ append-assoc (string t) (string sig) rest) in
@@ -117,9 +118,9 @@ unfolding signatureAnswer signatureLeft
 replied-writes payload hash signature out r =
     let fits = string-fits signature out (length (string signature)) (write out 0 (string signature)) in
     record {
-      written = λ h. rw (r .found, r .cut) (sym (fits (omega arith) (omega arith) refl .0));
+      written = λ h. rw (r .found, r .cut) (ap wroteSays (sym (fits (omega arith) (omega arith) refl .0)));
       left = λ h. rw (r .found, r .cut) (sym (fits (omega arith) (omega arith) refl .1));
-      short = λ h. rw (r .found, r .cut) (sym (string-short signature out (omega arith) .0));
+      short = λ h. rw (r .found, r .cut) (ap wroteSays (sym (string-short signature out (omega arith) .0)));
       untouched = λ h. rw (r .found, r .cut) (sym (string-short signature out (omega arith) .1));
     }
 
@@ -158,7 +159,7 @@ module _ (s : List ℕ) (small : Bytes s) where
   touched-taken : (at end : ℕ) → touchedEnd s at ≡ End end → (flags : ℕ) × (counter : ℕ) × (counter < 2 ^ 32) × Lies s at (flags ∷ be32 counter) end
   unfolding touchedEnd
   touched-taken at end =
-      let P : Run → Type 0 = λ r. r ≡ End end → (flags : ℕ) × (counter : ℕ) × (counter < 2 ^ 32) × Lies s at (flags ∷ be32 counter) end in
+      let P : Reach → Type 0 = λ r. r ≡ End end → (flags : ℕ) × (counter : ℕ) × (counter < 2 ^ 32) × Lies s at (flags ∷ be32 counter) end in
       byte-cases P (byteAt s at) (λ _. fault) λ flags k e.
       number-cases P (numberAt s (k .at)) (λ _ _. fault) λ counter l d q.
       let w = number-read s (k .at) counter l d in
@@ -172,7 +173,7 @@ module _ (s : List ℕ) (small : Bytes s) where
   pub end-taken : (at m : ℕ) (t : List ℕ) (end : ℕ) → Octets t → Lies s at (string t) m → signatureEnd s m (startsIn t (bytes "sk-")) ≡ End end → Formed s at t end
   unfolding signatureEnd
   end-taken at m t end o x =
-      let P : Run → Type 0 = λ r. r ≡ End end → Formed s at t end in
+      let P : Reach → Type 0 = λ r. r ≡ End end → Formed s at t end in
       part-cases P (stringAt s m) (λ _ _. fault) λ f u k e.
       let y = took small (string-reads small) f u k e in
       so-cases P (startsIn t (bytes "sk-"))
@@ -200,7 +201,7 @@ module _ (s : List ℕ) (small : Bytes s) where
       part-cases P (textAt s at) (λ _ _. refused) λ g u k e.
       let x = took small (text-reads small) g u k e in
       so-cases P (fits hash (cutOf s g u))
-      (λ h. run-cases P (signatureEnd s (k .at) (startsIn (cutOf s g u) (bytes "sk-"))) (λ _. refused) λ behind d q.
+      (λ h. reach-cases P (signatureEnd s (k .at) (startsIn (cutOf s g u) (bytes "sk-"))) (λ _. refused) λ behind d q.
       let p : behind ≡ end = cc in
       (x .v, fit-rule hash (x .v) .0 (rw (x .part) at h), end-taken at (k .at) (x .v) end (x .holds) (lies-to (x .lies) (x .place)) (rw (x .part, p) at d)))
       (λ _. refused)
@@ -244,13 +245,13 @@ reply-taken (b ∷ p) hash f end small =
     (λ _. refused)
 
 -- an answer that is a length comes of a signature that was found
-answer-found : (payload : List ℕ) (hash : ℕ) (out : List ℕ) (n : ℕ) → Bytes payload → signatureAnswer payload hash out ≡ Written n → Answered hash payload
+answer-found : (payload : List ℕ) (hash : ℕ) (out : List ℕ) (n : ℕ) → Bytes payload → wroteSays (signatureAnswer payload hash out) ≡ grants n → Answered hash payload
 unfolding signatureAnswer
 answer-found payload hash out n small = go (replyAt payload hash) refl
   where
-    go : (r : Signature) → replyAt payload hash ≡ r → wroteOf payload out r ≡ Written n → Answered hash payload
+    go : (r : Signature) → replyAt payload hash ≡ r → wroteSays (wroteOf payload out r) ≡ grants n → Answered hash payload
     go (Whole f end) e q = reply-taken payload hash f end small e
-    go (Signature.Refused why) e q = let z : _≡_ {A = ℕ} 0 1 = cc in absurd (omega arith)
+    go (Signature.Refused why) e q = not-granted q
 
 pub written-rule : WrittenRule
 written-rule payload hash out n small = (
@@ -259,7 +260,7 @@ written-rule payload hash out n small = (
       let w = signature-rule payload hash t signature out small fit c in
       ⊎-elim
       (λ (h : length (string signature) ≤ length out). let q = w .written h in let p : length (string signature) ≡ n = cc in (t, signature, fit, c, p, omega arith))
-      (λ (h : length out < length (string signature)). let q = w .short h in let z : _≡_ {A = ℕ} 0 1 = cc in absurd (omega arith))
+      (λ (h : length out < length (string signature)). not-granted (sym (w .short h) ∙ e))
       (le-or-lt (length (string signature)) (length out))),
-  (λ (t, signature, fit, c, p, h). signature-rule payload hash t signature out small fit c .written (omega arith) ∙ ap Written p),
+  (λ (t, signature, fit, c, p, h). signature-rule payload hash t signature out small fit c .written (omega arith) ∙ ap grants p),
 )

@@ -17,14 +17,16 @@ use Rattle.wire.proofs.Reading.{le-or-lt}
 use Rattle.keys.proofs.FieldLaws.{Lies, lies-cut, lies-bytes, behind, found, At, inside, string-stands, string-reads}
 use Rattle.rule.specs.Order.{Begins}
 use Rattle.rule.proofs.Cases.{part-cases}
-use Rattle.client.specs.declared.Refusal.the-variants.{Malformed, UnfitType}
+use Rattle.client.specs.declared.Refusal.the-variants.{OutputTooShort, Malformed, UnfitType}
+use Rattle.client.specs.declared.Wrote.{Wrote}
 use Rattle.client.specs.Values.{refuses, wroteSays}
+use Rattle.client.proofs.WriterTables.{granted}
 use Rattle.readers.specs.declared.signature.Signature.{Signature}
 use Rattle.readers.specs.declared.signature.Signature.the-variants.{Whole}
-use Rattle.readers.specs.Runs.{run}
-use Rattle.readers.specs.Signatures.{fits, startsIn, signatureEnd, signatureAt, replyAt, wroteOf, signatureAnswer}
+use Rattle.readers.specs.Reaches.{reach}
+use Rattle.readers.specs.Signatures.{fits, startsIn, signatureEnd, signatureAt, replyAt, stringAnswer, stringLeft, wroteOf, leftOf, signatureAnswer, signatureLeft}
 use Rattle.readers.specs.Promises.{Fitting, CarriesSignature, Typed, SignatureTable}
-use Rattle.readers.proofs.ReadSteps.{run-cases}
+use Rattle.readers.proofs.ReadSteps.{reach-cases}
 use Rattle.readers.proofs.FormLaws.{text-reads, took}
 use Rattle.readers.proofs.SignatureRoundTrips.{fit-rule, signature-rule, end-taken}
 
@@ -97,7 +99,7 @@ record Continues (payload : List ℕ) (hash : ℕ) (t rest : List ℕ) : Type 0 
   lies : Lies (14 ∷ string (string t ++ rest)) 5 (string t) (behind 5 t)
   goes-on : replyAt payload hash
       ≡ so (Signature.Refused UnfitType) (fits hash t)
-      (run (λ place. Signature.Refused (Malformed place)) (signatureEnd (14 ∷ string (string t ++ rest)) (behind 5 t) (startsIn t (bytes "sk-"))) (λ end. Whole 5 end))
+      (reach (λ place. Signature.Refused (Malformed place)) (signatureEnd (14 ∷ string (string t ++ rest)) (behind 5 t) (startsIn t (bytes "sk-"))) (λ end. Whole 5 end))
 
 continues : (hash : ℕ) (t rest tail : List ℕ) → Octets t → length (string t ++ rest) < 2 ^ 32 → Bytes (14 ∷ (string (string t ++ rest) ++ tail))
     → Continues (14 ∷ (string (string t ++ rest) ++ tail)) hash t rest
@@ -128,7 +130,7 @@ module _ (payload : List ℕ) (hash : ℕ) (out : List ℕ) (small : Bytes paylo
       let s : List ℕ = 14 ∷ string (string t ++ typed .rest) in
       let c = typed-continues in
       rw (c .goes-on, fit-rule hash t .1 fit)
-      (run-cases (λ (r : Signature). wroteSays (wroteOf payload out r) ≡ refuses 12) (signatureEnd s (behind 5 t) (startsIn t (bytes "sk-"))) (λ _. refl) λ end e.
+      (reach-cases (λ (r : Signature). wroteSays (wroteOf payload out r) ≡ refuses 12) (signatureEnd s (behind 5 t) (startsIn t (bytes "sk-"))) (λ _. refl) λ end e.
       let y = end-taken s (c .small) 5 (behind 5 t) t end (typed .text) (c .lies) e in
       let split : string t ++ typed .rest ≡ y .signature ++ drop end s = y .lies .shape in
       absurd (never (y .signature)
@@ -140,6 +142,22 @@ module _ (payload : List ℕ) (hash : ℕ) (out : List ℕ) (small : Bytes paylo
         shape = typed .shape ∙ ap (λ (v : List ℕ). 14 ∷ (string v ++ typed .behind)) split;
       })))
 
+-- ## Refusals
+
+module _ (payload : List ℕ) (hash : ℕ) (out : List ℕ) (n : ℕ) where
+  short-left : (b : Bool) (m : ℕ) (left : List ℕ) → wroteSays (so (Wrote.Refused OutputTooShort) b (Wrote.Written m)) ≡ refuses n → so out b left ≡ out
+  unfolding so
+  short-left true m left e = granted e
+  short-left false m left e = refl
+
+  refused-left : wroteSays (signatureAnswer payload hash out) ≡ refuses n → signatureLeft payload hash out ≡ out
+  unfolding signatureAnswer signatureLeft stringAnswer stringLeft
+  refused-left = go (replyAt payload hash)
+    where
+      go : (r : Signature) → wroteSays (wroteOf payload out r) ≡ refuses n → leftOf payload out r ≡ out
+      go (Whole f t) e = short-left _ _ _ e
+      go (Signature.Refused why) e = refl
+
 pub signature-table : SignatureTable
 signature-table payload hash out small = record {
   failure = failed hash out payload;
@@ -147,6 +165,7 @@ signature-table payload hash out small = record {
   no-type = no-type-there hash out payload small;
   unfit = unfit-there payload hash out small;
   no-signature = none-there payload hash out small;
-  short = λ t signature fit c h. ap wroteSays (signature-rule payload hash t signature out small fit c .short h);
-  written = λ t signature fit c h. ap wroteSays (signature-rule payload hash t signature out small fit c .written h);
+  short = λ t signature fit c h. signature-rule payload hash t signature out small fit c .short h;
+  written = λ t signature fit c h. signature-rule payload hash t signature out small fit c .written h;
+  untouched = refused-left payload hash out;
 }

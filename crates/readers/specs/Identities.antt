@@ -8,14 +8,14 @@ use Rattle.wire.specs.Texts.{bytes}
 use Rattle.wire.specs.Read.{cutOf, same, numberAt, stringAt, textAt}
 use Rattle.wire.specs.Steps.{so, number, part}
 use Rattle.client.specs.declared.Refusal.the-variants.{Malformed, NoSuchItem}
-use Rattle.readers.specs.declared.Run.{Run}
-use Rattle.readers.specs.declared.Run.the-variants.{End, Fault}
+use Rattle.readers.specs.declared.Reach.{Reach}
+use Rattle.readers.specs.declared.Reach.the-variants.{End, Fault}
 use Rattle.readers.specs.declared.identities.Listing.{Listing}
 use Rattle.readers.specs.declared.identities.Item.{Item}
-use Rattle.readers.specs.Runs.{run}
+use Rattle.readers.specs.Reaches.{reach}
 
 -- where a number of items ends: each is a blob and a text
-unfoldable pub itemsAt : ℕ → List ℕ → ℕ → Run
+unfoldable pub itemsAt : ℕ → List ℕ → ℕ → Reach
 itemsAt zero s at = End at
 itemsAt (suc n) s at =
     part (λ _. Fault at) (stringAt s at) λ f t k.
@@ -28,7 +28,7 @@ countOf payload =
     so (Listing.Count 0) (ltb 0 (length payload))
     (so (Listing.Count 0) (eqb (getD payload 0 0) 12)
     (number (λ _. Listing.Refused (Malformed 1)) (numberAt payload 1) λ n k.
-    run (λ at. Listing.Refused (Malformed at)) (itemsAt n payload (k .at)) λ end.
+    reach (λ at. Listing.Refused (Malformed at)) (itemsAt n payload (k .at)) λ end.
     Listing.Count n))
 
 -- going on with the number of items
@@ -60,7 +60,7 @@ unfoldable pub itemOf : List ℕ → ℕ → Item
 itemOf payload index =
     counted refusedItem (countOf payload) λ count.
     so (Item.Refused NoSuchItem) (ltb index count)
-    (run (λ at. Item.Refused (Malformed at)) (itemsAt index payload 5) λ at.
+    (reach (λ at. Item.Refused (Malformed at)) (itemsAt index payload 5) λ at.
     itemAt payload at)
 
 abbrev pub itemBlob : List ℕ → Item → List ℕ

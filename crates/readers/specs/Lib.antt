@@ -1,5 +1,5 @@
 -- The definitions that contracts cite, and the statements of what is promised.
-pub mod Runs
+pub mod Reaches
 pub mod Values
 pub mod Identities
 pub mod Signatures

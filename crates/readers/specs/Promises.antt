@@ -8,17 +8,17 @@ use lib.ListN.{length, getD}
 use Rattle.wire.specs.Numbers.{Bytes, be32}
 use Rattle.wire.specs.Texts.{bytes}
 use Rattle.wire.specs.Abnf.{Octets}
+use Rattle.wire.specs.Read.{cutOf}
 use Rattle.wire.specs.Write.{write, string}
 use Rattle.rule.specs.Gateway.{Entry, Place}
 use Rattle.rule.specs.Order.{Begins}
 use Rattle.rule.specs.Rule.{live, items, listed, signatureReply}
 use Rattle.client.specs.declared.Refusal.{Refusal}
-use Rattle.client.specs.declared.Refusal.the-variants.{OutputTooShort}
-use Rattle.client.specs.declared.Wrote.the-variants.{Written, Refused}
 use Rattle.client.specs.Refusals.{refusalNumber}
 use Rattle.client.specs.Values.{grants, refuses, wroteSays}
 use Rattle.readers.specs.declared.identities.Listing.{Listing}
-use Rattle.readers.specs.Values.{listingSays, itemSays}
+use Rattle.readers.specs.declared.identities.Item.{Item}
+use Rattle.readers.specs.Values.{listingSays, Identity, itemSays}
 use Rattle.readers.specs.Identities.{countOf, certificateEnd, certificate, itemOf, blobOfItem}
 use Rattle.readers.specs.Signatures.{fits, signatureAnswer, signatureLeft}
 
@@ -40,7 +40,7 @@ pub record ListForm (p : List ℕ) (blobs : List (List ℕ)) : Type 0 where
 
 -- n items are counted exactly where n items stand whole
 abbrev pub CountRule : Type 0
-CountRule = (p : List ℕ) (n : ℕ) → Bytes p → (countOf (12 ∷ p) ≡ Listing.Count n) ↔ ((blobs : List (List ℕ)) × ListForm p blobs × (length blobs ≡ n))
+CountRule = (p : List ℕ) (n : ℕ) → Bytes p → (listingSays (countOf (12 ∷ p)) ≡ grants n) ↔ ((blobs : List (List ℕ)) × ListForm p blobs × (length blobs ≡ n))
 
 -- and each is handed out as its blob
 abbrev pub ItemRule : Type 0
@@ -55,19 +55,24 @@ pub record ListSays (payload : List ℕ) : Type 0 where
 abbrev pub ListTable : Type 0
 ListTable = (payload : List ℕ) → Bytes payload → ListSays payload
 
+-- and of each item; its blob is "empty unless granted"
 pub record ItemSays (payload : List ℕ) (i : ℕ) : Type 0 where
   pub faulty : listingSays (countOf payload) ≡ refuses 12 → itemSays payload (itemOf payload i) ≡ refuses 12
   pub beyond : (n : ℕ) → listingSays (countOf payload) ≡ grants n → n ≤ i → itemSays payload (itemOf payload i) ≡ refuses 16
   pub item : (p : List ℕ) (blobs : List (List ℕ)) → payload ≡ 12 ∷ p → ListForm p blobs → i < length blobs
       → itemSays payload (itemOf payload i) ≡ grants (record { blob = getD blobs i []; marked = certificate (getD blobs i []) })
+  pub else-empty : (n : ℕ) → itemSays payload (itemOf payload i) ≡ refuses n → blobOfItem payload i ≡ []
 
 abbrev pub ItemTable : Type 0
 ItemTable = (payload : List ℕ) (i : ℕ) → Bytes payload → ItemSays payload i
 
--- the values of a count tell whether it is a refusal, and which number it has
+-- the values of a count and of an item tell whether it is a refusal, and which number it has; else the count, or the item's blob and mark
 pub record ListingsApart : Type 0 where
   pub counted : (a : Listing) (n : ℕ) → listingSays a ≡ grants n → a ≡ Listing.Count n
   pub list-refused : (a : Listing) (n : ℕ) → listingSays a ≡ refuses n → (r : Refusal) × (a ≡ Listing.Refused r) × (refusalNumber r ≡ n)
+  pub item : (payload : List ℕ) (a : Item) (x : Identity) → itemSays payload a ≡ grants x
+      → (f : ℕ) × (t : ℕ) × (a ≡ Item.Blob f t (x .marked)) × (cutOf payload f t ≡ x .blob)
+  pub item-refused : (payload : List ℕ) (a : Item) (n : ℕ) → itemSays payload a ≡ refuses n → (r : Refusal) × (a ≡ Item.Refused r) × (refusalNumber r ≡ n)
 
 -- the payload of the gateway's list reply
 abbrev pub listReply : List Entry → List ℕ
@@ -80,7 +85,7 @@ abbrev pub ListedIs : Type 0
 ListedIs = (ps : List Place) → listed ps ≡ string (listReply (live ps))
 
 pub record ReadsList (es : List Entry) : Type 0 where
-  pub count : countOf (listReply es) ≡ Listing.Count (length es)
+  pub count : listingSays (countOf (listReply es)) ≡ grants (length es)
   pub blobs : (i : ℕ) → i < length es → blobOfItem (listReply es) i ≡ getD (blobsOf es) i []
 
 -- the list reply is read item by item
@@ -129,9 +134,9 @@ pub record CarriesSignature (payload : List ℕ) (t signature : List ℕ) : Type
 
 -- the signature with its length is written to the front of an output that it fits in
 pub record WritesSignature (payload : List ℕ) (hash : ℕ) (signature out : List ℕ) : Type 0 where
-  pub written : length (string signature) ≤ length out → signatureAnswer payload hash out ≡ Written (length (string signature))
+  pub written : length (string signature) ≤ length out → wroteSays (signatureAnswer payload hash out) ≡ grants (length (string signature))
   pub left : length (string signature) ≤ length out → signatureLeft payload hash out ≡ write out 0 (string signature)
-  pub short : length out < length (string signature) → signatureAnswer payload hash out ≡ Refused OutputTooShort
+  pub short : length out < length (string signature) → wroteSays (signatureAnswer payload hash out) ≡ refuses 11
   pub untouched : length out < length (string signature) → signatureLeft payload hash out ≡ out
 
 abbrev pub SignatureRule : Type 0
@@ -143,7 +148,7 @@ SignatureRule =
 abbrev pub WrittenRule : Type 0
 WrittenRule =
     (payload : List ℕ) (hash : ℕ) (out : List ℕ) (n : ℕ) → Bytes payload
-    → (signatureAnswer payload hash out ≡ Written n)
+    → (wroteSays (signatureAnswer payload hash out) ≡ grants n)
     ↔ ((t : List ℕ) × (signature : List ℕ) × Fitting hash t × CarriesSignature payload t signature × (length (string signature) ≡ n) × (n ≤ length out))
 
 -- a reply whose string starts with the text t, and holds anything behind it
@@ -154,7 +159,7 @@ pub record Typed (payload t : List ℕ) : Type 0 where
   pub small : length (string t ++ rest) < 2 ^ 32
   pub shape : payload ≡ 14 ∷ (string (string t ++ rest) ++ behind)
 
--- when each answer comes: "signature 14, 15, 12 (up to t), 13, 12, 11"
+-- when each answer comes: "signature 14, 15, 12 (up to t), 13, 12, 11"; and no refusal touches the output
 pub record SignatureSays (payload : List ℕ) (hash : ℕ) (out : List ℕ) : Type 0 where
   pub failure : Begins 5 payload → wroteSays (signatureAnswer payload hash out) ≡ refuses 14
   pub other : (Begins 5 payload → ⊥) → (Begins 14 payload → ⊥) → wroteSays (signatureAnswer payload hash out) ≡ refuses 15
@@ -166,6 +171,7 @@ pub record SignatureSays (payload : List ℕ) (hash : ℕ) (out : List ℕ) : Ty
       → wroteSays (signatureAnswer payload hash out) ≡ refuses 11
   pub written : (t signature : List ℕ) → Fitting hash t → CarriesSignature payload t signature → length (string signature) ≤ length out
       → wroteSays (signatureAnswer payload hash out) ≡ grants (length (string signature))
+  pub untouched : (n : ℕ) → wroteSays (signatureAnswer payload hash out) ≡ refuses n → signatureLeft payload hash out ≡ out
 
 abbrev pub SignatureTable : Type 0
 SignatureTable = (payload : List ℕ) (hash : ℕ) (out : List ℕ) → Bytes payload → SignatureSays payload hash out

@@ -10,11 +10,11 @@ use Rattle.wire.specs.Steps.{so, byte, number, part}
 use Rattle.wire.specs.Write.{write, string}
 use Rattle.client.specs.declared.Refusal.the-variants.{OutputTooShort, Malformed, UnfitType, AgentFailure, OtherReply}
 use Rattle.client.specs.declared.Wrote.{Wrote}
-use Rattle.readers.specs.declared.Run.{Run}
-use Rattle.readers.specs.declared.Run.the-variants.{End, Fault}
+use Rattle.readers.specs.declared.Reach.{Reach}
+use Rattle.readers.specs.declared.Reach.the-variants.{End, Fault}
 use Rattle.readers.specs.declared.signature.Signature.{Signature}
 use Rattle.readers.specs.declared.signature.Signature.the-variants.{Whole}
-use Rattle.readers.specs.Runs.{run}
+use Rattle.readers.specs.Reaches.{reach}
 
 -- "Hash 2 needs t `rsa-sha2-256`, 4 needs `rsa-sha2-512`, 0 any, other values never."
 unfoldable pub fits : ℕ → List ℕ → Bool
@@ -27,20 +27,20 @@ fits hash t =
 unfoldable pub startsIn : List ℕ → List ℕ → Bool
 startsIn v start = same (cutOf v 0 (length start)) start
 
-unfoldable pub touchedEnd : List ℕ → ℕ → Run
+unfoldable pub touchedEnd : List ℕ → ℕ → Reach
 touchedEnd s at =
     byte (λ _. Fault at) (byteAt s at) λ flags k.
     number (λ _. Fault (k .at)) (numberAt s (k .at)) λ counter l.
     End (l .at)
 
-unfoldable pub signatureEnd : List ℕ → ℕ → Bool → Run
+unfoldable pub signatureEnd : List ℕ → ℕ → Bool → Reach
 signatureEnd s at touched = part (λ _. Fault at) (stringAt s at) λ f t k. so (End t) touched (touchedEnd s t)
 
 unfoldable pub signatureAt : List ℕ → ℕ → ℕ → Signature
 signatureAt s at hash =
     part (λ place. Signature.Refused (Malformed place)) (textAt s at) λ f t k.
     so (Signature.Refused UnfitType) (fits hash (cutOf s f t))
-    (run (λ place. Signature.Refused (Malformed place)) (signatureEnd s (k .at) (startsIn (cutOf s f t) (bytes "sk-"))) λ end.
+    (reach (λ place. Signature.Refused (Malformed place)) (signatureEnd s (k .at) (startsIn (cutOf s f t) (bytes "sk-"))) λ end.
     Whole at end)
 
 -- "signature 14, 15, 12 (up to t), 13, 12"; inside the string, up to its end

@@ -1,5 +1,5 @@
 // The identities reader: how many items a reply holds, then each item's blob as a part of the payload.
-use crate::Run;
+use crate::Reach;
 use client::Refusal;
 use wire::msg;
 use wire::read::Cursor;
@@ -26,7 +26,7 @@ pub enum Item {
 }
 
 // One item: a blob, and a comment that is UTF-8. The place behind it.
-fn item_end(s: &[u8], at: usize) -> Run
+fn item_end(s: &[u8], at: usize) -> Reach
     ensures { λ r. ⌜ r ≡ itemsAt 1 (now (s .entry)) at ⌝ }
 {
     let start = Cursor { at };
@@ -36,7 +36,7 @@ fn item_end(s: &[u8], at: usize) -> Run
         next,
     } = start.string(s)
     else {
-        return Run::Fault(at);
+        return Reach::Fault(at);
     };
     let comment = next.text(s);
     match comment {
@@ -44,13 +44,13 @@ fn item_end(s: &[u8], at: usize) -> Run
             from: _,
             to: _,
             next: end,
-        } => Run::End(end.at),
-        Part::Fault(place) => Run::Fault(place),
+        } => Reach::End(end.at),
+        Part::Fault(place) => Reach::Fault(place),
     }
 }
 
 // Goes over as many items as are announced, and stops at the first that is not whole.
-fn items_end(s: &[u8], at: usize, count: usize) -> Run
+fn items_end(s: &[u8], at: usize, count: usize) -> Reach
     ensures { λ r. ⌜ r ≡ itemsAt count (now (s .entry)) at ⌝ }
 {
     let mut place = at;
@@ -58,16 +58,16 @@ fn items_end(s: &[u8], at: usize, count: usize) -> Run
     while 0 < left {
         let item = item_end(s, place);
         match item {
-            Run::End(next) => {
+            Reach::End(next) => {
                 place = next;
             }
-            Run::Fault(fault) => {
-                return Run::Fault(fault);
+            Reach::Fault(fault) => {
+                return Reach::Fault(fault);
             }
         }
         left -= 1;
     }
-    Run::End(place)
+    Reach::End(place)
 }
 
 // The number of items of a reply whose items are all whole; 0 where it is no list.
@@ -87,8 +87,8 @@ pub fn identities(payload: &[u8]) -> Listing
     let count = n as usize;
     let all = items_end(payload, next.at, count);
     match all {
-        Run::End(_) => Listing::Count(count),
-        Run::Fault(place) => Listing::Refused(Refusal::Malformed(place)),
+        Reach::End(_) => Listing::Count(count),
+        Reach::Fault(place) => Listing::Refused(Refusal::Malformed(place)),
     }
 }
 
@@ -142,8 +142,8 @@ pub fn identity(payload: &[u8], index: usize) -> Item
             }
             let before = items_end(payload, 5, index);
             match before {
-                Run::End(at) => item_at(payload, at),
-                Run::Fault(place) => Item::Refused(Refusal::Malformed(place)),
+                Reach::End(at) => item_at(payload, at),
+                Reach::Fault(place) => Item::Refused(Refusal::Malformed(place)),
             }
         }
     }

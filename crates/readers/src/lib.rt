@@ -2,8 +2,8 @@
 pub mod identities;
 pub mod signature;
 
-// Where a run of things that were read ends, or the place of the fault in it.
-pub enum Run {
+// How far reading came: the place behind what was read, or the place of the fault in it.
+enum Reach {
     End(usize),
     Fault(usize),
 }

@@ -1,5 +1,5 @@
 // The signature reader: takes the signature out of a sign reply, where its type fits the hash that was asked for.
-use crate::Run;
+use crate::Reach;
 use client::Refusal;
 use client::Wrote;
 use wire::msg;
@@ -16,7 +16,7 @@ ghost use lib.ListN.{length};
 ghost use Rattle.readers.specs.Signatures.{fits, startsIn, touchedEnd, signatureEnd, signatureAt, replyAt, stringAnswer, stringLeft, signatureAnswer, signatureLeft};
 
 // Where the signature of a reply lies: its type, its bytes, and what a touch key adds.
-pub enum Signature {
+enum Signature {
     Whole { from: usize, to: usize },
     Refused(Refusal),
 }
@@ -41,22 +41,22 @@ fn starts_in(v: &[u8], start: &[u8]) -> bool
 }
 
 // Behind the signature of a touch key: a byte of flags and a counter. The place behind them.
-fn touched_end(s: &[u8], at: usize) -> Run
+fn touched_end(s: &[u8], at: usize) -> Reach
     ensures { λ r. ⌜ r ≡ touchedEnd (now (s .entry)) at ⌝ }
 {
     let start = Cursor { at };
     let Octet::Value(_, counter) = start.byte(s) else {
-        return Run::Fault(at);
+        return Reach::Fault(at);
     };
     let place = counter.at;
     let Number::Value(_, end) = counter.number(s) else {
-        return Run::Fault(place);
+        return Reach::Fault(place);
     };
-    Run::End(end.at)
+    Reach::End(end.at)
 }
 
 // Behind the type: the signature's bytes, and what a touch key adds. The place behind them.
-fn signature_end(s: &[u8], at: usize, touched: bool) -> Run
+fn signature_end(s: &[u8], at: usize, touched: bool) -> Reach
     ensures { λ r. ⌜ r ≡ signatureEnd (now (s .entry)) at touched ⌝ }
 {
     let start = Cursor { at };
@@ -66,12 +66,12 @@ fn signature_end(s: &[u8], at: usize, touched: bool) -> Run
         next: _,
     } = start.string(s)
     else {
-        return Run::Fault(at);
+        return Reach::Fault(at);
     };
     if touched {
         return touched_end(s, to);
     }
-    Run::End(to)
+    Reach::End(to)
 }
 
 // A signature that stands at a place.
@@ -88,8 +88,8 @@ fn signature_at(s: &[u8], at: usize, hash: u32) -> Signature
             }
             let end = signature_end(s, next.at, starts_in(cut(s, from, to), b"sk-"));
             match end {
-                Run::Fault(place) => Signature::Refused(Refusal::Malformed(place)),
-                Run::End(behind) => Signature::Whole {
+                Reach::Fault(place) => Signature::Refused(Refusal::Malformed(place)),
+                Reach::End(behind) => Signature::Whole {
                     from: at,
                     to: behind,
                 },
@@ -119,7 +119,7 @@ fn reply_at(payload: &[u8], hash: u32) -> Signature
     signature_at(cut(payload, 0, to), from, hash)
 }
 
-// Writes a signature as a string to the front of the output.
+// Writes a signature as a string to the front of the output. `write_signature` cuts it out of a string, whose length has four bytes.
 fn put_signature(v: &[u8], out: &mut [u8]) -> Wrote
     requires { ⌜ length (now v) < 2 ^ 32 ⌝ }
     ensures { λ r. ⌜ (r ≡ stringAnswer (now (v .entry)) (now (out .entry))) × (now (out .exit) ≡ stringLeft (now (v .entry)) (now (out .entry))) ⌝ }

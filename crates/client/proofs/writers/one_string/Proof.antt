@@ -4,8 +4,8 @@ use native.Mathlib.Omega.{arith}
 use borrow.Author.Needs.{needs}
 use denote.Ref.{now}
 use Rattle.client.proofs.WriteLaws.{too-long, whole, stage, refused, stage-size, string-more}
-use Rattle.client.proofs.requests.one_string.Statement.{statement}
-use Rattle.client.proofs.requests.one_string.Tie as tie
+use Rattle.client.proofs.writers.one_string.Statement.{statement}
+use Rattle.client.proofs.writers.one_string.Tie as tie
 
 returns : tie.Need-returns
 returns c = too-long _ _ _ (omega arith)

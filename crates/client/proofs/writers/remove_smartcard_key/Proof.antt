@@ -2,8 +2,8 @@
 use denote.Ref.{now}
 use borrow.Author.Needs.{needs}
 use Rattle.client.proofs.SmartcardLaws.{two-whole, remove-malformed, remove-written}
-use Rattle.client.proofs.requests.remove_smartcard_key.Statement.{statement}
-use Rattle.client.proofs.requests.remove_smartcard_key.Tie as tie
+use Rattle.client.proofs.writers.remove_smartcard_key.Statement.{statement}
+use Rattle.client.proofs.writers.remove_smartcard_key.Tie as tie
 
 returns : tie.Need-returns
 returns c = remove-malformed _ _ _ _ (c .before .utf8-end .ensures) (c .if1 .taken)

@@ -5,8 +5,8 @@ use borrow.Author.Needs.{needs}
 use denote.Ref.{now}
 use lib.ListN.{length-append}
 use Rattle.client.proofs.WriteLaws.{too-long, met, stage, refused, stage-size, string-more}
-use Rattle.client.proofs.requests.two_strings.Statement.{statement}
-use Rattle.client.proofs.requests.two_strings.Tie as tie
+use Rattle.client.proofs.writers.two_strings.Statement.{statement}
+use Rattle.client.proofs.writers.two_strings.Tie as tie
 
 returns : tie.Need-returns
 returns c = too-long _ _ _ (omega arith)

@@ -3,8 +3,8 @@ use mathlib.Core.Path.{refl}
 use native.Mathlib.Omega.{arith}
 use borrow.Author.Needs.{needs}
 use Rattle.client.proofs.WriteLaws.{too-long, too-short, met, more}
-use Rattle.client.proofs.requests.begin.Statement.{statement}
-use Rattle.client.proofs.requests.begin.Tie as tie
+use Rattle.client.proofs.writers.begin.Statement.{statement}
+use Rattle.client.proofs.writers.begin.Tie as tie
 
 returns : tie.Need-returns
 returns c = too-long _ _ _ (omega arith)

@@ -3,8 +3,8 @@ use denote.Ref.{now}
 use native.Mathlib.Omega.{arith}
 use borrow.Author.Needs.{needs}
 use Rattle.client.proofs.SmartcardLaws.{two-whole, too-many, add-malformed, add-plain, add-constrained}
-use Rattle.client.proofs.requests.add_smartcard_key.Statement.{statement}
-use Rattle.client.proofs.requests.add_smartcard_key.Tie as tie
+use Rattle.client.proofs.writers.add_smartcard_key.Statement.{statement}
+use Rattle.client.proofs.writers.add_smartcard_key.Tie as tie
 
 returns : tie.Need-returns
 returns c = too-many _ _ _ _ _ (omega arith)

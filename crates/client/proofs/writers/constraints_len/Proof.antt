@@ -8,8 +8,8 @@ use lib.ListN.{length, take}
 use Rattle.wire.specs.declared.Constraint.the-variants.{KeyLifetime}
 use Rattle.keys.specs.Forms.{constraintForms}
 use Rattle.client.proofs.ConstraintLaws.{five-at-most, length-more}
-use Rattle.client.proofs.requests.constraints_len.Statement.{statement}
-use Rattle.client.proofs.requests.constraints_len.Tie as tie
+use Rattle.client.proofs.writers.constraints_len.Statement.{statement}
+use Rattle.client.proofs.writers.constraints_len.Tie as tie
 
 abbrev Inv-loop : tie.InvT-loop
 Inv-loop count cs n₀ i₀ n i = (i ≤ count) × (n ≡ length (constraintForms (take i cs))) × (n ≤ 5 * i)

@@ -5,8 +5,8 @@ use native.Mathlib.Omega.{arith}
 use borrow.Author.Needs.{needs}
 use Rattle.wire.specs.declared.Constraint.the-variants.{KeyLifetime}
 use Rattle.client.proofs.ConstraintLaws.{Standing, none-standing, room-for-one, one-standing, all-standing}
-use Rattle.client.proofs.requests.put_constraints.Statement.{statement}
-use Rattle.client.proofs.requests.put_constraints.Tie as tie
+use Rattle.client.proofs.writers.put_constraints.Statement.{statement}
+use Rattle.client.proofs.writers.put_constraints.Tie as tie
 
 abbrev Inv-loop : tie.InvT-loop
 Inv-loop out₀ at count cs place₀ i₀ out place i = (i ≤ count) × Standing cs out₀ at i place out

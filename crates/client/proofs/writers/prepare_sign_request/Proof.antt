@@ -5,8 +5,8 @@ use denote.Ref.{now}
 use lib.ListN.{length-append}
 use Rattle.client.specs.Requests.{signRequest}
 use Rattle.client.proofs.WriteLaws.{whole, stage, refused, stage-size, more, behind-two}
-use Rattle.client.proofs.requests.prepare_sign_request.Statement.{statement}
-use Rattle.client.proofs.requests.prepare_sign_request.Tie as tie
+use Rattle.client.proofs.writers.prepare_sign_request.Statement.{statement}
+use Rattle.client.proofs.writers.prepare_sign_request.Tie as tie
 
 returns : tie.Need-returns
 returns c = refused _ _ _ _ _ (c .before .before .before .before .two-strings .ensures) _ (c .enum-told .given .1) _ _ (simp length-append (omega arith))

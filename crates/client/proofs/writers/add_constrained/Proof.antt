@@ -3,8 +3,8 @@ use denote.Ref.{now}
 use borrow.Author.Needs.{needs}
 use Rattle.client.proofs.WriteLaws.{stage}
 use Rattle.client.proofs.SmartcardLaws.{headOf, Counted, constrained-refused, number-room, constraints-room, constrained-written}
-use Rattle.client.proofs.requests.add_constrained.Statement.{statement}
-use Rattle.client.proofs.requests.add_constrained.Tie as tie
+use Rattle.client.proofs.writers.add_constrained.Statement.{statement}
+use Rattle.client.proofs.writers.add_constrained.Tie as tie
 
 returns : tie.Need-returns
 returns c =

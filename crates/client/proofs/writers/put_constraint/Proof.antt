@@ -3,8 +3,8 @@ use native.Mathlib.Omega.{arith}
 use borrow.Author.Needs.{needs}
 use denote.Ref.{now}
 use Rattle.client.proofs.ConstraintLaws.{some-room, lifetime-room, lifetime-put, confirm-put}
-use Rattle.client.proofs.requests.put_constraint.Statement.{statement}
-use Rattle.client.proofs.requests.put_constraint.Tie as tie
+use Rattle.client.proofs.writers.put_constraint.Statement.{statement}
+use Rattle.client.proofs.writers.put_constraint.Tie as tie
 
 put-byte-requires : tie.Need-put-byte-requires
 put-byte-requires c κs = some-room (c .before .before .before .before .before .args .c) (now (c .before .before .before .before .before .args .out)) _ (c .before .before .before .before .before .pre)
