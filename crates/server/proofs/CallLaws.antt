@@ -9,7 +9,6 @@ use lib.ListN.{length}
 use Rattle.wire.specs.Steps.{so}
 use Rattle.rule.specs.declared.Millis.{Millis}
 use Rattle.rule.specs.Gateway.{Gateway, advance}
-use Rattle.rule.specs.Calls as rule
 use Rattle.rule.specs.Calls.{lentLength, refusalOf, served}
 use Rattle.table.specs.declared.State.{State}
 use Rattle.table.specs.Meaning.{gatewayOf}
