@@ -135,11 +135,11 @@ fn head_in(s: &[u8]) -> Headed {
 }
 
 // Reads exactly as many bytes as the part has.
-pub fn fill(part: &mut [u8]) -> bool {
+pub(crate) fn fill(part: &mut [u8]) -> bool {
     io::read_full(STDIN_FILENO, part) == part.len()
 }
 
-pub fn read_head() -> Headed {
+pub(crate) fn read_head() -> Headed {
     let mut bytes = [0u8; 40];
     if !fill(&mut bytes) {
         return Headed::Malformed;
@@ -160,7 +160,7 @@ fn length_in(s: &[u8]) -> Length {
     Length::Of(n as usize)
 }
 
-pub fn read_length() -> Length {
+pub(crate) fn read_length() -> Length {
     let mut bytes = [0u8; 4];
     if !fill(&mut bytes) {
         return Length::Malformed;

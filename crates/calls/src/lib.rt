@@ -203,7 +203,8 @@ fn records(store: &mut [u8], payload: &mut [u8], signature: &mut [u8], reply: &m
     }
 }
 
-// One byte more than the limits has room, so that refusals 4 and 5 can be seen.
+// Answers nothing and is lent nothing: what it writes is held to the stored output of the programs. One byte more than the limits has room, so that
+// refusals 4 and 5 can be seen.
 pub fn run() {
     let mut store = [0u8; 32768];
     let mut payload = [0u8; 262145];

@@ -16,12 +16,12 @@ fn say_number(n: u64) {
     io::print_decimal(STDOUT_FILENO, n);
 }
 
-pub fn say_line(text: &[u8]) {
+pub(crate) fn say_line(text: &[u8]) {
     say(text);
     say(b"\n");
 }
 
-pub fn say_malformed() {
+pub(crate) fn say_malformed() {
     say(b"malformed\n");
 }
 
@@ -106,7 +106,7 @@ fn say_named(o: FlatOutcome) {
     }
 }
 
-pub fn say_outcome(o: FlatOutcome, reply: &[u8]) {
+pub(crate) fn say_outcome(o: FlatOutcome, reply: &[u8]) {
     let kind = o.kind;
     if kind == 5 {
         say_reply(cut(reply, 0, o.to));

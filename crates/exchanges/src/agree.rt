@@ -44,7 +44,7 @@ fn number_of(refusal: Refusal) -> u8
 }
 
 // Room for a piece, longer than any frame: letters, which its bytes are put in front of.
-pub fn letters() -> [u8; 262400]
+pub(crate) fn letters() -> [u8; 262400]
     ensures { λ r. ⌜ 262400 ≡ length r ⌝ }
 {
     [b'a'; 262400]
@@ -77,7 +77,7 @@ fn is_all(v: &[u8], b: u8) -> bool {
 }
 
 // The length of the piece, which then stands at the front of the room.
-pub fn put_piece(s: &[u8], p: Piece, room: &mut [u8]) -> usize {
+pub(crate) fn put_piece(s: &[u8], p: Piece, room: &mut [u8]) -> usize {
     let bytes = cut(s, p.bytes.from, p.bytes.to);
     if room.len() < bytes.len() {
         return 0;
@@ -139,7 +139,7 @@ fn kind_of(split: Split) -> u8 {
     }
 }
 
-pub fn has_frame(s: &[u8], bytes: &[u8], kind: u8, payload: Piece) -> bool {
+pub(crate) fn has_frame(s: &[u8], bytes: &[u8], kind: u8, payload: Piece) -> bool {
     if kind_of(read_frame(bytes)) != kind {
         return false;
     }
@@ -158,7 +158,7 @@ fn write_request(message: u8, first: &[u8], second: &[u8], flags: u32, out: &mut
     }
 }
 
-pub fn has_request(s: &[u8], r: Request, room: usize, want: Writing) -> bool {
+pub(crate) fn has_request(s: &[u8], r: Request, room: usize, want: Writing) -> bool {
     let mut a = letters();
     let mut b = letters();
     let mut all = blank();
@@ -170,7 +170,7 @@ pub fn has_request(s: &[u8], r: Request, room: usize, want: Writing) -> bool {
 }
 
 // The request's flags are the number of constraints.
-pub fn has_card(
+pub(crate) fn has_card(
     s: &[u8],
     r: Request,
     constraints: [Constraint; 4],
@@ -188,7 +188,7 @@ pub fn has_card(
     is_done(s, want, wrote, out)
 }
 
-pub fn has_count(payload: &[u8], refusal: u8, count: usize) -> bool {
+pub(crate) fn has_count(payload: &[u8], refusal: u8, count: usize) -> bool {
     let listing = identities(payload);
     match listing {
         Listing::Count(n) => refusal == 0 && n == count,
@@ -212,7 +212,7 @@ fn is_entry(item: Item, want: Entry) -> bool {
     }
 }
 
-pub fn has_item(payload: &[u8], index: usize, want: Entry) -> bool {
+pub(crate) fn has_item(payload: &[u8], index: usize, want: Entry) -> bool {
     if !is_entry(identity(payload, index), want) {
         return false;
     }
@@ -222,7 +222,13 @@ pub fn has_item(payload: &[u8], index: usize, want: Entry) -> bool {
     )
 }
 
-pub fn has_signature(s: &[u8], payload: &[u8], hash: u32, room: usize, want: Writing) -> bool {
+pub(crate) fn has_signature(
+    s: &[u8],
+    payload: &[u8],
+    hash: u32,
+    room: usize,
+    want: Writing,
+) -> bool {
     let mut all = blank();
     let out = front(&mut all, room);
     let wrote = write_signature(payload, hash, out);

@@ -150,7 +150,7 @@ fn changed(s: &[u8], c: Cursor, kind: u8, base: &[u8]) -> Ran {
     expected(s, next, kind, cut(&room, 0, n))
 }
 
-pub fn judge(s: &[u8], c: Cursor, kind: u8, base: &[u8]) -> Ran {
+pub(crate) fn judge(s: &[u8], c: Cursor, kind: u8, base: &[u8]) -> Ran {
     match kind {
         1 => request(s, c),
         2 => card(s, c),

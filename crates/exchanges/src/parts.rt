@@ -81,7 +81,7 @@ enum Entered {
     Malformed,
 }
 
-pub fn read_piece(s: &[u8], c: Cursor) -> Pieced {
+pub(crate) fn read_piece(s: &[u8], c: Cursor) -> Pieced {
     let Part::Whole { from, to, next } = c.string(s) else {
         return Pieced::Malformed;
     };
@@ -97,7 +97,7 @@ pub fn read_piece(s: &[u8], c: Cursor) -> Pieced {
     )
 }
 
-pub fn read_request(s: &[u8], c: Cursor) -> Requested {
+pub(crate) fn read_request(s: &[u8], c: Cursor) -> Requested {
     let Octet::Value(message, a) = c.byte(s) else {
         return Requested::Malformed;
     };
@@ -122,7 +122,7 @@ pub fn read_request(s: &[u8], c: Cursor) -> Requested {
 }
 
 // Whether there is a lifetime, and its seconds.
-pub fn read_limit(s: &[u8], c: Cursor) -> Limit {
+pub(crate) fn read_limit(s: &[u8], c: Cursor) -> Limit {
     let Flag::Value(limited, a) = read_flag(s, c) else {
         return Limit::Malformed;
     };
@@ -140,7 +140,7 @@ pub fn read_limit(s: &[u8], c: Cursor) -> Limit {
     Limit::Value(Constraint::Confirm, next)
 }
 
-pub fn read_wanted(s: &[u8], c: Cursor) -> Wanted {
+pub(crate) fn read_wanted(s: &[u8], c: Cursor) -> Wanted {
     let Place::Value(room, a) = read_place(s, c) else {
         return Wanted::Malformed;
     };
@@ -188,7 +188,7 @@ fn read_entry(s: &[u8], c: Cursor) -> Entered {
     )
 }
 
-pub fn read_items(s: &[u8], c: Cursor) -> Items {
+pub(crate) fn read_items(s: &[u8], c: Cursor) -> Items {
     let Octet::Value(refusal, a) = c.byte(s) else {
         return Items::Malformed;
     };

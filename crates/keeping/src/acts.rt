@@ -1,4 +1,5 @@
-// What is done with a sound state, and asked of it. Where there is no place the answer is 8, where there is nothing to answer 99.
+// What is done with a sound state, and asked of it; `judge` has tested that it is sound. Where there is no place the answer
+// is 8, where there is nothing to answer 99.
 use keys::constraints::Lifetime;
 use rule::Found;
 use rule::Millis;
@@ -16,25 +17,25 @@ pub struct Done {
     pub state: State,
 }
 
-pub fn number_of(yes: bool) -> u64 {
+pub(crate) fn number_of(yes: bool) -> u64 {
     if yes {
         return 1;
     }
     0
 }
 
-pub fn unanswered(state: State) -> Done {
+pub(crate) fn unanswered(state: State) -> Done {
     Done { answer: 99, state }
 }
 
-pub fn lifetime_of(limited: bool, seconds: u32) -> Lifetime {
+pub(crate) fn lifetime_of(limited: bool, seconds: u32) -> Lifetime {
     if limited {
         return Lifetime::For(Seconds { count: seconds });
     }
     Lifetime::Forever
 }
 
-pub fn advance(state: State, store: &mut [u8], reading: u32) -> Done
+pub(crate) fn advance(state: State, store: &mut [u8], reading: u32) -> Done
     requires { ⌜ Sound state (now store) ⌝ }
 {
     let after = changes::advance(
@@ -51,7 +52,7 @@ pub fn advance(state: State, store: &mut [u8], reading: u32) -> Done
 }
 
 // Answers the place that the key went to.
-pub fn put(
+pub(crate) fn put(
     state: State,
     store: &mut [u8],
     lifetime: Lifetime,
@@ -88,7 +89,7 @@ pub fn put(
     }
 }
 
-pub fn remove(state: State, store: &mut [u8], place: usize) -> Done
+pub(crate) fn remove(state: State, store: &mut [u8], place: usize) -> Done
     requires { ⌜ Sound state (now store) ⌝ }
 {
     if 8 <= place {
@@ -101,7 +102,7 @@ pub fn remove(state: State, store: &mut [u8], place: usize) -> Done
     }
 }
 
-pub fn remove_all(state: State, store: &mut [u8]) -> Done
+pub(crate) fn remove_all(state: State, store: &mut [u8]) -> Done
     requires { ⌜ Sound state (now store) ⌝ }
 {
     let after = changes::remove_all(state, store);
@@ -111,7 +112,7 @@ pub fn remove_all(state: State, store: &mut [u8]) -> Done
     }
 }
 
-pub fn lock(state: State, passphrase: &[u8]) -> Done {
+pub(crate) fn lock(state: State, passphrase: &[u8]) -> Done {
     if 1024 < passphrase.len() {
         return unanswered(state);
     }
@@ -123,7 +124,7 @@ pub fn lock(state: State, passphrase: &[u8]) -> Done {
 }
 
 // The place that holds the blob.
-pub fn find(state: State, store: &[u8], blob: &[u8]) -> u64
+pub(crate) fn find(state: State, store: &[u8], blob: &[u8]) -> u64
     requires { ⌜ Sound state (now store) ⌝ }
 {
     match places::find(state, store, blob) {
@@ -132,7 +133,7 @@ pub fn find(state: State, store: &[u8], blob: &[u8]) -> u64
     }
 }
 
-pub fn is_passphrase(state: State, store: &[u8], passphrase: &[u8]) -> u64
+pub(crate) fn is_passphrase(state: State, store: &[u8], passphrase: &[u8]) -> u64
     requires { ⌜ Sound state (now store) ⌝ }
 {
     number_of(locks::is_passphrase(state, passphrase))
@@ -152,7 +153,7 @@ fn part_of(e: Entry, part: u8) -> u64 {
     }
 }
 
-pub fn entry_part(state: State, place: usize, part: u8) -> u64 {
+pub(crate) fn entry_part(state: State, place: usize, part: u8) -> u64 {
     if 8 <= place {
         return 99;
     }
@@ -161,7 +162,7 @@ pub fn entry_part(state: State, place: usize, part: u8) -> u64 {
     part_of(e, part)
 }
 
-pub fn is_place_zero(state: State, store: &[u8], place: usize) -> u64
+pub(crate) fn is_place_zero(state: State, store: &[u8], place: usize) -> u64
     requires { ⌜ Sound state (now store) ⌝ }
 {
     if 8 <= place {
@@ -170,6 +171,6 @@ pub fn is_place_zero(state: State, store: &[u8], place: usize) -> u64
     number_of(is_zero(places::bytes_at(store, place)))
 }
 
-pub fn lock_length(state: State) -> u64 {
+pub(crate) fn lock_length(state: State) -> u64 {
     state.lock.len as u64
 }

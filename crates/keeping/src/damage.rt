@@ -105,12 +105,18 @@ fn damaged(state: State, part: u8, place: usize, value: u32) -> State {
     out
 }
 
-pub fn is_state_sound(state: State, store: &[u8], part: u8, place: usize, value: u32) -> bool {
+pub(crate) fn is_state_sound(
+    state: State,
+    store: &[u8],
+    part: u8,
+    place: usize,
+    value: u32,
+) -> bool {
     is_sound(damaged(state, part, place, value), store)
 }
 
 // A byte of the store is set, and set back.
-pub fn is_store_sound(state: State, store: &mut [u8], place: usize, value: u32) -> bool {
+pub(crate) fn is_store_sound(state: State, store: &mut [u8], place: usize, value: u32) -> bool {
     if store.len() <= place {
         return true;
     }
@@ -122,7 +128,7 @@ pub fn is_store_sound(state: State, store: &mut [u8], place: usize, value: u32) 
 }
 
 // A store of zeros with another length.
-pub fn is_length_sound(state: State, length: usize) -> bool {
+pub(crate) fn is_length_sound(state: State, length: usize) -> bool {
     let room = zeros();
     is_sound(state, cut(&room, 0, length))
 }

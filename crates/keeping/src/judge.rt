@@ -21,7 +21,7 @@ pub struct Judged {
 }
 
 // Each section begins with a fresh state.
-pub fn begun(state: State, store: &mut [u8], ran: u32) -> State {
+pub(crate) fn begun(state: State, store: &mut [u8], ran: u32) -> State {
     if ran == 0 {
         wipe(store);
         return fresh();
@@ -104,7 +104,7 @@ fn take(s: &[u8], t: Task, state: State, store: &mut [u8]) -> Done {
     Done { answer, state }
 }
 
-pub fn judge(s: &[u8], c: Cursor, state: State, store: &mut [u8]) -> Judged {
+pub(crate) fn judge(s: &[u8], c: Cursor, state: State, store: &mut [u8]) -> Judged {
     let Tasked::Value(t, next) = read_task(s, c) else {
         return Judged {
             ran: Ran::Malformed,

@@ -65,7 +65,7 @@ fn read_subject(s: &[u8], c: Cursor) -> Subjected {
     )
 }
 
-pub fn read_task(s: &[u8], c: Cursor) -> Tasked {
+pub(crate) fn read_task(s: &[u8], c: Cursor) -> Tasked {
     let Octet::Value(op, a) = c.byte(s) else {
         return Tasked::Malformed;
     };

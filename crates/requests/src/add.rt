@@ -1,4 +1,4 @@
-// The add requests (17, 25). Any error in them is FAILURE.
+// The add requests (17, 25). Any error in them is FAILURE. What they require, the call has tested.
 use crate::Called;
 use crate::Outcome;
 use crate::Said;

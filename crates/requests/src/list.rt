@@ -1,4 +1,4 @@
-// The list reply (11): the live entries in place order, each blob with an empty comment.
+// The list reply (11): the live entries in place order, each blob with an empty comment. What it requires, the call has tested.
 use crate::Called;
 use crate::Outcome;
 use table::State;

@@ -1,4 +1,4 @@
-// The requests that set and clear the lock: 22, 23.
+// The requests that set and clear the lock: 22, 23. What they require, the call has tested.
 use crate::Called;
 use crate::replies::failure;
 use crate::replies::success;

@@ -1,4 +1,4 @@
-// The requests that take keys out: 18, 19.
+// The requests that take keys out: 18, 19. What they require, the call has tested.
 use crate::Called;
 use crate::replies::failure;
 use crate::replies::success;

@@ -1,4 +1,4 @@
-// The short ends of a request: SUCCESS or FAILURE in five bytes, or a close, which writes nothing.
+// The short ends of a request: SUCCESS or FAILURE in five bytes, or a close, which writes nothing. Refusal 1 has left room.
 use crate::Called;
 use crate::Outcome;
 use table::State;
@@ -10,7 +10,7 @@ ghost use Prim.Native.Nat.{_≤_};
 ghost use lib.ListN.{length};
 ghost use Rattle.requests.specs.Ends.{Answered};
 
-// The five bytes of a reply whose payload is `kind` alone. Refusal 1 has left room.
+// The five bytes of a reply whose payload is `kind` alone.
 fn answer(state: State, kind: u8, reply: &mut [u8]) -> Called
     requires { ⌜ 5 ≤ length (now reply) ⌝ }
     ensures { λ r. ⌜ Answered kind state (now (reply .entry)) r (now (reply .exit)) ⌝ }

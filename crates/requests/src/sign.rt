@@ -1,4 +1,5 @@
-// The sign request (13). An error in it closes the connection; an absent key or a no is FAILURE.
+// The sign request (13). An error in it closes the connection; an absent key or a no is FAILURE. What it requires, the call has
+// tested.
 use crate::Answers;
 use crate::Called;
 use crate::Confirmed;

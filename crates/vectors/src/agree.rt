@@ -23,7 +23,7 @@ pub struct Limits {
 }
 
 // The mpint at a place has its contents from `from` up to `to`; both are 0 where a fault is expected.
-pub fn has_mpint(s: &[u8], at: usize, from: usize, to: usize) -> bool {
+pub(crate) fn has_mpint(s: &[u8], at: usize, from: usize, to: usize) -> bool {
     let found = Cursor { at }.mpint(s);
     match found {
         Part::Whole {
@@ -44,7 +44,7 @@ fn has_blob(payload: &[u8], places: Places, blob: &[u8]) -> bool {
     }
 }
 
-pub fn has_fields(payload: &[u8], end: usize, blob: &[u8]) -> bool {
+pub(crate) fn has_fields(payload: &[u8], end: usize, blob: &[u8]) -> bool {
     let key = key_at(payload, 1);
     match key {
         Key::Whole(places) => {
@@ -58,7 +58,7 @@ pub fn has_fields(payload: &[u8], end: usize, blob: &[u8]) -> bool {
     }
 }
 
-pub fn has_no_fields(payload: &[u8]) -> bool {
+pub(crate) fn has_no_fields(payload: &[u8]) -> bool {
     let key = key_at(payload, 1);
     match key {
         Key::Whole(_) => false,
@@ -105,7 +105,7 @@ fn limits_of(lifetime: Lifetime, confirm: bool) -> Limits {
     }
 }
 
-pub fn has_addition(payload: &[u8], constrained: bool, want: Limits) -> bool {
+pub(crate) fn has_addition(payload: &[u8], constrained: bool, want: Limits) -> bool {
     let addition = addition_at(payload, 1, constrained);
     match addition {
         Addition::Whole {
@@ -117,7 +117,7 @@ pub fn has_addition(payload: &[u8], constrained: bool, want: Limits) -> bool {
     }
 }
 
-pub fn has_constraints(s: &[u8], from: usize, want: Limits) -> bool {
+pub(crate) fn has_constraints(s: &[u8], from: usize, want: Limits) -> bool {
     let walk = constraints(s, from);
     match walk {
         Walk::Done { lifetime, confirm } => is_same_limits(limits_of(lifetime, confirm), want),

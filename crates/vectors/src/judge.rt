@@ -134,7 +134,7 @@ fn constraints(s: &[u8], c: Cursor) -> Ran {
     ran_as(has_constraints(cut(s, bf, bt), from, want), next)
 }
 
-pub fn judge(s: &[u8], c: Cursor, kind: u8, base: &[u8]) -> Ran {
+pub(crate) fn judge(s: &[u8], c: Cursor, kind: u8, base: &[u8]) -> Ran {
     match kind {
         1 => mpint(s, c),
         2 => mpint_string(s, c),

@@ -27,7 +27,7 @@ pub enum Limited {
 }
 
 // A flag, and if it is set the end of the fields and their blob.
-pub fn read_fields(s: &[u8], c: Cursor) -> Fields {
+pub(crate) fn read_fields(s: &[u8], c: Cursor) -> Fields {
     let Flag::Value(whole, a) = read_flag(s, c) else {
         return Fields::Malformed;
     };
@@ -47,7 +47,7 @@ pub fn read_fields(s: &[u8], c: Cursor) -> Fields {
     }
 }
 
-pub fn read_limits(s: &[u8], c: Cursor) -> Limited {
+pub(crate) fn read_limits(s: &[u8], c: Cursor) -> Limited {
     let Flag::Value(whole, a) = read_flag(s, c) else {
         return Limited::Malformed;
     };
