@@ -26,7 +26,7 @@ use Rattle.keys.specs.declared.addition.Addition.{Addition}
 use Rattle.rule.specs.declared.Found.{Found}
 use Rattle.rule.specs.declared.Found.the-variants.{At, Nothing}
 use Rattle.rule.specs.Gateway.{Place, Gateway, seek, holds, found, withLock}
-use Rattle.rule.specs.Rule.{Question, Answer, Landing, FAILURE, SUCCESS, reply, close, Plan, land, ask, added}
+use Rattle.rule.specs.Rule.{Question, Answer, Landing, reply, close, Plan, land, ask, added}
 use Rattle.rule.specs.Calls.{asks, lands, follow}
 use Rattle.rule.proofs.PlaceLaws.{seek-first}
 use Rattle.table.specs.declared.State.{State}
@@ -107,13 +107,9 @@ pub replied : (buffer : List ℕ) (r : Called) (store out bytes : List ℕ) (s :
 unfolding code written
 replied buffer r store out bytes s n g e l w m = rw (e, l) (record { outcome = refl; means = m; bytes = w })
 
-pub failing : {s : State} {buffer out : List ℕ} {r : Called} → Answered 5 s buffer r out → (store : List ℕ) (g : Gateway) → Means s store g
-    → Ends buffer r store out (record { outcome = lands FAILURE; gateway = g })
-failing h store g m = replied _ _ _ _ _ _ _ _ (h .0) refl (h .1) m
-
-pub succeeding : {s : State} {buffer out : List ℕ} {r : Called} → Answered 6 s buffer r out → (store : List ℕ) (g : Gateway) → Means s store g
-    → Ends buffer r store out (record { outcome = lands SUCCESS; gateway = g })
-succeeding h store g m = replied _ _ _ _ _ _ _ _ (h .0) refl (h .1) m
+pub answering : {kind : ℕ} {s : State} {buffer out : List ℕ} {r : Called} → Answered kind s buffer r out → (store : List ℕ) (g : Gateway) → Means s store g
+    → Ends buffer r store out (record { outcome = lands (reply (string (kind ∷ []))); gateway = g })
+answering h store g m = replied _ _ _ _ _ _ _ _ (h .0) refl (h .1) m
 
 -- nothing is written, and the state stays
 pub closing : {s : State} {r : Called} → r ≡ record { outcome = Close; state = s } → (store buffer : List ℕ) (g : Gateway) → Means s store g

@@ -1,6 +1,6 @@
 -- The plan goes by the same steps. Assumes nothing.
 use Rattle.rule.specs.Rule.{adding}
-use Rattle.requests.proofs.EndSteps.{failing}
+use Rattle.requests.proofs.EndSteps.{answering}
 use Rattle.requests.proofs.AddSteps.{adds}
 use borrow.Author.Needs.{needs}
 use Rattle.requests.proofs.add.add_key.Statement.{statement}
@@ -8,7 +8,7 @@ use Rattle.requests.proofs.add.add_key.Tie as tie
 
 returns : tie.Need-returns
 unfolding adding
-returns c = λ a e. search (adds, failing (c .before .before .failure .ensures)) depth 16
+returns c = λ a e. search (adds, answering (c .before .before .failure .ensures)) depth 16
 
 returns-2 : tie.Need-returns-2
 unfolding adding

@@ -1,5 +1,5 @@
 -- The plan goes by the same steps; the passphrase is compared whole. Assumes nothing.
-use Rattle.requests.proofs.EndSteps.{ends, failing, succeeding}
+use Rattle.requests.proofs.EndSteps.{ends, answering}
 use Rattle.rule.specs.Rule.{unlocking}
 use borrow.Author.Needs.{needs}
 use Rattle.requests.proofs.lock.unlock.Statement.{statement}
@@ -7,15 +7,15 @@ use Rattle.requests.proofs.lock.unlock.Tie as tie
 
 returns : tie.Need-returns
 unfolding unlocking
-returns c = λ a. search (ends, failing (c .before .before .failure .ensures)) depth 16
+returns c = λ a. search (ends, answering (c .before .before .failure .ensures)) depth 16
 
 returns-2 : tie.Need-returns-2
 unfolding unlocking
-returns-2 c = λ a. search (ends, succeeding (c .before .before .success .ensures), c .before .before .before .before .with-lock .ensures .1, c .before .before .before .before .before .cut2 .ensures, c .before .before .before .before .before .before .if1 .taken, c .before .before .before .before .before .before .before .is-passphrase .ensures, c .before .before .before .before .before .before .before .before .cut .ensures, c .before .before .before .before .before .before .before .before .before .before .from .given .1, c .before .before .before .before .before .before .before .before .before .before .before .before .string .ensures, c .before .before .before .before .before .before .before .before .before .before .before .before .before .before .before .before .pre .1) depth 16
+returns-2 c = λ a. search (ends, answering (c .before .before .success .ensures), c .before .before .before .before .with-lock .ensures .1, c .before .before .before .before .before .cut2 .ensures, c .before .before .before .before .before .before .if1 .taken, c .before .before .before .before .before .before .before .is-passphrase .ensures, c .before .before .before .before .before .before .before .before .cut .ensures, c .before .before .before .before .before .before .before .before .before .before .from .given .1, c .before .before .before .before .before .before .before .before .before .before .before .before .string .ensures, c .before .before .before .before .before .before .before .before .before .before .before .before .before .before .before .before .pre .1) depth 16
 
 returns-3 : tie.Need-returns-3
 unfolding unlocking
-returns-3 c = λ a. search (ends, failing (c .before .before .failure2 .ensures)) depth 16
+returns-3 c = λ a. search (ends, answering (c .before .before .failure2 .ensures)) depth 16
 
 pub unlock-spec : {M : Type 1} → statement M
 unlock-spec = tie.close (tie.spec (λ c κs. search needs) (λ c. search needs) (λ c. search needs) (λ c κs. search needs) (λ c. search needs) returns (λ c κs. search needs) (λ c κs. search needs) (λ c κs. search needs) (λ c κs. search ends depth 16) (λ c κs. search needs) (λ c. search needs) returns-2 (λ c κs. search needs) (λ c. search needs) returns-3)

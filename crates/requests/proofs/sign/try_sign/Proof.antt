@@ -1,6 +1,6 @@
 -- The plan goes by the same steps; number and Confirm are those of the place that was found. Assumes nothing.
 use Rattle.rule.specs.Rule.{signing}
-use Rattle.requests.proofs.EndSteps.{failing, closing}
+use Rattle.requests.proofs.EndSteps.{answering, closing}
 use Rattle.requests.proofs.SignSteps.{signs}
 use borrow.Author.Needs.{needs}
 use Rattle.requests.proofs.sign.try_sign.Statement.{statement}
@@ -16,7 +16,7 @@ returns-2 c = let st = c .before .before .before .before .before .before .before
 
 returns-3 : tie.Need-returns-3
 unfolding signing
-returns-3 c = search (signs, failing (c .before .before .failure .ensures), c .before .before .before .before .enum-told2 .given .1, c .before .before .before .before .before .before .find .ensures, c .before .before .before .before .before .before .before .cut .ensures, c .before .before .before .before .before .before .before .before .before .from .given .1, c .before .before .before .before .before .before .before .before .before .before .before .string .ensures, c .before .before .before .before .before .before .before .before .before .before .before .before .before .before .before .before .pre .2) depth 16
+returns-3 c = search (signs, answering (c .before .before .failure .ensures), c .before .before .before .before .enum-told2 .given .1, c .before .before .before .before .before .before .find .ensures, c .before .before .before .before .before .before .before .cut .ensures, c .before .before .before .before .before .before .before .before .before .from .given .1, c .before .before .before .before .before .before .before .before .before .before .before .string .ensures, c .before .before .before .before .before .before .before .before .before .before .before .before .before .before .before .before .pre .2) depth 16
 
 returns-4 : tie.Need-returns-4
 unfolding signing
@@ -24,7 +24,7 @@ returns-4 c = let st = c .before .before .before .before .before .before .before
 
 returns-5 : tie.Need-returns-5
 unfolding signing
-returns-5 c = let st = c .before .before .before .before .before .before .before .before .before .before .before .before .before .before .before .before .before .before .before .before .before .before .before in search (signs, failing (c .before .before .failure2 .ensures), c .before .before .before .before .enum-told4 .given .1, c .before .before .before .before .before .before .confirmed-for .ensures, c .before .before .before .before .before .before .before .if1 .left, c .before .before .before .before .before .before .before .before .before .number-at .ensures (st .args .store .now), c .before .before .before .before .before .before .before .before .confirm-at .ensures .1 _ (st .pre .2), c .before .before .before .before .before .before .before .before .before .before .before .i .given .1, c .before .before .before .before .before .before .before .before .before .before .before .before .before .find .ensures, c .before .before .before .before .before .before .before .before .before .before .before .before .before .before .cut .ensures, c .before .before .before .before .before .before .before .before .before .before .before .before .before .before .before .before .from .given .1, c .before .before .before .before .before .before .before .before .before .before .before .before .before .before .before .before .before .before .string .ensures, st .pre .2) depth 16
+returns-5 c = let st = c .before .before .before .before .before .before .before .before .before .before .before .before .before .before .before .before .before .before .before .before .before .before .before in search (signs, answering (c .before .before .failure2 .ensures), c .before .before .before .before .enum-told4 .given .1, c .before .before .before .before .before .before .confirmed-for .ensures, c .before .before .before .before .before .before .before .if1 .left, c .before .before .before .before .before .before .before .before .before .number-at .ensures (st .args .store .now), c .before .before .before .before .before .before .before .before .confirm-at .ensures .1 _ (st .pre .2), c .before .before .before .before .before .before .before .before .before .before .before .i .given .1, c .before .before .before .before .before .before .before .before .before .before .before .before .before .find .ensures, c .before .before .before .before .before .before .before .before .before .before .before .before .before .before .cut .ensures, c .before .before .before .before .before .before .before .before .before .before .before .before .before .before .before .before .from .given .1, c .before .before .before .before .before .before .before .before .before .before .before .before .before .before .before .before .before .before .string .ensures, st .pre .2) depth 16
 
 returns-6 : tie.Need-returns-6
 unfolding signing

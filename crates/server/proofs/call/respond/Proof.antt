@@ -1,16 +1,16 @@
 -- The row is the rule's, and the function of each row ends as its plan does. Assumes nothing.
 use mathlib.Core.Path.{refl}
-use Rattle.requests.proofs.EndSteps.{failing, means-itself}
+use Rattle.requests.proofs.EndSteps.{answering, means-itself}
 use Rattle.server.proofs.RowSteps.{check-lent, served-empty, served-row, served-asks}
 use borrow.Author.Needs.{needs}
 use Rattle.server.proofs.call.respond.Statement.{statement}
 use Rattle.server.proofs.call.respond.Tie as tie
 
 returns : tie.Need-returns
-returns c = served-empty _ _ _ _ _ _ _ _ _ (c .before .before .before .before .if1 .taken) (failing (c .before .before .failure .ensures) _ _ (means-itself _ _ (c .before .before .before .before .before .before .before .before .before .pre .2)))
+returns c = served-empty _ _ _ _ _ _ _ _ _ (c .before .before .before .before .if1 .taken) (answering (c .before .before .failure .ensures) _ _ (means-itself _ _ (c .before .before .before .before .before .before .before .before .before .pre .2)))
 
 returns-2 : tie.Need-returns-2
-returns-2 c = served-row _ _ _ _ _ _ _ _ _ _ _ (c .before .before .before .before .before .before .before .before .before .if1 .left) (c .before .before .before .before .before .before .before .is-locked .ensures) (c .before .before .before .before .before .before .row-of .ensures) _ (c .before .before .before .before .enum-told .given .1) (failing (c .before .before .failure2 .ensures) _ _ (means-itself _ _ (c .before .before .before .before .before .before .before .before .before .before .before .before .before .before .pre .2)))
+returns-2 c = served-row _ _ _ _ _ _ _ _ _ _ _ (c .before .before .before .before .before .before .before .before .before .if1 .left) (c .before .before .before .before .before .before .before .is-locked .ensures) (c .before .before .before .before .before .before .row-of .ensures) _ (c .before .before .before .before .enum-told .given .1) (answering (c .before .before .failure2 .ensures) _ _ (means-itself _ _ (c .before .before .before .before .before .before .before .before .before .before .before .before .before .before .pre .2)))
 
 returns-3 : tie.Need-returns-3
 returns-3 c = served-asks _ _ _ _ _ _ _ _ _ _ _ (c .before .before .before .before .before .before .if1 .left) (c .before .before .before .before .is-locked .ensures) (c .before .before .before .row-of .ensures) _ (c .before .class .given .1) refl refl refl (c .before .before .before .before .before .before .before .before .before .before .before .pre .2)
