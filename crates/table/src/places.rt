@@ -2,8 +2,8 @@
 // once the store's length is right. A place is below 8, since a search found it or a loop counts so far.
 use crate::Entry;
 use crate::State;
+use crate::bytes::is_equal;
 use rule::Found;
-use wire::read::is_same;
 ghost use mathlib.Core.Path.{_≡_};
 ghost use mathlib.Core.Bool.{not};
 ghost use mathlib.Core.Option.{none};
@@ -84,7 +84,7 @@ fn is_holding(e: Entry, p: &[u8], blob: &[u8]) -> bool
         return false;
     }
     let n = e.blob_len;
-    is_same(&p[..n], blob)
+    is_equal(&p[..n], blob)
 }
 
 // The place that holds the blob.
