@@ -1,5 +1,5 @@
 -- Add and sign requests: what the readers take is what the draft writes, and what the draft writes they take.
-use Prim.Native.Nat.{ℕ, _+_, _^_, _<_}
+use Prim.Native.Nat.{ℕ, _+_, _-_, _^_, _<_}
 use native.Mathlib.Omega.{arith}
 use mathlib.Core.Path.{_≡_, refl, sym, ap, _∙_}
 use mathlib.Core.Option.{some}
@@ -17,7 +17,7 @@ use Rattle.wire.specs.Read.{cutOf, stringAt, numberAt, textAt}
 use Rattle.wire.specs.Steps.{part}
 use Rattle.wire.specs.Write.{string}
 use Rattle.wire.proofs.Reading.{string-read, number-read}
-use Rattle.wire.proofs.Format.{string-shape, string-form, number-form, be-shape, be-small}
+use Rattle.wire.proofs.Format.{part-length, string-shape, string-form, number-form, be-shape, be-small}
 use Rattle.wire.proofs.Laws.{text-rule, whole-of}
 use Rattle.keys.specs.declared.kinds.Places.{Places}
 use Rattle.keys.specs.declared.kinds.Key.{Key}
@@ -247,6 +247,20 @@ sign-in {payload} {blob} {from} {to} {flags} bytes begins k order =
       short = rw (n .number) (be-small payload at bytes);
       shape = first-shape begins ∙ ap (λ (rest : List ℕ). 13 ∷ rest) (rw (← flags-shape, ← data-shape, ← k .is) key-shape);
     }
+
+-- where the data lies: behind the first byte, the blob's string and the data's own length
+pub record DataPlaces (payload blob : List ℕ) (from to : ℕ) : Type 0 where
+  pub start : from ≡ 1 + length (string blob) + 4
+  pub end : to ≡ from + length (cutOf payload from to)
+
+pub data-places : {payload blob : List ℕ} {from to flags : ℕ} (k : Carries blob payload) → Ordered payload (k .next .at) from to flags → DataPlaces payload blob from to
+data-places {payload} {blob} {from} {to} k order =
+    let key = string-read payload 1 (k .from) (k .to) (k .next) (k .read) in
+    let message = string-read payload (k .next .at) from to (order .next) (order .message) in
+    let key-length = part-length payload (k .from) (k .to) (omega arith) (key .within) in
+    let message-length = part-length payload from to (omega arith) (message .within) in
+    let blob-length : length blob ≡ k .to - k .from = sym (ap length (k .is)) ∙ key-length in
+    record { start = omega arith; end = omega arith }
 
 -- what the draft writes is read
 pub sign-out : {payload blob bytes : List ℕ} {flags : ℕ} → Bytes payload → length payload < 2 ^ 32 → SignRequest payload blob bytes flags → SignRead payload blob bytes flags
