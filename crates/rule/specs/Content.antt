@@ -10,11 +10,12 @@ use Rattle.wire.specs.declared.Seconds.{Seconds}
 use Rattle.wire.specs.declared.Constraint.{Constraint}
 use Rattle.wire.specs.Numbers.{Bytes, be32}
 use Rattle.wire.specs.Abnf.{Octets}
+use Rattle.wire.specs.Values.{read}
 use Rattle.wire.specs.Write.{string}
 use Rattle.keys.specs.declared.constraints.Lifetime.{Lifetime}
 use Rattle.keys.specs.declared.constraints.Lifetime.the-variants.{Forever, For}
 use Rattle.keys.specs.Additions.{additionAt}
-use Rattle.keys.specs.Values.{secondsIn, Added, additionSays}
+use Rattle.keys.specs.Values.{secondsIn, Added, additionReads}
 use Rattle.keys.specs.Forms.{KeyFields, constraintForms, Adds}
 use Rattle.rule.specs.declared.Hash.{Hash}
 use Rattle.rule.specs.declared.Hash.the-variants.{Plain, Sha256, Sha512}
@@ -217,10 +218,10 @@ addByte true = 25
 -- An add request is read exactly where it is one as the draft writes it: its blob, where its key fields end, and its limits.
 abbrev pub AdditionRule : Type 0
 AdditionRule =
-    (payload : List ℕ) (constrained : Bool) (a : Added) → Bytes payload → length payload < 2 ^ 32 → Begins (addByte constrained) payload
-    → (additionSays payload 1 (additionAt payload 1 constrained) ≡ some a)
+    (payload : List ℕ) (constrained : Bool) (a : Added) (end : ℕ) → Bytes payload → length payload < 2 ^ 32 → Begins (addByte constrained) payload
+    → (additionReads payload 1 (additionAt payload 1 constrained) ≡ read a end)
     ↔ ((fields : List ℕ) × (lifetime : Lifetime) × (confirm : Bool) × AddRequest payload fields (a .blob) lifetime confirm
-    × (a .end ≡ 1 + length fields) × (a .limits ≡ record { seconds = secondsIn lifetime; confirm = confirm }))
+    × (end ≡ 1 + length fields) × (a .limits ≡ record { seconds = secondsIn lifetime; confirm = confirm }))
 
 -- the entry that an add request makes at a call
 abbrev pub madeBy : Gateway → Call → List ℕ → List ℕ → Lifetime → Bool → Entry
