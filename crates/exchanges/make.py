@@ -13,7 +13,7 @@ Where the expectations come from:
 - recorded: a request's frame is what ssh-add, ssh-keygen or ssh sent, and its parts are cut out of it; a list's blobs are those of the
   .pub files; a signature is all that ssh-agent sent behind the 14, and the hash is the flags of its request.
 - russh: what it wrote and answered. Its errors have fewer kinds than 01's refusals: a protocol error is 13 for a reply of type 14 and 15 for
-  others. Where 01 decides otherwise (the section `russh differs`), 01 is expected, and this script sees to it that russh answered otherwise.
+  others. Where 01 decides otherwise, 01 is expected: these inputs stand in DIFFERS with both answers, and any other that differs ends this script.
 - made, short, long and damaged: the readers and writers below, written from document 01 and not from the Rattle code. They have to agree
   with every expectation above too. Where a fault is expected, its place is not.
 
@@ -303,13 +303,12 @@ def unhex(word):
 
 
 def russh_request(words):
-    """The parts of the request that a call writes. The flags are those of an RSA key; for others russh writes 0."""
+    """The request that a call is to write, with the flags that the caller's hash stands for."""
     call, *args = words
     if call == 'list':
         return 11, b'', b'', 0, ()
     if call == 'sign':
-        blob = unhex(args[0])
-        return 13, blob, unhex(args[2]), int(args[1]) if take_string(blob, 0)[0] == b'ssh-rsa' else 0, ()
+        return 13, unhex(args[0]), unhex(args[2]), int(args[1]), ()
     if call in ('lock', 'unlock'):
         return {'lock': 22, 'unlock': 23}[call], unhex(args[0]), b'', 0, ()
     constraints = tuple(CONFIRM if c == 'confirm' else int(c[5:]) for c in args[2:])
@@ -325,12 +324,11 @@ def russh_refusal(reply, error):
 
 
 def russh_list(reply, result):
-    """(refusal, [(blob, certificate)])"""
     if result[0] == 'err':
         return russh_refusal(reply, result[1]), None
     items = [item.split(':') for item in result[2:]]
     assert len(items) == int(result[1])
-    return 0, [(bytes.fromhex(blob), kind == 'cert') for kind, blob, _ in items]
+    return 0, [(unhex(blob), kind == 'cert') for kind, blob, _ in items]
 
 
 def russh_signature(reply, result):
@@ -339,32 +337,66 @@ def russh_signature(reply, result):
     return 0, unhex(result[1])
 
 
-def our_list(reply):
-    refusal, items = answer(list_of, reply)
-    return refusal, items and [(reply[start:end], certificate) for start, end, certificate in items] if refusal == 0 else None
+def blobs_of(reply):
+    return [(reply[start:end], certificate) for start, end, certificate in list_of(reply)]
+
+
+def inputs_of(words, frame, result):
+    """What a call gives a writer or reader of 01: (kind, input, russh's answer, 01's)."""
+    request = russh_request(words)
+    yield 2 if request[0] == 20 else 1, request, (0, frame), answer(frame_of, MOST + 4, *request)
+    if words[0] == 'list':
+        reply = unhex(words[1])
+        yield 5, reply, russh_list(reply, result), answer(blobs_of, reply)
+    if words[0] == 'sign':
+        reply = unhex(words[4])
+        yield 7, (reply, request[3]), russh_signature(reply, result), answer(signature_of, reply, request[3], MOST)
+
+
+P256 = string(b'ecdsa-sha2-nistp256') + string(b'nistp256') + string(b'\x04' + b'\x01' * 64)
+NO_TYPE = string(b'ssh-foo') + string(b'x')
+NO_CERTIFICATE = string(b'ssh-ed25519' + CERTIFICATE) + string(b'x')
+PLAIN = string(b'xy') + string(b'\x01')
+
+
+def listed(blob):
+    return b'\x0c' + number(1) + string(blob) + string(b'c')
+
+
+# Where 01 decides otherwise: name, kind, input, russh's answer, 01's. docs/DIFFERENCES.md has the reasons. These differ, and no other input may.
+DIFFERS = [
+    ('two bytes that are no key', 5, listed(b'xx'), (12, None), (0, [(b'xx', False)])),
+    ('an empty blob', 5, listed(b''), (12, None), (0, [(b'', False)])),
+    ('a type that nobody knows', 5, listed(NO_TYPE), (12, None), (0, [(NO_TYPE, False)])),
+    ('a type of a certificate in front of none', 5, listed(NO_CERTIFICATE), (12, None), (0, [(NO_CERTIFICATE, True)])),
+    ('two bytes behind the key', 5, listed(P256 + b'zz'), (0, [(P256, False)]), (0, [(P256 + b'zz', False)])),
+    ('five constraints', 2, (20, b'a', b'', 0, (CONFIRM,) * 5), (0, bytes.fromhex('000000131a000000016100000000000000050202020202')), (18, None)),
+    ('hash 2 for a key that is not RSA', 1, (13, P256, b'', 2, ()),
+     (0, string(b'\x0d' + string(P256) + string(b'') + number(0))), (0, string(b'\x0d' + string(P256) + string(b'') + number(2)))),
+    ('hash 2 for a key that is not RSA', 7, (b'\x0e' + string(PLAIN), 2), (0, string(PLAIN)), (13, None)),
+]
+
+
+def russh_records(kind, given, expected):
+    if kind == 5:
+        return list_records(given)
+    if kind == 7:
+        return [signature_record(*given, *expected)]
+    return [request_record(len(expected[1] or b'') + 3, *expected, *given)]
 
 
 def russh_sections(folder):
-    requests, cards, lists, signatures, differing_cards, differing_lists = [], [], [], [], [], []
-    for words, frame, result in [*calls_in(folder, 'client'), *calls_in(folder, 'beyond')]:
-        request = russh_request(words)
-        if len(request[4]) > 4:
-            differing_cards.append(made_request(len(frame) + 3, *request))
-        else:
-            (cards if request[0] == 20 else requests).append(request_record(len(frame) + 3, 0, frame, *request))
-        if words[0] == 'list':
-            reply = unhex(words[1])
-            agrees = our_list(reply) == russh_list(reply, result)
-            (lists if agrees else differing_lists).extend(list_records(reply))
-        elif words[0] == 'sign':
-            reply = unhex(words[4])
-            signatures.append(signature_record(reply, request[3], *russh_signature(reply, result)))
-    yield 1, 'russh request', b'', requests
-    yield 2, 'russh smartcard', b'', cards
-    yield 5, 'russh list', b'', lists
-    yield 7, 'russh signature', b'', signatures
-    yield 2, 'russh differs: smartcard', b'', differing_cards
-    yield 5, 'russh differs: list', b'', differing_lists
+    inputs = [i for name in ('client', 'beyond') for call in calls_in(folder, name) for i in inputs_of(*call)]
+    for one in inputs:
+        _, _, rust, ours = one
+        assert rust == ours or one in [tuple(d[1:]) for d in DIFFERS], ('russh differs, and is not listed', one)
+    for name, *one in DIFFERS:
+        assert tuple(one) in inputs and one[2] != one[3], ('listed, and does not differ', name)
+    names = {1: 'request', 2: 'smartcard', 5: 'list', 7: 'signature'}
+    for kind, name in names.items():
+        yield kind, 'russh ' + name, b'', [r for k, given, rust, ours in inputs if k == kind and rust == ours for r in russh_records(k, given, ours)]
+    for name, kind, given, _, ours in DIFFERS:
+        yield kind, f'russh differs: {names[kind]}, {name}', b'', russh_records(kind, given, ours)
 
 
 # ---- 01's examples

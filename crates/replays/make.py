@@ -5,12 +5,17 @@
 
 SCRIPTED is a program that answers scripts with russh 0.65.0's unchanged server.rs; its signer is scripted: it gives the key's type and the data.
 ORACLE is its folder. These scripts are run, one request at a time: scripts/openssh.txt (what OpenSSH's ssh-add, ssh-keygen and ssh sent, for
-seven keys of all five kinds), scripts/time.txt (lifetimes), and the 185 requests of tools/cases.py, each from a fresh agent and followed by a
-list. Every reply that is expected here is the one that russh gave, with these exceptions, each listed in docs/DIFFERENCES.md:
-- a list's items stand in place order; russh's come in any order;
-- the 25 cases that 01 decides otherwise are left out, and so is the rest of a session once russh has taken a key of a kind that is not 01's.
-The answers from outside are lent with each call: the gate and the confirmation say yes, the signature is the one in russh's reply. The key
-check says yes, but in the cases that 01 leaves to it, where it says what russh's library said.
+seven keys of all five kinds), scripts/time.txt (lifetimes), signatures with each choice of flags, and the 185 requests of tools/cases.py, each from a
+fresh agent and followed by a list.
+
+Each request is called first without an answer, then with one answer more for each question, until it lands. The rule below, written from document
+01 and not from the Rattle code, says which question must come (class, part, insertion number, hash) and how the request must land; what it says
+must be what russh answered, the signature too, which is made here from the key's type and the data. A list's items stand in place order; russh's
+come in any order. Gate and confirmation say yes. The key check says yes, but in the cases that 01 leaves to it, where it says what russh's library
+said.
+
+Where russh answers otherwise it must be a key of a kind that is not 01's, or one of the 25 cases that 01 decides otherwise; the rest of such a session
+is left out.
 """
 import os
 import stat
@@ -19,21 +24,217 @@ import subprocess
 import sys
 import tempfile
 
-NO, YES = 1, 2
+FAILURE, SUCCESS, CLOSE = b'\x05', b'\x06', None
+CLASSES = {11: 1, 17: 2, 25: 2, 18: 3, 19: 4, 13: 5, 22: 6, 23: 7}
 records, lines = [], []
+
+
+# ---- the rule of document 01, one request at a time
+
+class Fault(Exception):
+    pass
+
+
+def need(test):
+    if not test:
+        raise Fault
+
+
+def number(b, at):
+    need(at + 4 <= len(b))
+    return struct.unpack('>I', b[at:at + 4])[0], at + 4
+
+
+def string_at(b, at):
+    """The contents of the string at a place, and the place behind it."""
+    n, at = number(b, at)
+    need(at + n <= len(b))
+    return b[at:at + n], at + n
 
 
 def string(b):
     return struct.pack('>I', len(b)) + b
 
 
-def strings(b, n):
-    out = []
-    for _ in range(n):
-        k = struct.unpack('>I', b[:4])[0]
-        out.append(b[4:4 + k])
-        b = b[4 + k:]
-    return out, b
+def mpint(b):
+    """Positive and shortest."""
+    need(b and b[0] < 128 and (b[0] or b[1:2] >= b'\x80'))
+    return b.lstrip(b'\0')
+
+
+def key_at(b, at):
+    """The blob of the key whose fields start at a place, and the place behind them."""
+    def more(n):
+        nonlocal at
+        found = []
+        for _ in range(n):
+            one, at = string_at(b, at)
+            found.append(one)
+        return found
+    kind, = more(1)
+    sizes = {b'nistp256': (65, 32), b'nistp384': (97, 48), b'nistp521': (133, 66)}
+    if kind == b'ssh-ed25519':
+        public, pair = more(2)
+        need(len(public) == 32 and len(pair) == 64 and pair[32:] == public)
+        return string(kind) + string(public), at
+    if kind == b'ssh-rsa':
+        six = more(6)
+        for one in six:
+            mpint(one)
+        return string(kind) + string(six[1]) + string(six[0]), at
+    need(kind[:11] == b'ecdsa-sha2-' and kind[11:] in sizes)
+    curve, point, d = more(3)
+    q, most = sizes[kind[11:]]
+    need(curve == kind[11:] and len(point) == q and point[0] == 4 and len(mpint(d)) <= most)
+    return string(kind) + string(curve) + string(point), at
+
+
+def lifetime(b):
+    """The walk over constraints: seconds or none, and whether to confirm."""
+    seconds, confirm, at = None, False, 0
+    while at < len(b):
+        if b[at] == 2:
+            confirm, at = True, at + 1
+        else:
+            need(b[at] == 1 and seconds is None)
+            seconds, at = number(b, at + 1)
+    return seconds, confirm
+
+
+class Entry:
+    def __init__(self, number, blob, due, confirm):
+        self.number, self.blob, self.due, self.confirm = number, blob, due, confirm
+
+
+class Gateway:
+    def __init__(self):
+        self.places, self.next, self.lock, self.clock = [None] * 8, 1, b'', 0
+
+    def advance(self, clock):
+        self.clock = clock
+        self.places = [None if e and e.due is not None and e.due <= clock else e for e in self.places]
+
+    def held(self, blob):
+        return next((i for i, e in enumerate(self.places) if e and e.blob == blob), None)
+
+
+def rule(gateway, payload):
+    """Yields each question that must be asked, takes its answer, and returns the reply, or CLOSE."""
+    byte = payload[0] if payload else 0
+    if byte not in CLASSES or (byte == 23) != (gateway.lock != b''):
+        return FAILURE
+    if not (yield 'gate', CLASSES[byte]):
+        return FAILURE
+    try:
+        return (yield from REQUESTS[byte](gateway, payload))
+    except Fault:
+        return FAILURE
+
+
+def listing(gateway, _):
+    yield from ()
+    blobs = [e.blob for e in gateway.places if e]
+    return b'\x0c' + struct.pack('>I', len(blobs)) + b''.join(string(b) + string(b'') for b in blobs)
+
+
+def add(gateway, payload):
+    blob, end = key_at(payload, 1)
+    comment, behind = string_at(payload, end)
+    try:
+        comment.decode('utf-8')
+    except UnicodeDecodeError:
+        raise Fault
+    seconds, confirm = lifetime(payload[behind:]) if payload[0] == 25 else (None, False)
+    need(len(blob) <= 1024 and end - 1 <= 3072)
+    place = gateway.held(blob)
+    if place is None:
+        need(None in gateway.places)
+        place = gateway.places.index(None)
+    need((yield 'check', 1, end))
+    gateway.places[place] = Entry(gateway.next, blob, None if seconds is None else gateway.clock + 1000 * seconds, confirm)
+    gateway.next += 1
+    return SUCCESS
+
+
+def remove(gateway, payload):
+    yield from ()
+    place = gateway.held(string_at(payload, 1)[0])
+    need(place is not None)
+    gateway.places[place] = None
+    return SUCCESS
+
+
+def remove_all(gateway, _):
+    yield from ()
+    gateway.places = [None] * 8
+    return SUCCESS
+
+
+def sign(gateway, payload):
+    try:
+        blob, at = string_at(payload, 1)
+    except Fault:
+        return CLOSE
+    place = gateway.held(blob)
+    need(place is not None)
+    entry = gateway.places[place]
+    if entry.confirm:
+        need((yield 'confirm', entry.number))
+    try:
+        data, behind = string_at(payload, at)
+        flags, _ = number(payload, behind)
+    except Fault:
+        return CLOSE
+    hash = 256 if flags & 2 else 512 if flags & 4 else 0
+    signature = yield 'sign', entry.number, at + 4, behind, hash
+    return b'\x0e' + string(signature)
+
+
+def lock(gateway, payload):
+    yield from ()
+    passphrase, _ = string_at(payload, 1)
+    need(len(passphrase) <= 1024)
+    gateway.lock = passphrase
+    return SUCCESS
+
+
+def unlock(gateway, payload):
+    yield from ()
+    need(string_at(payload, 1)[0] == gateway.lock)
+    gateway.lock = b''
+    return SUCCESS
+
+
+REQUESTS = {11: listing, 17: add, 25: add, 18: remove, 19: remove_all, 13: sign, 22: lock, 23: unlock}
+
+
+# ---- the answers from outside
+
+def scripted_signature(blob, data, hash):
+    """The type and the data. Only an RSA key has a choice of hash, which its type says."""
+    kind = string_at(blob, 0)[0]
+    if kind == b'ssh-rsa' and hash:
+        kind = b'rsa-sha2-%d' % hash
+    return string(kind) + string(data)
+
+
+def answer(gateway, payload, question, check):
+    """What is answered to a question, and the fields of the record that lend it."""
+    kind, *values = question
+    if kind == 'sign':
+        number, start, end, hash = values
+        entry = next(e for e in gateway.places if e and e.number == number)
+        signature = scripted_signature(entry.blob, payload[start:end], hash)
+        return signature, {'signature': 2, 'signature_number': number, 'blob': signature}
+    if kind == 'confirm':
+        return True, {'confirmation': 2, 'confirmation_number': values[0]}
+    yes = kind == 'gate' or check
+    return yes, {kind: 2 if yes else 1}
+
+
+# ---- the calls
+
+NOTHING = {'gate': 0, 'check': 0, 'confirmation': 0, 'signature': 0, 'confirmation_number': 0, 'signature_number': 0, 'blob': b''}
 
 
 def say(text):
@@ -41,105 +242,68 @@ def say(text):
     lines.append(text)
 
 
-# ---- the table, as far as the order of lists and the insertion numbers ask for it
-
-class Table:
-    def __init__(self):
-        self.places, self.next = [None] * 8, 1
-
-    def expire(self, clock):
-        self.places = [p if p and (p[2] is None or clock < p[2]) else None for p in self.places]
-
-    def add(self, payload, clock):
-        parts, _ = strings(payload[1:], 1)
-        kind = parts[0]
-        names = {b'ssh-ed25519': (3, (0, 1)), b'ssh-rsa': (7, (0, 2, 1))}.get(kind, (4, (0, 1, 2)))
-        fields, rest = strings(payload[1:], names[0])
-        blob = b''.join(string(fields[i]) for i in names[1])
-        _, rest = strings(rest, 1)
-        due = None
-        while payload[0] == 25 and rest:
-            if rest[0] == 1:
-                due = clock + 1000 * struct.unpack('>I', rest[1:5])[0]
-                rest = rest[5:]
-            else:
-                rest = rest[1:]
-        held = [i for i, p in enumerate(self.places) if p and p[0] == blob]
-        i = held[0] if held else self.places.index(None)
-        self.places[i] = (blob, self.next, due)
-        self.next += 1
-
-    def remove(self, blob):
-        self.places = [None if p and p[0] == blob else p for p in self.places]
-
-    def number(self, blob):
-        return next((p[1] for p in self.places if p and p[0] == blob), 0)
-
-    def ordered(self, reply):
-        count = struct.unpack('>I', reply[5:9])[0]
-        items, rest = strings(reply[9:], 2 * count)
-        assert not rest and all(c == b'' for c in items[1::2])
-        order = [p[0] for p in self.places if p]
-        assert sorted(order) == sorted(items[::2]), 'the keys are not those that are held'
-        return reply[:9] + b''.join(string(b) + string(b'') for b in order)
+def record(payload, clock, lent):
+    *values, signature = lent.values()
+    records.append(b'\1' + struct.pack('>QBBBBQQIII', clock, *values, 8265, len(payload), len(signature)) + payload + signature)
 
 
-def signature_in(reply):
-    return strings(reply[5:], 1)[0][0] if reply[4:5] == b'\x0e' else b''
+def serve(gateway, payload, clock, check):
+    """Calls until the request lands; its reply by the rule, as a line of the oracle."""
+    gateway.advance(clock)
+    lent, plan, told = dict(NOTHING), rule(gateway, payload), None
+    while True:
+        record(payload, clock, lent)
+        try:
+            question = plan.send(told)
+        except StopIteration as landed:
+            line = 'close' if landed.value is CLOSE else 'reply ' + string(landed.value).hex()
+            lines.append(line.upper().replace('REPLY', 'reply').replace('CLOSE', 'close'))
+            return line
+        lines.append(' '.join(['ask', question[0], *map(str, question[1:])]))
+        told, more = answer(gateway, payload, question, check)
+        lent.update(more)
 
 
-def first_string(payload):
-    if len(payload) < 5 or struct.unpack('>I', payload[1:5])[0] > len(payload) - 5:
-        return b''
-    return strings(payload[1:], 1)[0][0]
-
-
-def call(table, payload, answer, clock, check):
-    table.expire(clock)
-    n = table.number(first_string(payload))
-    reply = bytes.fromhex(answer[6:]) if answer.startswith('reply ') else b''
-    signature = signature_in(reply)
-    lent = (YES, check, YES, YES if signature else NO, n, n)
-    records.append(b'\1' + struct.pack('>QBBBBQQIII', clock, *lent, 8265, len(payload), len(signature)) + payload + signature)
-    if reply[4:5] == b'\x0c':
-        reply = table.ordered(reply)
-    if reply[4:] == b'\6' and payload[0] in (17, 25):
-        table.add(payload, clock)
-    if reply[4:] == b'\6' and payload[0] == 18:
-        table.remove(first_string(payload))
-    if reply[4:] == b'\6' and payload[0] == 19:
-        table.places = [None] * 8
-    lines.append('reply ' + reply.hex().upper() if reply else 'close')
+def items(line):
+    """A line of the oracle, a list's items in the order of their bytes."""
+    if line[14:16] != '0c':
+        return line
+    reply, at, found = bytes.fromhex(line[6:]), 9, []
+    while at < len(reply):
+        end = string_at(reply, string_at(reply, at)[1])[1]
+        found.append(reply[at:end])
+        at = end
+    return reply[:9], sorted(found)
 
 
 KINDS = (b'ssh-ed25519', b'ssh-rsa', b'ecdsa-sha2-nistp256', b'ecdsa-sha2-nistp384', b'ecdsa-sha2-nistp521')
 
 
-def is_other_kind(payload, answer):
-    return payload[:1] in (b'\x11', b'\x19') and answer == 'reply 0000000106' and first_string(payload) not in KINDS
+def is_other_kind(payload):
+    return payload[:1] in (b'\x11', b'\x19') and string_at(payload, 1)[0] not in KINDS
 
 
-def replay(script, answers, checks=None):
-    """checks: what the key check says of each add request, in order"""
-    table, clock, known = Table(), 0, True
+def replay(script, answers, may_differ, check=True):
+    """How many sessions ended with a request that russh answers otherwise."""
+    gateway, clock, known, differing = Gateway(), 0, True, 0
     records.append(b'\2')
     for line in script:
         word, *rest = line.split()
         if word == 'fresh':
-            table, known = Table(), True
+            gateway, known = Gateway(), True
             records.append(b'\2')
         elif word == 'adv':
             clock += int(rest[0])
         elif word == 'say':
             say(next(answers))
         elif word == 'to':
-            payload, answer = bytes.fromhex(rest[1]) if len(rest) > 1 else b'', next(answers)
-            check = next(checks) if checks else YES
-            known = known and not is_other_kind(payload, answer)
-            if known:
-                call(table, payload, answer, clock, check)
+            payload, rust = bytes.fromhex(rest[1]) if len(rest) > 1 else b'', next(answers)
+            if known and items(serve(gateway, payload, clock, check)) != items(rust):
+                assert may_differ(payload), (payload.hex(), rust, lines[-1])
+                known, differing = False, differing + 1
         else:
             assert word.startswith('#'), line
+    return differing
 
 
 oracle, scripted, target = sys.argv[1:]
@@ -161,28 +325,43 @@ def cases():
             return f.read().splitlines(), said.splitlines()[:-1]
 
 
-for name in ('openssh', 'time'):
+def kept(name):
     with open(os.path.join(oracle, 'scripts', name + '.txt')) as f:
-        script = f.read()
-    replay(script.splitlines(), iter(run(script)))
+        return f.read()
+
+
+def flags():
+    """For keys of three kinds: the add request that ssh-add sent, and a signature with each of these flags."""
+    script = ''
+    for key in ('rsa-2048', 'ed25519', 'ecdsa-256'):
+        with open(os.path.join(oracle, 'frames', key + '.txt')) as f:
+            added = next(bytes.fromhex(line[2:]) for line in f if line.startswith('> 11'))
+        script += f'say == flags 0 to 7, the highest, and all: {key}\nfresh\nto a {added.hex()}\n'
+        for choice in (*range(8), 1 << 31, (1 << 32) - 1):
+            request = b'\x0d' + string(key_at(added, 1)[0]) + string(b'data') + struct.pack('>I', choice)
+            script += f'to a {request.hex()}\n'
+    return script
+
+
+for script, differing in ((kept('openssh'), 1), (kept('time'), 0), (flags(), 0)):
+    assert replay(script.splitlines(), iter(run(script)), is_other_kind) == differing
 
 script, said = cases()
 answers = iter(run('\n'.join(script) + '\n'))
 say('== cases')
-at, left_out = 0, 0
+at, differing = 0, 0
 for case in said:
     assert script[at] == 'fresh'
     end = next((i for i in range(at + 1, len(script)) if script[i] == 'fresh'), len(script))
     of_case = script[at:end]
     got = [next(answers) for line in of_case if line.startswith('to ')]
     at = end
-    if case[0] == 'D':
-        left_out += 1
-        continue
     say(case[2:47].strip())
     refused = case[0] == 'k' and got[-2] == 'reply 0000000105'
-    replay(of_case, iter(got), iter([NO if refused else YES] * len(got)))
-assert left_out == 25
+    differs = replay(of_case, iter(got), lambda _: case[0] == 'D', not refused)
+    assert differs == (case[0] == 'D'), case
+    differing += differs
+assert differing == 25
 
 with open(target, 'wb') as f:
     f.write(b''.join(records))
