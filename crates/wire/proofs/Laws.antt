@@ -21,8 +21,8 @@ use Rattle.wire.specs.Abnf.{Octets}
 use Rattle.wire.specs.Mpint.{mpint}
 use Rattle.wire.specs.Steps.{so, part}
 use Rattle.wire.specs.Read.{cutOf, numberAt, stringAt, textAt, mpintAt}
-use Rattle.wire.specs.Promises.{OneAnswer, AnswersApart, ByteRule, ByteCut, NumberRule, NumberCut, StringRule, StringCut, TextRule, TextFault, MpintAtRule, MpintFault, WriteRule}
-use Rattle.wire.proofs.Reading.{le-or-lt, byte-there, byte-cut, string-read, string-short, string-cut}
+use Rattle.wire.specs.Promises.{OneAnswer, AnswersApart, ByteRule, ByteCut, NumberRule, NumberCut, StringRule, StringCut, CutRule, TextRule, TextFault, MpintAtRule, MpintFault, WriteRule}
+use Rattle.wire.proofs.Reading.{le-or-lt, byte-there, byte-cut, string-read, string-short, string-cut, cut-there, cut-past, cut-back, from-there, from-past, from-back}
 use Rattle.wire.proofs.Format.{number-form, number-none, string-form, string-none, part-length}
 use Rattle.wire.proofs.Abnf.{utf8-rule}
 use Rattle.wire.proofs.Longest.{utf8-end, utf8-end-whole}
@@ -129,6 +129,16 @@ pub string-cut-rule : StringCut
 string-cut-rule s at bytes =
     let r = string-none s at bytes in
     ((λ e. r .0 (fault-of (stringAt s at) at e)), (λ x. ap partReads (r .1 x)))
+
+-- ## Parts
+
+pub cut-rule : CutRule
+cut-rule s f t = record {
+  there = λ h k. sym (cut-there s f t h k);
+  from = from-there s f t;
+  none = λ gone. ⊎-elim (λ h. sym (cut-past s f t h (gone h))) (λ h. sym (cut-back s f t h)) (le-or-lt f t);
+  start = λ gone. ⊎-elim (λ h. from-past s f t h (gone h)) (from-back s f t) (le-or-lt f t);
+}
 
 -- ## Strings that pass a test
 
