@@ -153,14 +153,6 @@ tested (Whole f′ t′ k′) test z f t k = ((λ e. there (test f′ t′) refl
     there true q e = (e, (let x : f ≡ f′ = cc in let y : t ≡ t′ = cc in rw (x, y) q))
     there false q e = let x : _≡_ {A = ℕ} 0 1 = cc in absurd (omega arith)
 
-pub mpint-at-rule : MpintAtRule
-unfolding mpintAt
-mpint-at-rule s at v next =
-    let r = tested (stringAt s at) (λ f t. mpint (cutOf s f t)) (λ f t. at) (v .from) (v .to) (record { at = next }) in (
-      (λ e. let x = r .0 (whole-of (mpintAt s at) v next e) in (ap partReads (x .0), x .1)),
-      (λ x. ap partReads (r .1 (whole-of (stringAt s at) v next (x .0), x .1))),
-    )
-
 -- a string that is not there is a fault at its own place
 string-fault-place : (s : List ℕ) (at place : ℕ) → stringAt s at ≡ Part.Fault place → place ≡ at
 string-fault-place s at place e = let h = string-cut s at (string-short s at place e) in cc
@@ -177,6 +169,14 @@ mpint-fault s at place e = go (stringAt s at) refl (fault-of (mpintAt s at) plac
     go (Whole f t k) q h = test f t k (mpint (cutOf s f t)) h
     go (Part.Fault x) q h = let y = string-fault-place s at x q in let w : x ≡ place = cc in sym w ∙ y
 
+pub mpint-at-rule : MpintAtRule
+unfolding mpintAt
+mpint-at-rule s at v next =
+    let r = tested (stringAt s at) (λ f t. mpint (cutOf s f t)) (λ f t. at) (v .from) (v .to) (record { at = next }) in (
+      (λ e. let x = r .0 (whole-of (mpintAt s at) v next e) in (ap partReads (x .0), x .1)),
+      (λ x. ap partReads (r .1 (whole-of (stringAt s at) v next (x .0), x .1))),
+    )
+
 -- ## Texts
 
 -- a string is UTF-8 exactly where its longest part of UTF-8 is all of it
@@ -186,14 +186,6 @@ text-test s at f t k e =
     let l = part-length s f t (omega arith) (w .within) in (
       (λ h. utf8-rule (cutOf s f t) .0 (utf8-end-whole (cutOf s f t) .0 (h ∙ sym l))),
       (λ o. utf8-end-whole (cutOf s f t) .1 (utf8-rule (cutOf s f t) .1 o) ∙ l),
-    )
-
-pub text-rule : TextRule
-unfolding textAt
-text-rule s at v next =
-    let r = tested (stringAt s at) (λ f t. eqb (utf8End (cutOf s f t)) (t - f)) (λ f t. f + utf8End (cutOf s f t)) (v .from) (v .to) (record { at = next }) in (
-      (λ e. let x = r .0 (whole-of (textAt s at) v next e) in (ap partReads (x .0), text-test s at _ _ _ (x .0) .0 (eqb-true _ _ (x .1)))),
-      (λ x. let y = whole-of (stringAt s at) v next (x .0) in ap partReads (r .1 (y, eq-eqb _ _ (text-test s at _ _ _ y .1 (x .1))))),
     )
 
 pub text-fault : TextFault
@@ -206,6 +198,14 @@ text-fault s at =
           let t = text-test s at _ _ _ y in
           (utf8End (cutOf s (v .from) (v .to)), utf8-end (cutOf s (v .from) (v .to)), rw (y, ne-eqb _ _ (λ h. no (t .0 h))));
     }
+
+pub text-rule : TextRule
+unfolding textAt
+text-rule s at v next =
+    let r = tested (stringAt s at) (λ f t. eqb (utf8End (cutOf s f t)) (t - f)) (λ f t. f + utf8End (cutOf s f t)) (v .from) (v .to) (record { at = next }) in (
+      (λ e. let x = r .0 (whole-of (textAt s at) v next e) in (ap partReads (x .0), text-test s at _ _ _ (x .0) .0 (eqb-true _ _ (x .1)))),
+      (λ x. let y = whole-of (stringAt s at) v next (x .0) in ap partReads (r .1 (y, eq-eqb _ _ (text-test s at _ _ _ y .1 (x .1))))),
+    )
 
 -- ## Writing
 
