@@ -42,6 +42,15 @@ module _ (s : List ℕ) (f t : ℕ) where
   unfolding cutOf
   cut-back h = rw (lt-leb _ _ h)
 
+  pub cut-empty : t ≤ f → [] ≡ cutOf s f t
+  cut-empty h =
+      ⊎-elim
+      (λ (k : f ≤ t).
+      let none : t - f ≡ 0 = omega arith in
+      ⊎-elim (λ (l : t ≤ length s). rw none at (cut-there k l)) (cut-past k) (le-or-lt t (length s)))
+      cut-back
+      (le-or-lt f t)
+
   pub from-there : f ≤ t → t ≤ length s → cutFrom s f t ≡ f
   unfolding cutFrom
   from-there h k = rw (le-leb _ _ h, le-leb _ _ k)
