@@ -9,11 +9,11 @@
  *   - a pointer to bytes has as many bytes behind it as the length says, and no length is above PTRDIFF_MAX;
  *   - store, reply and state are written: they overlap neither each other nor payload, signature or the result, and nobody else reads or
  *     writes them while a call runs. So: one call at a time on one state. Payload and signature are only read, and may overlap;
- *   - every bool in a state is 0 or 1, as key_agent_fresh and key_agent_call leave it. Any other fault in a state or its store is found, and
- *     the call refused (3). Copies are fine, but state and store belong together: keep, copy and restore them as a pair;
+ *   - state and store belong together: keep, copy and restore them as a pair;
  *   - the stack has room: a call takes up to 16 KB of it (measured on x86-64), a state by value 1.5 KB more.
  *
- * The padding of a state is not defined, so states are not to be compared by memcmp.
+ * Of what state and store hold nothing is asked: every bit pattern of both is covered by the proof, and one that is not sound is refused (3).
+ * The padding of a state is not defined and not read, so states are not to be compared by memcmp.
  */
 #ifndef KEY_AGENT_H
 #define KEY_AGENT_H
@@ -45,12 +45,13 @@ typedef struct {
     uint32_t count;
 } key_agent_seconds;
 
+/* limited (has it a lifetime?) and confirm are 0 or 1; any other value is unsound. */
 typedef struct {
     uint64_t number;
     key_agent_millis reading;
-    bool limited;
+    uint8_t limited;
     key_agent_seconds seconds;
-    bool confirm;
+    uint8_t confirm;
     size_t blob_len;
     size_t fields_len;
 } key_agent_entry;

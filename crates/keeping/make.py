@@ -140,6 +140,10 @@ def soundness_claims():
     yield 'an insertion reading above the clock: unsound', setting + [
         state_with(READING, 5000, 1), state_with(READING, 5001, 0), state_with(CLOCK, 4999, 0)]
     yield 'seconds without a lifetime: unsound', setting + [state_with(SECONDS, 1, 0, place=1), state_with(LIMITED, 0, 0)]
+    yield 'a Confirm flag neither 0 nor 1: unsound', setting + [
+        state_with(CONFIRM, value, sound, place=place) for place in (0, 1) for value, sound in ((1, 1), (2, 0), (255, 0))]
+    yield 'a lifetime flag neither 0 nor 1: unsound', setting + [
+        state_with(LIMITED, value, sound, place=place) for place in (0, 1) for value, sound in ((1, 1), (2, 0), (255, 0))]
     yield 'a store of another length: unsound', [store_of(32768, 1), store_of(32767, 0), store_of(32769, 0), store_of(0, 0)]
 
 

@@ -360,8 +360,8 @@ impl Gateway {
         (e.number != 0).then(|| Key {
             number: e.number,
             added: e.reading,
-            lifetime: (e.limited != 0).then_some(e.seconds),
-            confirm: e.confirm != 0,
+            lifetime: (e.limited == 1).then_some(e.seconds),
+            confirm: e.confirm == 1,
             blob: &bytes[..e.blob_len],
             fields: &bytes[FIELDS_AT..FIELDS_AT + e.fields_len],
         })

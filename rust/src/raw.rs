@@ -1,6 +1,6 @@
 //! What the archive exports, as it stands in `crates/gateway` and `crates/table`. Nothing outside this crate sees it.
 
-/// A place's entry; a free place is all zero. The two bytes that are a truth value there are 0 or 1.
+/// A place's entry; a free place is all zero. `limited` and `confirm` are 0 or 1; any other value is unsound.
 #[repr(C)]
 #[derive(Clone, Copy, Debug, PartialEq, Eq)]
 pub struct Entry {

@@ -127,7 +127,7 @@ fn one_walk() {
         for _ in 0..6 {
             reading = reading.wrapping_add(r.mostly(100, &[0, 5_000, u64::MAX]));
             let (store_len, reply_len) = (r.mostly(32_768, &[32_768, 32_768, 32_767, 0]), r.mostly(8_265, &[9_000, 9_000, 8_264, 0]));
-            // SAFETY: lengths up to those of the vectors, which do not overlap; the truth values in the state are the core's.
+            // SAFETY: lengths up to those of the vectors, which do not overlap.
             let o = unsafe {
                 let (p, s) = (payload.as_ptr(), signature.as_ptr());
                 raw::key_agent_call(

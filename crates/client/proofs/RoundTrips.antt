@@ -4,20 +4,14 @@ use mathlib.Core.Path.{_≡_, refl, sym, ap, _∙_}
 use mathlib.Core.List.{List, [], _∷_, _++_, append-nil}
 use mathlib.Core.Bool.{Bool, true, false, cond}
 use native.Mathlib.Omega.{arith}
-use native.Mathlib.Nat.{add-sub-cancel-left}
-use borrow.Author.Tests.{le-leb}
 use lib.Dec.{eqb}
 use lib.ListN.{length, take, drop, length-append}
 use lib.Seq.{take-at, drop-at}
-use Rattle.wire.specs.declared.read.Number.{Number}
 use Rattle.wire.specs.Numbers.{Bytes, be32}
-use Rattle.wire.specs.Read.{cutOf, numberAt}
 use Rattle.wire.specs.Steps.{so, number}
 use Rattle.wire.specs.Values.{numberReads, partReads}
 use Rattle.wire.specs.Write.{write, string}
-use Rattle.wire.specs.Frames.{splitOf, framePayload}
-use Rattle.wire.proofs.Reading.{number-there, cut-there}
-use Rattle.wire.proofs.Format.{be-written, number-form, string-form}
+use Rattle.wire.proofs.Format.{number-form, string-form}
 use Rattle.rule.specs.Order.{Begins, Carries}
 use Rattle.client.specs.declared.Refusal.{Refusal}
 use Rattle.client.specs.declared.Refusal.the-variants.{OutputTooShort, Malformed, UnfitType, AgentFailure, OtherReply, NoSuchItem, PayloadTooLong, TooManyConstraints}
@@ -28,31 +22,13 @@ use Rattle.client.specs.Requests.{signRequest, removeSmartcardAnswer, re
 use Rattle.client.specs.Promises.{Holds, Splits, Sent, Writes, WriterRule, RemoveSmartcardRule, AddSmartcardRule, placeless, RefusalsApart, ListRead, LockRead, UnlockRead, SignRead}
 use Rattle.client.proofs.ByteLaws.{bytes-cons, bytes-append, be32-bytes, string-bytes}
 use Rattle.client.proofs.WriteLaws.{Met, Stage, stage, untouched}
+use Rattle.client.proofs.SplitTables.{split-table}
 use Rattle.client.proofs.WriterTables.{not-granted, wrote-apart}
 
 -- ## Frames
 
-module _ (p rest : List ℕ) (h : length p ≤ 262144) where
-  size : length (string p ++ rest) ≡ 4 + length p + length rest
-  size = simp length-append (omega arith)
-
-  length-read : Number.Value (length p) (record { at = 4 }) ≡ numberAt (string p ++ rest) 0
-  length-read =
-      ap (λ (n : ℕ). Number.Value n (record { at = 4 })) (sym (be-written (string p ++ rest) 0 (length p) (p ++ rest) (omega arith) refl))
-      ∙ number-there (string p ++ rest) 0 (omega (arith, size))
-
-  part-read : cutOf (string p ++ rest) 4 (4 + length p) ≡ p
-  part-read =
-      sym (cut-there (string p ++ rest) 4 (4 + length p) (omega arith) (omega (arith, size))) ∙ rw (add-sub-cancel-left 4 (length p)) (take-at p rest (length p) refl)
-
-  found : Holds (string p ++ rest) p
-  unfolding splitOf framePayload number so
-  found =
-      let s = size in
-      record {
-        frame = rw (← length-read, le-leb (length p) 262144 h, le-leb (4 + length p) (length (string p ++ rest)) (omega arith));
-        payload-is = rw (← length-read, le-leb (length p) 262144 h, le-leb (4 + length p) (length (string p ++ rest)) (omega arith)) part-read;
-      }
+found : (p rest : List ℕ) → length p ≤ 262144 → Holds (string p ++ rest) p
+found p rest h = rw (take-at p rest (length p) refl) at (split-table (string p ++ rest) .whole (length p) (p ++ rest) refl h (simp length-append (omega arith)))
 
 pub splits : Splits
 splits p h = record { alone = rw (append-nil (string p)) at (found p [] h); followed = λ rest. found p rest h }

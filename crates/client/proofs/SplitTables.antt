@@ -10,11 +10,12 @@ use lib.Dec.{eqb}
 use lib.ListN.{length, take}
 use Rattle.wire.specs.declared.Split.{Split}
 use Rattle.wire.specs.declared.Split.the-variants.{MoreNeeded, TooLong, Frame}
+use Rattle.wire.specs.declared.read.Cursor.{Cursor}
 use Rattle.wire.specs.declared.read.Number.{Number}
 use Rattle.wire.specs.Numbers.{be32, beAt}
 use Rattle.wire.specs.Read.{cutOf, numberAt}
 use Rattle.wire.specs.Steps.{so, number}
-use Rattle.wire.specs.Frames.{splitOf, framePayload}
+use Rattle.wire.specs.Frames.{splitOf, ofFrame, framePayload, payloadFrom}
 use Rattle.wire.proofs.Reading.{le-or-lt, number-there, number-cut, cut-there}
 use Rattle.wire.proofs.Format.{be-written}
 use Rattle.client.specs.Values.{splitNumber}
@@ -51,12 +52,13 @@ module _ (n : ℕ) (rest : List ℕ) (small : n < 2 ^ 32) where
     split-short l = rw (length-read, le-leb n 262144 h, lt-leb (4 + n) (length (be32 n ++ rest)) (omega arith))
 
     split-whole : n ≤ length rest → Holds (be32 n ++ rest) (take n rest)
-    unfolding splitOf framePayload number so
+    unfolding splitOf framePayload payloadFrom number so
     split-whole l =
         let cut : cutOf (be32 n ++ rest) 4 (4 + n) ≡ take n rest = sym (cut-there (be32 n ++ rest) 4 (4 + n) (omega arith) (omega arith)) ∙ rw (add-sub-cancel-left 4 n) in
         record {
           frame = rw (length-read, le-leb n 262144 h, le-leb (4 + n) (length (be32 n ++ rest)) (omega arith));
           payload-is = rw (length-read, le-leb n 262144 h, le-leb (4 + n) (length (be32 n ++ rest)) (omega arith)) cut;
+          from = rw (length-read, le-leb n 262144 h, le-leb (4 + n) (length (be32 n ++ rest)) (omega arith));
         }
 
 module _ (s : List ℕ) where
@@ -64,9 +66,9 @@ module _ (s : List ℕ) where
   unfolding splitOf number
   split-few h = rw (← number-cut s 0 h)
 
-  split-empty : (splitNumber (splitOf s) ≡ 2 → ⊥) → framePayload s ≡ []
-  unfolding splitOf framePayload number so
-  split-empty never =
+  split-else : {A : Type 0} (z : A) (F : ℕ → Cursor → A) → (splitNumber (splitOf s) ≡ 2 → ⊥) → ofFrame z s F ≡ z
+  unfolding splitOf number so
+  split-else z F never =
       ⊎-elim
       (λ (h : 4 ≤ length s).
       ⊎-elim
@@ -80,6 +82,14 @@ module _ (s : List ℕ) where
       (λ (h : length s < 4). rw (← number-cut s 0 h))
       (le-or-lt 4 (length s))
 
+  split-empty : (splitNumber (splitOf s) ≡ 2 → ⊥) → framePayload s ≡ []
+  unfolding framePayload
+  split-empty = split-else [] _
+
+  split-start : (splitNumber (splitOf s) ≡ 2 → ⊥) → payloadFrom s ≡ 0
+  unfolding payloadFrom
+  split-start = split-else 0 _
+
 pub split-table : SplitTable
 split-table s = record {
   few = split-few s;
@@ -87,4 +97,5 @@ split-table s = record {
   short = λ n rest e h l. rw e (split-short n rest (omega arith) h l);
   whole = λ n rest e h l. rw e (split-whole n rest (omega arith) h l);
   else-empty = split-empty s;
+  else-start = split-start s;
 }

@@ -11,7 +11,7 @@ use Rattle.wire.specs.Abnf.{Octets}
 use Rattle.wire.specs.Read.{cutOf, numberAt, stringAt}
 use Rattle.wire.specs.Values.{read, numberReads, partReads}
 use Rattle.wire.specs.Write.{string}
-use Rattle.wire.specs.Frames.{splitOf, framePayload}
+use Rattle.wire.specs.Frames.{splitOf, framePayload, payloadFrom}
 use Rattle.wire.specs.Promises.{OneToOne}
 use Rattle.rule.specs.Order.{Begins, Carries}
 use Rattle.rule.specs.Content.{SignRequest}
@@ -29,10 +29,11 @@ use Rattle.client.specs.Requests.{requestIdentities, signRequest, lockRe
 abbrev pub SplitsApart : Type 0
 SplitsApart = OneToOne Split ℕ splitNumber
 
--- the splitter says that a frame is whole, and hands out its payload
+-- the splitter says that a frame is whole, and hands out its payload, the part of the bytes behind their four of length
 pub record Holds (s payload : List ℕ) : Type 0 where
   pub frame : splitNumber (splitOf s) ≡ 2
   pub payload-is : framePayload s ≡ payload
+  pub from : payloadFrom s ≡ 4
 
 -- a payload's frame alone, and with more bytes behind it
 pub record SplitsBack (payload : List ℕ) : Type 0 where
@@ -43,13 +44,14 @@ abbrev pub Splits : Type 0
 Splits = (payload : List ℕ) → length payload ≤ 262144 → SplitsBack payload
 
 -- what the splitter says of any bytes: under 4 of them; a length above 262,144, with however many behind it; fewer bytes than the length
--- announces; and all of them. Unless a frame is whole, its payload is empty
+-- announces; and all of them. Unless a frame is whole, its payload is empty, and lies at their start
 pub record SplitSays (s : List ℕ) : Type 0 where
   pub few : length s < 4 → splitNumber (splitOf s) ≡ 0
   pub long : (n : ℕ) (rest : List ℕ) → s ≡ be32 n ++ rest → n < 2 ^ 32 → 262144 < n → splitNumber (splitOf s) ≡ 1
   pub short : (n : ℕ) (rest : List ℕ) → s ≡ be32 n ++ rest → n ≤ 262144 → length rest < n → splitNumber (splitOf s) ≡ 0
   pub whole : (n : ℕ) (rest : List ℕ) → s ≡ be32 n ++ rest → n ≤ 262144 → n ≤ length rest → Holds s (take n rest)
   pub else-empty : (splitNumber (splitOf s) ≡ 2 → ⊥) → framePayload s ≡ []
+  pub else-start : (splitNumber (splitOf s) ≡ 2 → ⊥) → payloadFrom s ≡ 0
 
 abbrev pub SplitTable : Type 0
 SplitTable = (s : List ℕ) → SplitSays s

@@ -4,7 +4,8 @@ use wire::read::Cursor;
 use wire::read::Number;
 use wire::read::cut;
 ghost use mathlib.Core.Path.{_≡_};
-ghost use Rattle.wire.specs.Frames.{splitOf, framePayload};
+ghost use Rattle.wire.specs.Parts.{PartOf};
+ghost use Rattle.wire.specs.Frames.{splitOf, framePayload, payloadFrom};
 
 pub fn read_frame(s: &[u8]) -> Split
     ensures { λ r. ⌜ r ≡ splitOf (now (s .entry)) ⌝ }
@@ -26,7 +27,7 @@ pub fn read_frame(s: &[u8]) -> Split
 
 // Empty unless a frame is whole.
 pub fn frame_payload(s: &[u8]) -> &[u8]
-    ensures { λ r. ⌜ now r ≡ framePayload (now (s .entry)) ⌝ }
+    ensures { λ r. ⌜ PartOf (s .entry) (payloadFrom (now (s .entry))) (framePayload (now (s .entry))) r ⌝ }
 {
     let start = Cursor { at: 0 };
     let Number::Value(n, next) = start.number(s) else {

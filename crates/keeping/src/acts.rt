@@ -144,9 +144,9 @@ fn part_of(e: Entry, part: u8) -> u64 {
     match part {
         1 => e.number,
         2 => e.reading.count,
-        3 => number_of(e.limited),
+        3 => e.limited as u64,
         4 => e.seconds.count as u64,
-        5 => number_of(e.confirm),
+        5 => e.confirm as u64,
         6 => e.blob_len as u64,
         7 => e.fields_len as u64,
         _ => 99,

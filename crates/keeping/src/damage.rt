@@ -25,7 +25,7 @@ fn byte_of(value: u32) -> u8 {
 fn damaged_entry(e: Entry, part: u8, value: u32) -> Entry {
     let number = value as u64;
     let length = value as usize;
-    let set = value == 1;
+    let byte = byte_of(value);
     let mut d = e;
     match part {
         1 => {
@@ -35,13 +35,13 @@ fn damaged_entry(e: Entry, part: u8, value: u32) -> Entry {
             d.reading.count = number;
         }
         3 => {
-            d.limited = set;
+            d.limited = byte;
         }
         4 => {
             d.seconds.count = value;
         }
         5 => {
-            d.confirm = set;
+            d.confirm = byte;
         }
         6 => {
             d.blob_len = length;

@@ -22,8 +22,8 @@ use Rattle.wire.proofs.Format.{part-length, string-shape, string-form, be-small
 use Rattle.wire.proofs.Mpint.{mpint-rule}
 use Rattle.wire.proofs.Laws.{tested}
 use Rattle.keys.specs.Fields.{sizedAt, namedAt, uncompressed, pointAt, scalar, scalarAt}
-use Rattle.keys.specs.Forms.{Positive}
-use Rattle.keys.proofs.TestLaws.{Point, point-rule, Scalar, scalar-rule}
+use Rattle.keys.specs.Forms.{Positive, Point, Scalar}
+use Rattle.keys.proofs.TestLaws.{point-rule, scalar-rule}
 
 -- ## Bytes at a place
 

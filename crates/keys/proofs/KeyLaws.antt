@@ -48,7 +48,7 @@ same-places : {y p : Places} → Key.Whole y ≡ Key.Whole p → y ≡ p
 same-places e = cc
 
 -- a chain that goes on from another is one chain
-part-part : (r : Part) (F : ℕ → ℕ → Cursor → Part) (G : ℕ → ℕ → Cursor → Key) → part Key.Fault (part Part.Fault r F) G ≡ part Key.Fault r (λ f t k. part Key.Fault (F f t k) G)
+pub part-part : (r : Part) (F : ℕ → ℕ → Cursor → Part) (G : ℕ → ℕ → Cursor → Key) → part Key.Fault (part Part.Fault r F) G ≡ part Key.Fault r (λ f t k. part Key.Fault (F f t k) G)
 unfolding part
 part-part (Whole f t k) F G = refl
 part-part (Part.Fault at) F G = refl
@@ -81,7 +81,7 @@ plain-laid : {s : List ℕ} {at front end : ℕ} {blob fields : List ℕ} → Li
 unfolding blobOf
 plain-laid {front = front} {blob = blob} x y = record { lies = y; public = rw (lies-cut x, lies-cut (lies-none front (x .within))) (append-nil blob) }
 
-key-typed : {s : List ℕ} {at : ℕ} {v : List ℕ} → At s at v → keyAt s at ≡ behindType (kindOf v) s at (behind at v)
+pub key-typed : {s : List ℕ} {at : ℕ} {v : List ℕ} → At s at v → keyAt s at ≡ behindType (kindOf v) s at (behind at v)
 unfolding keyAt part
 key-typed a = rw (a .read, lies-cut (inside a))
 
@@ -113,7 +113,7 @@ last : {s : List ℕ} {at : ℕ} (seed a x : List ℕ) (n : ℕ) → length seed
 last seed a x n l e b = rw (← l, e) (lies-cut (lies-split seed a (rw e at (inside b)) .1))
 
 -- 64 bytes whose last 32 are a
-pair-rule : {s : List ℕ} {at : ℕ} (a x : List ℕ) → length a ≡ 32 → At s at x
+pub pair-rule : {s : List ℕ} {at : ℕ} (a x : List ℕ) → length a ≡ 32 → At s at x
     → ((length x ≡ 64) × (same (cutOf s (at + 4 + 32) (behind at x)) a ≡ true)) ↔ ((seed : List ℕ) × (length seed ≡ 32) × (x ≡ seed ++ a))
 pair-rule a x h b = (
   (λ e.
@@ -224,7 +224,7 @@ module _ {s : List ℕ} (bytes-of : Bytes s) {at : ℕ} where
 -- ## Kinds
 
 -- the type that a kind has
-abbrev Named : Kind → List ℕ → Type 0
+abbrev pub Named : Kind → List ℕ → Type 0
 Named Kind.Ed25519 v = v ≡ bytes "ssh-ed25519"
 Named Kind.Nistp256 v = v ≡ ecdsaType nistp256
 Named Kind.Nistp384 v = v ≡ ecdsaType nistp384
@@ -240,7 +240,7 @@ chosen v name z k h g = go (same v name) refl
     go true e = g (same-true v name e)
     go false e = h
 
-named : (v : List ℕ) → Named (kindOf v) v
+pub named : (v : List ℕ) → Named (kindOf v) v
 unfolding kindOf
 named v =
     chosen v _ _ Kind.Ed25519 (chosen v _ _ Kind.Nistp256 (chosen v _ _ Kind.Nistp384 (chosen v _ _ Kind.Nistp521 (chosen v _ _ Kind.Rsa
@@ -286,7 +286,7 @@ one-blob fields blob other bytes-of h k k′ =
     sym (found .public) ∙ ap (blobOf fields 0) (same-places (sym (found .read-so) ∙ found′ .read-so)) ∙ found′ .public
 
 -- an answer that reads so is this one
-read-whole : (s : List ℕ) (at : ℕ) (k : Key) (blob : List ℕ) (end : ℕ) → keyReads s at k ≡ read blob end → (p : Places) × (k ≡ Key.Whole p) × (blobOf s at p ≡ blob) × (p .end ≡ end)
+pub read-whole : (s : List ℕ) (at : ℕ) (k : Key) (blob : List ℕ) (end : ℕ) → keyReads s at k ≡ read blob end → (p : Places) × (k ≡ Key.Whole p) × (blobOf s at p ≡ blob) × (p .end ≡ end)
 read-whole s at (Key.Whole p) blob end e = (p, refl, (cc), (cc))
 read-whole s at (Key.Fault place) blob end e = let z : _≡_ {A = ℕ} 0 1 = cc in absurd (omega arith)
 
@@ -305,7 +305,7 @@ key-rule s at blob end bytes-of small = (
 )
 
 -- the kind that a type names
-kind-in : (k : Kind) (v : List ℕ) → k ≢ Kind.Other → Named k v → typeOf k ≡ some v
+pub kind-in : (k : Kind) (v : List ℕ) → k ≢ Kind.Other → Named k v → typeOf k ≡ some v
 kind-in Kind.Ed25519 v n e = ap some (sym e)
 kind-in Kind.Nistp256 v n e = ap some (sym e)
 kind-in Kind.Nistp384 v n e = ap some (sym e)
@@ -313,7 +313,7 @@ kind-in Kind.Nistp521 v n e = ap some (sym e)
 kind-in Kind.Rsa v n e = ap some (sym e)
 kind-in Kind.Other v n e = absurd (n refl)
 
-kind-out : (k : Kind) (v : List ℕ) → typeOf k ≡ some v → kindOf v ≡ k
+pub kind-out : (k : Kind) (v : List ℕ) → typeOf k ≡ some v → kindOf v ≡ k
 unfolding kindOf same so
 kind-out Kind.Ed25519 v e = let h : v ≡ bytes "ssh-ed25519" = cc in rw h
 kind-out Kind.Nistp256 v e = let h : v ≡ bytes "ecdsa-sha2-nistp256" = cc in rw h

@@ -2,6 +2,10 @@
 pub mod FieldSteps
 pub mod BlobLaws
 pub mod WalkLaws
+pub mod AnswerLaws
+pub mod SettleLaws
 pub mod TestLaws
 pub mod FieldLaws
 pub mod KeyLaws
+pub mod FaultLaws
+pub mod AdditionLaws

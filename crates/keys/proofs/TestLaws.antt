@@ -14,6 +14,7 @@ use Rattle.wire.specs.Mpint.{mpint, value, Shortest}
 use Rattle.wire.proofs.Mpint.{mpint-rule, value-below, needed, needed-above, no-shorter}
 use Rattle.wire.proofs.Reading.{le-or-lt}
 use Rattle.keys.specs.Fields.{uncompressed, scalar}
+use Rattle.keys.specs.Forms.{Point, Scalar}
 
 both : (a b : Bool) → (a && b) ≡ true → (a ≡ true) × (b ≡ true)
 both true b e = (refl, e)
@@ -24,10 +25,6 @@ either true b e = inl refl
 either false b e = inr e
 
 -- ## Q
-
--- the contents of Q: n bytes, the first of them 04
-abbrev pub Point : ℕ → List ℕ → Type 0
-Point n v = (q : List ℕ) × (v ≡ 4 ∷ q) × (length (4 ∷ q) ≡ n)
 
 starts : (v : List ℕ) (n : ℕ) → length v ≡ n → getD v 0 0 ≡ 4 → Point n v
 starts [] n l e = absurd (omega arith)
@@ -41,10 +38,6 @@ point-rule v n = (
 )
 
 -- ## d
-
--- the contents of d: a positive mpint of at most n bytes without its sign byte, as the number that it is
-abbrev pub Scalar : ℕ → List ℕ → Type 0
-Scalar n v = (m : ℕ) × (0 < m) × Shortest v m × (m < 256 ^ n)
 
 -- v without its sign byte has at most n bytes
 abbrev fits : List ℕ → ℕ → Bool

@@ -45,6 +45,14 @@ nistp521 = record { name = bytes "nistp521"; point = 133; scalar = 66 }
 abbrev pub ecdsaType : Curve → List ℕ
 ecdsaType curve = bytes "ecdsa-sha2-" ++ curve .name
 
+-- the contents of Q: n bytes, the first of them 04
+abbrev pub Point : ℕ → List ℕ → Type 0
+Point n v = (q : List ℕ) × (v ≡ 4 ∷ q) × (length (4 ∷ q) ≡ n)
+
+-- the contents of d: a positive mpint of at most n bytes without its sign byte, as the number that it is
+abbrev pub Scalar : ℕ → List ℕ → Type 0
+Scalar n v = (m : ℕ) × (0 < m) × Shortest v m × (m < 256 ^ n)
+
 -- type, curve name, Q that starts with 04, and d
 pub data Ecdsa (curve : Curve) : List ℕ → List ℕ → Type 0 where
   ecdsa-key : (q d : List ℕ) (n : ℕ) → length (4 ∷ q) ≡ curve .point → 0 < n → Shortest d n → n < 256 ^ curve .scalar

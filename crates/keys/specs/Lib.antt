@@ -5,4 +5,5 @@ pub mod Constraints
 pub mod Additions
 pub mod Values
 pub mod Forms
+pub mod Faults
 pub mod Promises

@@ -44,19 +44,31 @@ pub record Limits : Type 0 where
   pub seconds : Option ℕ
   pub confirm : Bool
 
--- the constraints' limits, or a fault
-abbrev pub walkSays : Walk → Option Limits
-walkSays (Done l c) = some (record { seconds = secondsIn l; confirm = c })
-walkSays (Duplicate at) = none
-walkSays (Unknown at) = none
-walkSays (Cut at) = none
+-- how a walk ends: at the end with the constraints' limits, or by a fault at a place
+pub data Walked : Type 0 where
+  ended : Limits → Walked
+  second-lifetime : ℕ → Walked
+  unknown-byte : ℕ → Walked
+  cut-seconds : ℕ → Walked
 
--- an add request's blob, where its key fields end, and its limits, or a fault
+abbrev pub walkSays : Walk → Walked
+walkSays (Done l c) = ended (record { seconds = secondsIn l; confirm = c })
+walkSays (Duplicate at) = second-lifetime at
+walkSays (Unknown at) = unknown-byte at
+walkSays (Cut at) = cut-seconds at
+
+-- the place of a walk's fault
+abbrev pub faultOf : Walked → Option ℕ
+faultOf (ended limits) = none
+faultOf (second-lifetime at) = some at
+faultOf (unknown-byte at) = some at
+faultOf (cut-seconds at) = some at
+
+-- an add request's blob and limits, and where its key fields end, or a fault at a place
 pub record Added : Type 0 where
   pub blob : List ℕ
-  pub end : ℕ
   pub limits : Limits
 
-abbrev pub additionSays : List ℕ → ℕ → Addition → Option Added
-additionSays s at (Addition.Whole p l c) = some (record { blob = blobOf s at p; end = p .end; limits = record { seconds = secondsIn l; confirm = c } })
-additionSays s at (Addition.Fault place) = none
+abbrev pub additionReads : List ℕ → ℕ → Addition → Reading Added
+additionReads s at (Addition.Whole p l c) = read (record { blob = blobOf s at p; limits = record { seconds = secondsIn l; confirm = c } }) (p .end)
+additionReads s at (Addition.Fault place) = fault place

@@ -8,7 +8,7 @@ ghost use mathlib.Core.Path.{_≡_};
 ghost use Rattle.keys.specs.Fields.{sizedAt, namedAt, uncompressed, pointAt, scalar, scalarAt};
 
 // A string of n bytes.
-pub fn sized(c: Cursor, s: &[u8], n: usize) -> Part
+pub(crate) fn sized(c: Cursor, s: &[u8], n: usize) -> Part
     ensures { λ r. ⌜ r ≡ sizedAt (now (s .entry)) (c .at) n ⌝ }
 {
     let at = c.at;
@@ -23,7 +23,7 @@ pub fn sized(c: Cursor, s: &[u8], n: usize) -> Part
 }
 
 // A string that is the given one.
-pub fn named(c: Cursor, s: &[u8], name: &[u8]) -> Part
+pub(crate) fn named(c: Cursor, s: &[u8], name: &[u8]) -> Part
     ensures { λ r. ⌜ r ≡ namedAt (now (s .entry)) (c .at) (now (name .entry)) ⌝ }
 {
     let at = c.at;
@@ -38,7 +38,7 @@ pub fn named(c: Cursor, s: &[u8], name: &[u8]) -> Part
 }
 
 // A point of n bytes that is not compressed: it starts with 04.
-pub fn is_uncompressed(v: &[u8], n: usize) -> bool
+pub(crate) fn is_uncompressed(v: &[u8], n: usize) -> bool
     ensures { λ r. ⌜ r ≡ uncompressed (now (v .entry)) n ⌝ }
 {
     if v.len() != n {
@@ -50,7 +50,7 @@ pub fn is_uncompressed(v: &[u8], n: usize) -> bool
     v[0] == 4
 }
 
-pub fn point_at(c: Cursor, s: &[u8], n: usize) -> Part
+pub(crate) fn point_at(c: Cursor, s: &[u8], n: usize) -> Part
     ensures { λ r. ⌜ r ≡ pointAt (now (s .entry)) (c .at) n ⌝ }
 {
     let at = c.at;
@@ -65,7 +65,7 @@ pub fn point_at(c: Cursor, s: &[u8], n: usize) -> Part
 }
 
 // A positive mpint of at most n bytes without its sign byte.
-pub fn is_scalar(v: &[u8], n: usize) -> bool
+pub(crate) fn is_scalar(v: &[u8], n: usize) -> bool
     ensures { λ r. ⌜ r ≡ scalar (now (v .entry)) n ⌝ }
 {
     if is_mpint(v) {
@@ -78,7 +78,7 @@ pub fn is_scalar(v: &[u8], n: usize) -> bool
     }
 }
 
-pub fn scalar_at(c: Cursor, s: &[u8], n: usize) -> Part
+pub(crate) fn scalar_at(c: Cursor, s: &[u8], n: usize) -> Part
     ensures { λ r. ⌜ r ≡ scalarAt (now (s .entry)) (c .at) n ⌝ }
 {
     let at = c.at;

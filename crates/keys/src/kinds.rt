@@ -34,7 +34,7 @@ pub enum Key {
 }
 
 // The kind that a type string names.
-pub fn kind_of(name: &[u8]) -> Kind
+pub(crate) fn kind_of(name: &[u8]) -> Kind
     ensures { λ r. ⌜ r ≡ kindOf (now (name .entry)) ⌝ }
 {
     if is_same(name, b"ssh-ed25519") {

@@ -3,8 +3,7 @@ use Prim.Native.Nat.{ℕ, suc, _≤_, _<_}
 use mathlib.Core.Path.{_≡_, refl, ap}
 use mathlib.Core.List.{List, [], _∷_, _++_}
 use mathlib.Core.Logic.{_⊎_, inl, inr, ⊎-elim}
-use native.Mathlib.Omega.{arith}
-use borrow.Author.Tests.{le-leb, lt-ltb, le-ltb, ne-eqb}
+use borrow.Author.Tests.{lt-ltb, le-ltb, ne-eqb}
 use lib.Dec.{ltb, eqb}
 use lib.ListN.{length, getD}
 use Rattle.wire.specs.Numbers.{Bytes}
@@ -104,12 +103,12 @@ item-there p blobs i small l h =
 
 -- no part is handed out of a refused item
 item-empty : (payload : List ℕ) (i n : ℕ) → itemSays payload (itemOf payload i) ≡ refuses n → blobOfItem payload i ≡ []
-unfolding blobOfItem cutOf
+unfolding blobOfItem
 item-empty payload i n = go (itemOf payload i)
   where
     go : (r : Item) → itemSays payload r ≡ refuses n → itemBlob payload r ≡ []
     go (Item.Blob f t c) e = granted e
-    go (Item.Refused why) e = rw (le-leb 0 (length payload) (omega arith))
+    go (Item.Refused why) e = refl
 
 pub item-table : ItemTable
 item-table payload i small = record {

@@ -1,11 +1,11 @@
 -- The identities reader: "payload empty or not type 12: count 0. Else all items must be whole, comments UTF-8".
 use Prim.Native.Nat.{ℕ, zero, suc, _-_}
-use mathlib.Core.List.{List}
+use mathlib.Core.List.{List, []}
 use mathlib.Core.Bool.{Bool, false}
 use lib.ListN.{length, getD}
 use lib.Dec.{leb, ltb, eqb}
 use Rattle.wire.specs.Texts.{bytes}
-use Rattle.wire.specs.Read.{cutOf, same, numberAt, stringAt, textAt}
+use Rattle.wire.specs.Read.{cutOf, cutFrom, same, numberAt, stringAt, textAt}
 use Rattle.wire.specs.Steps.{so, number, part}
 use Rattle.client.specs.declared.Refusal.the-variants.{Malformed, NoSuchItem}
 use Rattle.readers.specs.declared.Reach.{Reach}
@@ -65,7 +65,15 @@ itemOf payload index =
 
 abbrev pub itemBlob : List ℕ → Item → List ℕ
 itemBlob payload (Item.Blob f t c) = cutOf payload f t
-itemBlob payload (Item.Refused r) = cutOf payload 0 0
+itemBlob payload (Item.Refused r) = []
 
 unfoldable pub blobOfItem : List ℕ → ℕ → List ℕ
 blobOfItem payload index = itemBlob payload (itemOf payload index)
+
+-- where in the payload that part begins; an empty one of a refused item, at the start
+abbrev pub itemFrom : List ℕ → Item → ℕ
+itemFrom payload (Item.Blob f t c) = cutFrom payload f t
+itemFrom payload (Item.Refused r) = 0
+
+unfoldable pub blobFrom : List ℕ → ℕ → ℕ
+blobFrom payload index = itemFrom payload (itemOf payload index)

@@ -8,7 +8,8 @@ use wire::read::Part;
 use wire::read::cut;
 use wire::read::is_same;
 ghost use mathlib.Core.Path.{_≡_};
-ghost use Rattle.readers.specs.Identities.{itemsAt, countOf, endsIn, certificate, itemAt, itemOf, blobOfItem};
+ghost use Rattle.wire.specs.Parts.{PartOf};
+ghost use Rattle.readers.specs.Identities.{itemsAt, countOf, endsIn, certificate, itemAt, itemOf, blobOfItem, blobFrom};
 
 pub enum Listing {
     Count(usize),
@@ -151,7 +152,7 @@ pub fn identity(payload: &[u8], index: usize) -> Item
 
 // That item's blob; empty unless the item is granted.
 pub fn identity_blob(payload: &[u8], index: usize) -> &[u8]
-    ensures { λ r. ⌜ now r ≡ blobOfItem (now (payload .entry)) index ⌝ }
+    ensures { λ r. ⌜ PartOf (payload .entry) (blobFrom (now (payload .entry)) index) (blobOfItem (now (payload .entry)) index) r ⌝ }
 {
     let item = identity(payload, index);
     match item {

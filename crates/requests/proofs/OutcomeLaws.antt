@@ -1,4 +1,4 @@
--- The values of an outcome say it, since each can be read back from them; so do the code's word and the reply buffer.
+-- The values of an outcome say it, since each can be read back from them; so do they and the reply buffer of the rule's.
 use Prim.Native.Nat.{ℕ}
 use mathlib.Core.Path.{_≡_, refl, sym, ap, _∙_}
 use mathlib.Core.List.{List}
@@ -13,43 +13,40 @@ use Rattle.rule.specs.Rule.{gate, check, confirmation, signature, reply, close}
 use Rattle.rule.specs.Calls.{refused, asks, lands}
 use Rattle.requests.specs.declared.Outcome.{Outcome}
 use Rattle.requests.specs.declared.Outcome.the-variants.{Refused, Gate, Check, Confirm, Sign, Reply, Close}
-use Rattle.requests.specs.Outcomes.{hashBits, outcomeValues, OutcomesApart, code, written, outcomeOf, OutcomesRead}
+use Rattle.requests.specs.Outcomes.{hashBits, outcomeValues, OutcomesApart, code, written, hashIn, outcomeFor, outcomeIn, OutcomesRead}
 
-hashFor : ℕ → Hash
-hashFor bits = so (so Sha512 (eqb bits 256) Sha256) (eqb bits 0) Plain
+hash-in : (h : Hash) → hashIn (hashBits h) ≡ h
+unfolding so
+hash-in Plain = refl
+hash-in Sha256 = refl
+hash-in Sha512 = refl
 
-hash-for : (h : Hash) → hashFor (hashBits h) ≡ h
-unfolding so hashFor
-hash-for Plain = refl
-hash-for Sha256 = refl
-hash-for Sha512 = refl
-
--- by the kind, and the values behind it
-outcomeFor : ℕ → (ℕ → ℕ) → Outcome
-outcomeFor kind value =
+-- the code's word by the kind, and the values behind it
+wordFor : ℕ → (ℕ → ℕ) → Outcome
+wordFor kind value =
     so (so (so (so (so (so Close
     (eqb kind 5) (Reply (value 1)))
-    (eqb kind 4) (Sign (value 1) (value 2) (value 3) (hashFor (value 4))))
+    (eqb kind 4) (Sign (value 1) (value 2) (value 3) (hashIn (value 4))))
     (eqb kind 3) (Confirm (value 1)))
     (eqb kind 2) (Check (value 1) (value 2)))
     (eqb kind 1) (Gate (value 1)))
     (eqb kind 0) (Refused (value 1))
 
-outcomeIn : List ℕ → Outcome
-outcomeIn vs = outcomeFor (getD vs 0 0) (λ i. getD vs i 0)
+wordIn : List ℕ → Outcome
+wordIn vs = wordFor (getD vs 0 0) (λ i. getD vs i 0)
 
-outcome-in : (o : Outcome) → outcomeIn (outcomeValues o) ≡ o
-unfolding so outcomeFor outcomeIn
-outcome-in (Refused n) = refl
-outcome-in (Gate class) = refl
-outcome-in (Check from to) = refl
-outcome-in (Confirm n) = refl
-outcome-in (Sign n from to hash) = ap (Sign n from to) (hash-for hash)
-outcome-in (Reply n) = refl
-outcome-in Close = refl
+word-in : (o : Outcome) → wordIn (outcomeValues o) ≡ o
+unfolding so wordFor wordIn
+word-in (Refused n) = refl
+word-in (Gate class) = refl
+word-in (Check from to) = refl
+word-in (Confirm n) = refl
+word-in (Sign n from to hash) = ap (Sign n from to) (hash-in hash)
+word-in (Reply n) = refl
+word-in Close = refl
 
 pub outcomes-apart : OutcomesApart
-outcomes-apart a b e = sym (outcome-in a) ∙ ap outcomeIn e ∙ outcome-in b
+outcomes-apart a b e = sym (word-in a) ∙ ap wordIn e ∙ word-in b
 
 -- what is written at the front of a buffer is its first bytes
 front : (buffer bytes : List ℕ) → take (length bytes) (write buffer 0 bytes) ≡ bytes
@@ -57,11 +54,11 @@ unfolding write
 front buffer bytes = take-at bytes _ (length bytes) refl
 
 pub outcomes-read : OutcomesRead
-unfolding code written outcomeOf
+unfolding code written outcomeFor so
 outcomes-read (refused n) buffer = refl
 outcomes-read (asks (gate class)) buffer = refl
 outcomes-read (asks (check from to)) buffer = refl
 outcomes-read (asks (confirmation n)) buffer = refl
-outcomes-read (asks (signature n from to hash)) buffer = refl
+outcomes-read (asks (signature n from to hash)) buffer = ap (λ (h : Hash). asks (signature n from to h)) (hash-in hash)
 outcomes-read (lands (reply bytes)) buffer = ap (λ (b : List ℕ). lands (reply b)) (front buffer bytes)
 outcomes-read (lands close) buffer = refl

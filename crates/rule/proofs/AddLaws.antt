@@ -1,5 +1,5 @@
 -- Adding: its SUCCESS stores the entry that a well-formed request makes, every such request within the limits succeeds, and the key check sees the fields alone.
-use Prim.Native.Nat.{ℕ, _≤_, _<_}
+use Prim.Native.Nat.{ℕ, _+_, _≤_, _<_}
 use native.Mathlib.Omega.{arith}
 use mathlib.Core.Path.{_≡_, refl, sym, ap, _∙_, subst}
 use mathlib.Core.Logic.{_≢_, _⊎_, inl, inr}
@@ -191,8 +191,8 @@ check-asks g c from to bytes e = by-row (asks-in g c (check from to) (λ class n
   where
     Seen : Type 0
     Seen =
-        (fields : List ℕ) × (blob : List ℕ) × (lifetime : Lifetime) × (confirm : Bool) × AddRequest (payloadOf c) fields blob lifetime confirm
-        × (cutOf (payloadOf c) from to ≡ fields) × MayStore (atCall g c) fields blob
+        PastGate g c × (locked g ≡ false) × (fields : List ℕ) × (blob : List ℕ) × (lifetime : Lifetime) × (confirm : Bool)
+        × AddRequest (payloadOf c) fields blob lifetime confirm × (from ≡ 1) × (to ≡ 1 + length fields) × MayStore (atCall g c) fields blob
 
     check-not-gate : {class : ℕ} → check from to ≡ gate class → ⊥
     check-not-gate never = let z : _≡_ {A = ℕ} 0 1 = cc in omega arith
@@ -200,21 +200,21 @@ check-asks g c from to bytes e = by-row (asks-in g c (check from to) (λ class n
     Asks : Result → Type 0
     Asks r = r .outcome ≡ asks (check from to) → Seen
 
-    asked : (constrained : Bool) (p : Places) (l : Lifetime) (confirm : Bool) (i : ℕ) → Begins (addByte constrained) (payloadOf c)
+    asked : PastGate g c → locked g ≡ false → (constrained : Bool) (p : Places) (l : Lifetime) (confirm : Bool) (i : ℕ) → Begins (addByte constrained) (payloadOf c)
         → additionAt (payloadOf c) 1 constrained ≡ Addition.Whole p l confirm → Storable (atCall g c) (entryOf (atCall g c) (payloadOf c) p l confirm) i → asks (check 1 (p .end)) ≡ asks (check from to) → Seen
-    asked constrained p l confirm i begins read storable is =
+    asked past state constrained p l confirm i begins read storable is =
         let (fields, blob, request, r) = add-in (payloadOf c) bytes constrained p l confirm begins read in
-        let same-from : 1 ≡ from = cc in
-        let same-to : p .end ≡ to = cc in
-        (fields, blob, l, confirm, request, rw (← same-from, ← same-to) (r .cut), rw (r .cut, r .public) at (may-store (atCall g c) (entryOf (atCall g c) (payloadOf c) p l confirm) i storable))
+        let same-from : from ≡ 1 = cc in
+        let same-to : to ≡ p .end = cc in
+        (past, state, fields, blob, l, confirm, request, same-from, same-to ∙ r .end, rw (r .cut, r .public) at (may-store (atCall g c) (entryOf (atCall g c) (payloadOf c) p l confirm) i storable))
 
     by-row : AsksIn g c (check from to) → Seen
-    by-row (in-add constrained begins is) =
+    by-row (in-add past state constrained begins is) =
         adding-cases (lent (c .answers)) (atCall g c) (payloadOf c) Asks silent constrained
-        (λ p l confirm i read storable. asked constrained p l confirm i begins read storable)
+        (λ p l confirm i read storable. asked past state constrained p l confirm i begins read storable)
         (λ p l confirm i _ _ _. silent)
         is
-    by-row (in-sign begins is) =
+    by-row (in-sign past state begins is) =
         signing-cases (lent (c .answers)) (atCall g c) (payloadOf c) Asks (λ _. silent) (λ _. silent)
         (λ i x _ _ never. let z : _≡_ {A = ℕ} 0 1 = cc in absurd (omega arith))
         (λ i x from to flags _ _ _ never. let z : _≡_ {A = ℕ} 0 1 = cc in absurd (omega arith))

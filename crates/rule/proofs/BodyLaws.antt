@@ -20,12 +20,12 @@ use Rattle.keys.specs.declared.constraints.Lifetime.{Lifetime}
 use Rattle.keys.specs.declared.addition.Addition.{Addition}
 use Rattle.keys.specs.Additions.{additionAt}
 use Rattle.rule.specs.declared.Found.the-variants.{Nothing}
-use Rattle.rule.specs.Gateway.{Entry, Gateway, seek, holds, placeFor, withLock, without, withEntry}
+use Rattle.rule.specs.Gateway.{Entry, Gateway, locked, seek, holds, placeFor, withLock, without, withEntry}
 use Rattle.rule.specs.Soundness.{lastNumber}
 use Rattle.rule.specs.Rule.{Question, gate, check, confirmation, signature, Answer, Landing, reply, close, FAILURE, SUCCESS, Plan, land, fails, closes, listing, removing, removingAll, locking, unlocking, hashOf, signatureReply, signed, signingData, confirming, signing, entryOf, storing, adding}
 use Rattle.rule.specs.Calls.{lent, Call, asks, lands, Result, follow, call}
 use Rattle.rule.specs.Order.{Begins, Carries}
-use Rattle.rule.specs.Content.{addByte, HeldAt, atCall, payloadOf, Row, list, add, add-constrained, remove, remove-all, sign, lock, unlock}
+use Rattle.rule.specs.Content.{addByte, HeldAt, atCall, payloadOf, PastGate, Row, list, add, add-constrained, remove, remove-all, sign, lock, unlock}
 use Rattle.rule.proofs.Cases.{so-cases, part-cases, number-cases, found-cases, added-cases, true-not-false}
 use Rattle.rule.proofs.PlaceLaws.{found-at}
 use Rattle.rule.proofs.Effects.{Storable}
@@ -180,10 +180,10 @@ addResult constrained g c = follow (lent (c .answers)) (atCall g c) (adding cons
 abbrev pub signResult : Gateway → Call → Result
 signResult g c = follow (lent (c .answers)) (atCall g c) (signing (atCall g c) (payloadOf c))
 
--- an add or a sign request asks q behind the gate
+-- an add or a sign request asks q behind the gate of an open gateway
 pub data AsksIn (g : Gateway) (c : Call) (q : Question) : Type 0 where
-  in-add : (constrained : Bool) → Begins (addByte constrained) (payloadOf c) → addResult constrained g c .outcome ≡ asks q → AsksIn g c q
-  in-sign : Begins 13 (payloadOf c) → signResult g c .outcome ≡ asks q → AsksIn g c q
+  in-add : PastGate g c → locked g ≡ false → (constrained : Bool) → Begins (addByte constrained) (payloadOf c) → addResult constrained g c .outcome ≡ asks q → AsksIn g c q
+  in-sign : PastGate g c → locked g ≡ false → Begins 13 (payloadOf c) → signResult g c .outcome ≡ asks q → AsksIn g c q
 
 -- a landing asks nothing
 pub silent : {X : Type 0} {l : Landing} {q : Question} → lands l ≡ asks q → X
@@ -194,17 +194,18 @@ pub asks-in : (g : Gateway) (c : Call) (q : Question) → ((class : ℕ) → q �
 unfolding listing removingAll follow
 asks-in g c q other e =
     let some-row = through-some g c e (question-beyond other) in
-    by-row (some-row .row) (some-row .begins) (rw (some-row .through .result) at e)
+    let way = some-row .through in
+    by-row (some-row .row) (some-row .begins) (way .past) (way .fit) (rw (way .result) at e)
   where
     Asks : Result → Type 0
     Asks r = r .outcome ≡ asks q → AsksIn g c q
 
-    by-row : {byte : ℕ} {needs : Bool} {class : ℕ} (r : Row byte needs class) → Begins byte (payloadOf c) → Asks (bodyResult r g c)
-    by-row list begins = silent
-    by-row add begins = in-add false begins
-    by-row add-constrained begins = in-add true begins
-    by-row remove begins = removing-cases (lent (c .answers)) (atCall g c) (payloadOf c) Asks silent (λ i e k. silent)
-    by-row remove-all begins = silent
-    by-row sign begins = in-sign begins
-    by-row lock begins = locking-cases (lent (c .answers)) (atCall g c) (payloadOf c) Asks silent (λ passphrase. silent)
-    by-row unlock begins = unlocking-cases (lent (c .answers)) (atCall g c) (payloadOf c) Asks silent (λ passphrase. silent)
+    by-row : {byte : ℕ} {needs : Bool} {class : ℕ} (r : Row byte needs class) → Begins byte (payloadOf c) → PastGate g c → locked g ≡ needs → Asks (bodyResult r g c)
+    by-row list begins past fit = silent
+    by-row add begins past fit = in-add past fit false begins
+    by-row add-constrained begins past fit = in-add past fit true begins
+    by-row remove begins past fit = removing-cases (lent (c .answers)) (atCall g c) (payloadOf c) Asks silent (λ i e k. silent)
+    by-row remove-all begins past fit = silent
+    by-row sign begins past fit = in-sign past fit begins
+    by-row lock begins past fit = locking-cases (lent (c .answers)) (atCall g c) (payloadOf c) Asks silent (λ passphrase. silent)
+    by-row unlock begins past fit = unlocking-cases (lent (c .answers)) (atCall g c) (payloadOf c) Asks silent (λ passphrase. silent)

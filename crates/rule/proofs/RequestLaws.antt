@@ -1,5 +1,5 @@
 -- Add and sign requests: what the readers take is what the draft writes, and what the draft writes they take.
-use Prim.Native.Nat.{ℕ, _+_, _^_, _<_}
+use Prim.Native.Nat.{ℕ, _+_, _-_, _^_, _<_}
 use native.Mathlib.Omega.{arith}
 use mathlib.Core.Path.{_≡_, refl, sym, ap, _∙_}
 use mathlib.Core.Option.{some}
@@ -17,7 +17,7 @@ use Rattle.wire.specs.Read.{cutOf, stringAt, numberAt, textAt}
 use Rattle.wire.specs.Steps.{part}
 use Rattle.wire.specs.Write.{string}
 use Rattle.wire.proofs.Reading.{string-read, number-read}
-use Rattle.wire.proofs.Format.{string-shape, string-form, number-form, be-shape, be-small}
+use Rattle.wire.proofs.Format.{part-length, string-shape, string-form, number-form, be-shape, be-small}
 use Rattle.wire.proofs.Laws.{text-rule, whole-of}
 use Rattle.keys.specs.declared.kinds.Places.{Places}
 use Rattle.keys.specs.declared.kinds.Key.{Key}
@@ -28,10 +28,10 @@ use Rattle.keys.specs.declared.constraints.Walk.the-variants.{Done, Duplicate, 
 use Rattle.keys.specs.declared.addition.Addition.{Addition}
 use Rattle.keys.specs.Kinds.{keyAt, blobOf}
 use Rattle.keys.specs.Additions.{limitsOf, constraintsAt, commentedAt, key, additionAt}
-use Rattle.keys.specs.Values.{secondsIn, Added, additionSays}
+use Rattle.keys.specs.Values.{secondsIn, Added, additionReads}
 use Rattle.keys.proofs.KeyLaws.{only-keys, every-key}
 use Rattle.keys.proofs.FieldLaws.{lies-at, lies-cut}
-use Rattle.keys.proofs.WalkLaws.{walk-rule}
+use Rattle.keys.proofs.SettleLaws.{walk-rule}
 use Rattle.rule.specs.Order.{Begins, Carries}
 use Rattle.rule.specs.Content.{LimitForm, plain, constrained, AddRequest, addByte, AdditionRule, SignRequest}
 use Rattle.rule.proofs.Cases.{part-cases}
@@ -189,27 +189,28 @@ module _ (payload : List ℕ) (bytes : Bytes payload) where
   same-byte true false e = absurd (omega arith)
   same-byte true true e = refl
 
-  abbrev Requests : Added → Type 0
-  Requests a =
-      (fields : List ℕ) × (l : Lifetime) × (confirm : Bool) × AddRequest payload fields (a .blob) l confirm × (a .end ≡ 1 + length fields)
+  abbrev Requests : Added → ℕ → Type 0
+  Requests a end =
+      (fields : List ℕ) × (l : Lifetime) × (confirm : Bool) × AddRequest payload fields (a .blob) l confirm × (end ≡ 1 + length fields)
       × (a .limits ≡ record { seconds = secondsIn l; confirm = confirm })
 
-  said-request : (c : Bool) → Begins (addByte c) payload → (r : Addition) → additionAt payload 1 c ≡ r → (a : Added) → additionSays payload 1 r ≡ some a → Requests a
-  said-request c begins (Addition.Whole p l confirm) e a says =
+  said-request : (c : Bool) → Begins (addByte c) payload → (r : Addition) → additionAt payload 1 c ≡ r → (a : Added) (end : ℕ) → additionReads payload 1 r ≡ read a end → Requests a end
+  said-request c begins (Addition.Whole p l confirm) e a end says =
       let (fields, blob, request, r) = add-in c p l confirm begins e in
-      let is : _≡_ {A = Added} (record { blob = blobOf payload 1 p; end = p .end; limits = record { seconds = secondsIn l; confirm = confirm } }) a = cc in
-      rw (← is) (fields, l, confirm, rw (r .public) request, r .end, refl)
-  said-request c begins (Addition.Fault at) e a says = let z : _≡_ {A = ℕ} 0 1 = cc in absurd (omega arith)
+      let is : _≡_ {A = Added} (record { blob = blobOf payload 1 p; limits = record { seconds = secondsIn l; confirm = confirm } }) a = cc in
+      let ends : p .end ≡ end = cc in
+      rw (← is, ← ends) (fields, l, confirm, rw (r .public) request, r .end, refl)
+  said-request c begins (Addition.Fault at) e a end says = let z : _≡_ {A = ℕ} 0 1 = cc in absurd (omega arith)
 
-  request-said : (c : Bool) → Begins (addByte c) payload → length payload < 2 ^ 32 → (a : Added) → Requests a → additionSays payload 1 (additionAt payload 1 c) ≡ some a
-  request-said c begins small a (fields, l, confirm, request, end, limits) =
+  request-said : (c : Bool) → Begins (addByte c) payload → length payload < 2 ^ 32 → (a : Added) (end : ℕ) → Requests a end → additionReads payload 1 (additionAt payload 1 c) ≡ read a end
+  request-said c begins small a end (fields, l, confirm, request, ends, limits) =
       let (d, p, r) = add-out fields (a .blob) l confirm small request in
       let same : d ≡ c = same-byte d c (sym (r .begins .first) ∙ begins .first) in
-      rw (← same, r .read) (λ i. some (record { blob = r .public i; end = (r .end ∙ sym end) i; limits = sym limits i }))
+      rw (← same, r .read) (λ i. read (record { blob = r .public i; limits = sym limits i }) ((r .end ∙ sym ends) i))
 
 pub addition-rule : AdditionRule
-addition-rule payload c a bytes small begins =
-    (said-request payload bytes c begins (additionAt payload 1 c) refl a, request-said payload bytes c begins small a)
+addition-rule payload c a end bytes small begins =
+    (said-request payload bytes c begins (additionAt payload 1 c) refl a end, request-said payload bytes c begins small a end)
 
 -- ## Sign requests
 
@@ -247,6 +248,20 @@ sign-in {payload} {blob} {from} {to} {flags} bytes begins k order =
       short = rw (n .number) (be-small payload at bytes);
       shape = first-shape begins ∙ ap (λ (rest : List ℕ). 13 ∷ rest) (rw (← flags-shape, ← data-shape, ← k .is) key-shape);
     }
+
+-- where the data lies: behind the first byte, the blob's string and the data's own length
+pub record DataPlaces (payload blob : List ℕ) (from to : ℕ) : Type 0 where
+  pub start : from ≡ 1 + length (string blob) + 4
+  pub end : to ≡ from + length (cutOf payload from to)
+
+pub data-places : {payload blob : List ℕ} {from to flags : ℕ} (k : Carries blob payload) → Ordered payload (k .next .at) from to flags → DataPlaces payload blob from to
+data-places {payload} {blob} {from} {to} k order =
+    let key = string-read payload 1 (k .from) (k .to) (k .next) (k .read) in
+    let message = string-read payload (k .next .at) from to (order .next) (order .message) in
+    let key-length = part-length payload (k .from) (k .to) (omega arith) (key .within) in
+    let message-length = part-length payload from to (omega arith) (message .within) in
+    let blob-length : length blob ≡ k .to - k .from = sym (ap length (k .is)) ∙ key-length in
+    record { start = omega arith; end = omega arith }
 
 -- what the draft writes is read
 pub sign-out : {payload blob bytes : List ℕ} {flags : ℕ} → Bytes payload → length payload < 2 ^ 32 → SignRequest payload blob bytes flags → SignRead payload blob bytes flags

@@ -1,5 +1,5 @@
 -- Signing: whom the signer is asked for and with what, that a signature goes out only so, and that it goes out where gate, confirmation and signer say yes.
-use Prim.Native.Nat.{ℕ, _/_, _%_}
+use Prim.Native.Nat.{ℕ, _+_, _/_, _%_}
 use native.Mathlib.Omega.{arith}
 use mathlib.Core.Path.{_≡_, refl, sym, _∙_}
 use mathlib.Core.Bool.{Bool, true, false}
@@ -7,6 +7,7 @@ use mathlib.Core.Option.{Option, none, some}
 use mathlib.Core.List.{List, _∷_}
 use borrow.Author.Tests.{eq-eqb, ne-eqb, eqb-true}
 use lib.Dec.{eqb}
+use lib.ListN.{length}
 use Rattle.wire.specs.Numbers.{Bytes}
 use Rattle.wire.specs.Read.{cutOf}
 use Rattle.wire.specs.Steps.{so, part, number}
@@ -23,7 +24,7 @@ use Rattle.rule.proofs.SoundLaws.{sound-advance, sound-rule}
 use Rattle.rule.proofs.AnswerLaws.{numbered-answers}
 use Rattle.rule.proofs.RowLaws.{same-landing, past-gate, landing-beyond, through}
 use Rattle.rule.proofs.Plans.{asks-not-lands}
-use Rattle.rule.proofs.RequestLaws.{Ordered, sign-in, sign-out}
+use Rattle.rule.proofs.RequestLaws.{Ordered, sign-in, data-places, sign-out}
 use Rattle.rule.proofs.BodyLaws.{Allowed, adding-cases, signing-cases, AsksIn, in-add, in-sign, silent, asks-in}
 
 -- ## Hash and answers
@@ -56,7 +57,8 @@ signature-asks g c n from to hash bytes e = by-row (asks-in g c (signature n fro
   where
     Asked : Type 0
     Asked =
-        (i : ℕ) × (e : Entry) × (flags : ℕ) × HeldAt (atCall g c) i e × (e .number ≡ n) × SignRequest (payloadOf c) (e .blob) (cutOf (payloadOf c) from to) flags
+        PastGate g c × (locked g ≡ false) × (i : ℕ) × (e : Entry) × (bytes : List ℕ) × (flags : ℕ) × HeldAt (atCall g c) i e × (e .number ≡ n)
+        × SignRequest (payloadOf c) (e .blob) bytes flags × (from ≡ 1 + length (string (e .blob)) + 4) × (to ≡ from + length bytes)
         × HashTable flags hash × Confirmed c e
 
     signature-not-gate : {class : ℕ} → signature n from to hash ≡ gate class → ⊥
@@ -66,18 +68,33 @@ signature-asks g c n from to hash bytes e = by-row (asks-in g c (signature n fro
     Asks r = r .outcome ≡ asks (signature n from to hash) → Asked
 
     by-row : AsksIn g c (signature n from to hash) → Asked
-    by-row (in-add constrained begins is) =
+    by-row (in-add past state constrained begins is) =
         adding-cases (lent (c .answers)) (atCall g c) (payloadOf c) Asks silent constrained
         (λ p l confirm i _ _ never. let z : _≡_ {A = ℕ} 0 1 = cc in absurd (omega arith))
         (λ p l confirm i _ _ _. silent)
         is
-    by-row (in-sign begins is) =
+    by-row (in-sign past state begins is) =
         signing-cases (lent (c .answers)) (atCall g c) (payloadOf c) Asks (λ _. silent) (λ _. silent)
         (λ i x _ _ never. let z : _≡_ {A = ℕ} 0 1 = cc in absurd (omega arith))
         (λ i x f t flags key order allowed same.
-        let same-part : cutOf (payloadOf c) f t ≡ cutOf (payloadOf c) from to = cc in
+        let same-from : from ≡ f = cc in
+        let same-to : to ≡ t = cc in
         let same-hash : hashOf flags ≡ hash = cc in
-        (i, x, flags, key .there, (cc), rw same-part at (sign-in bytes begins (key .carries) order), rw (← same-hash) (hash-table flags), allowed-confirmed c x allowed))
+        let places = data-places (key .carries) order in (
+          past,
+          state,
+          i,
+          x,
+          cutOf (payloadOf c) f t,
+          flags,
+          key .there,
+          (cc),
+          sign-in bytes begins (key .carries) order,
+          same-from ∙ places .start,
+          same-to ∙ places .end ∙ rw same-from refl,
+          rw (← same-hash) (hash-table flags),
+          allowed-confirmed c x allowed,
+        ))
         (λ i x f t flags blob _ _ _ _. silent)
         is
 
@@ -154,7 +171,9 @@ pub confirmation-asks : ConfirmationAsks
 confirmation-asks g c n e = by-row (asks-in g c (confirmation n) (λ class never. confirmation-not-gate never) e)
   where
     Asked : Type 0
-    Asked = (i : ℕ) × (e : Entry) × HeldAt (atCall g c) i e × (e .number ≡ n) × (e .confirm ≡ true) × Carries (e .blob) (payloadOf c)
+    Asked =
+        PastGate g c × (locked g ≡ false) × Begins 13 (payloadOf c)
+        × (i : ℕ) × (e : Entry) × HeldAt (atCall g c) i e × (e .number ≡ n) × (e .confirm ≡ true) × Carries (e .blob) (payloadOf c)
 
     confirmation-not-gate : {class : ℕ} → confirmation n ≡ gate class → ⊥
     confirmation-not-gate never = let z : _≡_ {A = ℕ} 0 1 = cc in omega arith
@@ -163,14 +182,14 @@ confirmation-asks g c n e = by-row (asks-in g c (confirmation n) (λ class never
     Asks r = r .outcome ≡ asks (confirmation n) → Asked
 
     by-row : AsksIn g c (confirmation n) → Asked
-    by-row (in-add constrained begins is) =
+    by-row (in-add past state constrained begins is) =
         adding-cases (lent (c .answers)) (atCall g c) (payloadOf c) Asks silent constrained
         (λ p l confirm i _ _ never. let z : _≡_ {A = ℕ} 0 1 = cc in absurd (omega arith))
         (λ p l confirm i _ _ _. silent)
         is
-    by-row (in-sign begins is) =
+    by-row (in-sign past state begins is) =
         signing-cases (lent (c .answers)) (atCall g c) (payloadOf c) Asks (λ _. silent) (λ _. silent)
-        (λ i x key confirm same. (i, x, key .there, (cc), confirm, key .carries))
+        (λ i x key confirm same. (past, state, begins, i, x, key .there, (cc), confirm, key .carries))
         (λ i x f t flags _ _ _ never. let z : _≡_ {A = ℕ} 0 1 = cc in absurd (omega arith))
         (λ i x f t flags blob _ _ _ _. silent)
         is

@@ -34,8 +34,10 @@ starred-examples = record {
   flags-1 = refl;
   first-asks = refl;
   second-asks = refl;
-  two-locks = refl;
-  first-holds = refl;
+  ab-then-cd = refl;
+  ab-holds = refl;
+  cd-then-ab = refl;
+  cd-holds = refl;
   more-needed = refl;
   too-long = refl;
 }

@@ -10,12 +10,12 @@ use Rattle.wire.specs.declared.Seconds.{Seconds}
 use Rattle.wire.specs.declared.Constraint.{Constraint}
 use Rattle.wire.specs.Numbers.{Bytes, be32}
 use Rattle.wire.specs.Abnf.{Octets}
-use Rattle.wire.specs.Read.{cutOf}
+use Rattle.wire.specs.Values.{read}
 use Rattle.wire.specs.Write.{string}
 use Rattle.keys.specs.declared.constraints.Lifetime.{Lifetime}
 use Rattle.keys.specs.declared.constraints.Lifetime.the-variants.{Forever, For}
 use Rattle.keys.specs.Additions.{additionAt}
-use Rattle.keys.specs.Values.{secondsIn, Added, additionSays}
+use Rattle.keys.specs.Values.{secondsIn, Added, additionReads}
 use Rattle.keys.specs.Forms.{KeyFields, constraintForms, Adds}
 use Rattle.rule.specs.declared.Hash.{Hash}
 use Rattle.rule.specs.declared.Hash.the-variants.{Plain, Sha256, Sha512}
@@ -218,10 +218,10 @@ addByte true = 25
 -- An add request is read exactly where it is one as the draft writes it: its blob, where its key fields end, and its limits.
 abbrev pub AdditionRule : Type 0
 AdditionRule =
-    (payload : List ℕ) (constrained : Bool) (a : Added) → Bytes payload → length payload < 2 ^ 32 → Begins (addByte constrained) payload
-    → (additionSays payload 1 (additionAt payload 1 constrained) ≡ some a)
+    (payload : List ℕ) (constrained : Bool) (a : Added) (end : ℕ) → Bytes payload → length payload < 2 ^ 32 → Begins (addByte constrained) payload
+    → (additionReads payload 1 (additionAt payload 1 constrained) ≡ read a end)
     ↔ ((fields : List ℕ) × (lifetime : Lifetime) × (confirm : Bool) × AddRequest payload fields (a .blob) lifetime confirm
-    × (a .end ≡ 1 + length fields) × (a .limits ≡ record { seconds = secondsIn lifetime; confirm = confirm }))
+    × (end ≡ 1 + length fields) × (a .limits ≡ record { seconds = secondsIn lifetime; confirm = confirm }))
 
 -- the entry that an add request makes at a call
 abbrev pub madeBy : Gateway → Call → List ℕ → List ℕ → Lifetime → Bool → Entry
@@ -261,12 +261,12 @@ AddedAlways =
     → c .answers .check ≡ some true
     → call g c .outcome ≡ lands SUCCESS
 
--- the key check is asked of the fields alone, comment left out, and only where its yes would store the key
+-- past the gate of an open gateway, the key check is asked of the fields alone, comment left out, and only where its yes would store the key
 abbrev pub CheckAsks : Type 0
 CheckAsks =
     (g : Gateway) (c : Call) (from to : ℕ) → Bytes (payloadOf c) → call g c .outcome ≡ asks (check from to)
-    → (fields blob : List ℕ) × (lifetime : Lifetime) × (confirm : Bool) × AddRequest (payloadOf c) fields blob lifetime confirm × (cutOf (payloadOf c) from to ≡ fields)
-    × MayStore (atCall g c) fields blob
+    → PastGate g c × (locked g ≡ false) × (fields blob : List ℕ) × (lifetime : Lifetime) × (confirm : Bool) × AddRequest (payloadOf c) fields blob lifetime confirm
+    × (from ≡ 1) × (to ≡ 1 + length fields) × MayStore (atCall g c) fields blob
 
 -- ## Removing
 
@@ -310,18 +310,21 @@ pub record HashTable (flags : ℕ) (hash : Hash) : Type 0 where
 abbrev pub Confirmed : Call → Entry → Type 0
 Confirmed c e = e .confirm ≡ true → c .answers .confirmation ≡ some (record { number = e .number; answer = true })
 
--- the signer is asked for a held key's number, the data of the request and the hash that its flags choose, and only after a Confirm key's yes
+-- Past the gate of an open gateway, the signer is asked for a held key's number, the data of the request and the hash that its flags choose, and
+-- only after a Confirm key's yes. The data's part lies behind the first byte, the blob's string and the data's own length.
 abbrev pub SignatureAsks : Type 0
 SignatureAsks =
     (g : Gateway) (c : Call) (n from to : ℕ) (hash : Hash) → Bytes (payloadOf c) → call g c .outcome ≡ asks (signature n from to hash)
-    → (i : ℕ) × (e : Entry) × (flags : ℕ) × HeldAt (atCall g c) i e × (e .number ≡ n) × SignRequest (payloadOf c) (e .blob) (cutOf (payloadOf c) from to) flags
+    → PastGate g c × (locked g ≡ false) × (i : ℕ) × (e : Entry) × (bytes : List ℕ) × (flags : ℕ) × HeldAt (atCall g c) i e × (e .number ≡ n)
+    × SignRequest (payloadOf c) (e .blob) bytes flags × (from ≡ 1 + length (string (e .blob)) + 4) × (to ≡ from + length bytes)
     × HashTable flags hash × Confirmed c e
 
--- a confirmation is asked for a held key with Confirm, and for no other
+-- past the gate of an open gateway, a confirmation is asked where a sign request names a held key with Confirm, for that key's number
 abbrev pub ConfirmationAsks : Type 0
 ConfirmationAsks =
     (g : Gateway) (c : Call) (n : ℕ) → call g c .outcome ≡ asks (confirmation n)
-    → (i : ℕ) × (e : Entry) × HeldAt (atCall g c) i e × (e .number ≡ n) × (e .confirm ≡ true) × Carries (e .blob) (payloadOf c)
+    → PastGate g c × (locked g ≡ false) × Begins 13 (payloadOf c)
+    × (i : ℕ) × (e : Entry) × HeldAt (atCall g c) i e × (e .number ≡ n) × (e .confirm ≡ true) × Carries (e .blob) (payloadOf c)
 
 -- a signature goes out only for a held key, with the signer's own bytes for that key's number, and only after a Confirm key's yes
 abbrev pub SignsOnly : Type 0

@@ -54,9 +54,16 @@ signWith flags = 0x0D ∷ 0 ∷ 0 ∷ 0 ∷ 1 ∷ 0x61 ∷ 0 ∷ 0 ∷ 0 ∷ 0 �
 abbrev pub asksHash : Hash → Outcome
 asksHash hash = asks (signature 1 10 10 hash)
 
--- two LOCKs cross: both ask the gate, both get their yes, and both land
-abbrev pub bothLand : List Call
-bothLand = lending 1 nothingLent lockAb ∷ lending 2 nothingLent lockCd ∷ lending 1 gateYes lockAb ∷ lending 2 gateYes lockCd ∷ []
+-- the fresh gateway, locked with "cd"
+abbrev pub lockedCd : Gateway
+lockedCd = record { places = replicate 8 none; lock = 0x63 ∷ 0x64 ∷ []; clock = 0; next = 1 }
+
+-- two LOCKs cross: both ask the gate, both get their yes, and both land, in the one order or the other
+abbrev pub abLandsFirst : List Call
+abLandsFirst = lending 1 nothingLent lockAb ∷ lending 2 nothingLent lockCd ∷ lending 1 gateYes lockAb ∷ lending 2 gateYes lockCd ∷ []
+
+abbrev pub cdLandsFirst : List Call
+cdLandsFirst = lending 1 nothingLent lockAb ∷ lending 2 nothingLent lockCd ∷ lending 2 gateYes lockCd ∷ lending 1 gateYes lockAb ∷ []
 
 pub record StarredExamples : Type 0 where
   pub fresh-sound : Sound fresh
@@ -78,8 +85,10 @@ pub record StarredExamples : Type 0 where
   pub flags-1 : call oneKey (pastGate (signWith 1)) ≡ record { outcome = asksHash Plain; gateway = oneKey }
   pub first-asks : call fresh (lending 1 nothingLent lockAb) ≡ record { outcome = asks (gate 6); gateway = fresh }
   pub second-asks : call fresh (lending 2 nothingLent lockCd) ≡ record { outcome = asks (gate 6); gateway = fresh }
-  pub two-locks : landings (turns fresh bothLand) ≡ SUCCESS ∷ FAILURE ∷ []
-  pub first-holds : endOf fresh bothLand ≡ lockedAb
+  pub ab-then-cd : landings (turns fresh abLandsFirst) ≡ SUCCESS ∷ FAILURE ∷ []
+  pub ab-holds : endOf fresh abLandsFirst ≡ lockedAb
+  pub cd-then-ab : landings (turns fresh cdLandsFirst) ≡ SUCCESS ∷ FAILURE ∷ []
+  pub cd-holds : endOf fresh cdLandsFirst ≡ lockedCd
   pub more-needed : splitOf (0 ∷ 4 ∷ 0 ∷ 0 ∷ []) ≡ MoreNeeded
   pub too-long : splitOf (0 ∷ 4 ∷ 0 ∷ 1 ∷ []) ≡ TooLong
 

@@ -11,7 +11,7 @@ use borrow.Author.Tests.{eqb-true, eqb-false, eq-eqb, ne-eqb}
 use borrow.Rule.Slice.PartMut.{midOf, putMid}
 use lib.Dec.{eqb}
 use lib.ListN.{length, take, drop, getD, set, replicate, length-append, length-drop, length-replicate, drop-of-length-le, take-append-drop, replicate-append-replicate}
-use lib.Seq.{drop-cons, take-all, take-at, drop-at, length-take-le, take-append-seam, drop-append-seam}
+use lib.Seq.{drop-cons, drop-drop, take-all, take-at, drop-at, length-take-le, take-append-seam, drop-append-seam}
 use Rattle.wire.specs.Read.{same}
 use Rattle.rule.proofs.Cases.{and-left, and-right}
 use Rattle.table.specs.Bytes.{allZero, Zeros, greatestByte, padded}
@@ -36,13 +36,36 @@ zeros-say bs = (all-zeros bs, (λ z. ap allZero z ∙ zeros-zero (length bs)))
 
 -- ## The greatest byte
 
-pub greatest-step : (bs : List ℕ) (i most : ℕ) → i < length bs → max most (greatestByte (drop i bs)) ≡ max (max most (getD bs i 0)) (greatestByte (drop (i + 1) bs))
-unfolding greatestByte
-greatest-step bs i most h = rw (add-one, drop-cons bs i 0) (omega arith)
+-- the greatest of four, in two orders, with one before them
+max-mixed : (m x s y t : ℕ) → max m (max (max x s) (max y t)) ≡ max (max m (max x y)) (max s t)
+max-mixed m x s y t =
+    let inner : max (max x s) (max y t) ≡ max (max x y) (max s t) = omega arith in
+    rw inner (outer (max x y) (max s t))
+  where
+    outer : (p q : ℕ) → max m (max p q) ≡ max (max m p) q
+    outer p q = omega arith
 
-pub greatest-end : (bs : List ℕ) (i most : ℕ) → length bs ≤ i → max most (greatestByte (drop i bs)) ≡ most
+pub greatest-step : (a b : List ℕ) (i most : ℕ) → i < length a → i < length b
+    → max most (max (greatestByte (drop i a)) (greatestByte (drop i b))) ≡ max (max most (max (getD a i 0) (getD b i 0))) (max (greatestByte (drop (i + 1) a)) (greatestByte (drop (i + 1) b)))
 unfolding greatestByte
-greatest-end bs i most h = rw (drop-of-length-le bs h) (omega arith)
+greatest-step a b i most h k = rw (add-one, drop-cons a i 0 h, drop-cons b i 0 k) (max-mixed most (getD a i 0) (greatestByte (drop (suc i) a)) (getD b i 0) (greatestByte (drop (suc i) b)))
+
+pub greatest-end : (a b : List ℕ) (i most : ℕ) → length a ≤ i → length b ≤ i → max most (max (greatestByte (drop i a)) (greatestByte (drop i b))) ≡ most
+unfolding greatestByte
+greatest-end a b i most h k = rw (drop-of-length-le a h, drop-of-length-le b k) (omega arith)
+
+-- a part behind has no greater byte than the whole
+greatest-behind : (k : ℕ) (bs : List ℕ) → greatestByte (drop k bs) ≤ greatestByte bs
+unfolding greatestByte
+greatest-behind zero bs = omega arith
+greatest-behind (suc k) [] = omega arith
+greatest-behind (suc k) (b ∷ bs) = let h = greatest-behind k bs in omega arith
+
+greatest-split : (k : ℕ) (bs : List ℕ) → greatestByte bs ≡ max (greatestByte (take k bs)) (greatestByte (drop k bs))
+unfolding greatestByte
+greatest-split zero bs = omega arith
+greatest-split (suc k) [] = refl
+greatest-split (suc k) (b ∷ bs) = let h = greatest-split k bs in omega arith
 
 -- all bytes are zero exactly where the greatest is
 pub zero-greatest : (bs : List ℕ) → eqb (greatestByte bs) 0 ≡ allZero bs
@@ -57,6 +80,15 @@ zero-greatest (b ∷ bs) = both (eqb b 0) (eqb (greatestByte bs) 0) refl refl �
         eq-eqb (max b (greatestByte bs)) 0 (omega arith)
     both true false p q = let y = eqb-false (greatestByte bs) 0 q in ne-eqb (max b (greatestByte bs)) 0 (λ (e : max b (greatestByte bs) ≡ 0). y (omega arith))
     both false u p q = let x = eqb-false b 0 p in ne-eqb (max b (greatestByte bs)) 0 (λ (e : max b (greatestByte bs) ≡ 0). x (omega arith))
+
+-- two windows that leave nothing out have the greatest byte of all
+pub greatest-covered : (h k : ℕ) (bs : List ℕ) → k ≤ h → max (greatestByte (take h bs)) (greatestByte (drop k bs)) ≡ greatestByte bs
+greatest-covered h k bs l =
+    let e : k + (h - k) ≡ h = omega arith in
+    let all = greatest-split h bs in
+    let back = greatest-behind k bs in
+    let less : greatestByte (drop h bs) ≤ greatestByte (drop k bs) = rw (← e, ← drop-drop (h - k) k bs) (greatest-behind (h - k) (drop k bs)) in
+    omega arith
 
 -- ## The loops that fill and copy
 
@@ -159,6 +191,15 @@ behind k a = take (length a - k) (drop k a)
 
 behind-all : (k : ℕ) (a : List ℕ) → behind k a ≡ drop k a
 behind-all k a = take-all (length a - k) (drop k a) (rw length-drop (omega arith))
+
+-- the first h bytes and the last h
+module _ (h : ℕ) (bs : List ℕ) (l : h ≤ length bs) where
+  pub windows-alike : length (take h bs) ≡ length (behind (length bs - h) bs)
+  windows-alike = length-take-le h bs l ∙ sym (ap length (behind-all (length bs - h) bs) ∙ length-drop (length bs - h) bs ∙ omega arith)
+
+  pub windows-zero : length bs ≤ h + h → eqb (max (greatestByte (take h bs)) (greatestByte (behind (length bs - h) bs))) 0 ≡ allZero bs
+  windows-zero m =
+      ap (λ (x : List ℕ). eqb (max (greatestByte (take h bs)) (greatestByte x)) 0) (behind-all (length bs - h) bs) ∙ ap (λ (x : ℕ). eqb x 0) (greatest-covered h (length bs - h) bs (omega arith)) ∙ zero-greatest bs
 
 module _ (k : ℕ) (a b : List ℕ) (l : length a ≡ length b) where
   pub sizes-before : k ≤ length a → length (take k a) ≡ length (take k b)

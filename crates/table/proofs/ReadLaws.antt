@@ -16,7 +16,7 @@ use Rattle.rule.proofs.Cases.{so-cases}
 use Rattle.table.specs.declared.Entry.{Entry}
 use Rattle.table.specs.declared.State.{State}
 use Rattle.table.specs.Each.{Each, offset}
-use Rattle.table.specs.Meaning.{size, keyOf, placeOf, blobIn, view, freeEntry, entryFor}
+use Rattle.table.specs.Meaning.{size, isSet, keyOf, placeOf, blobIn, view, freeEntry, entryFor}
 use Rattle.table.specs.Soundness.{soundPlace, soundPlaces, SoundPlace, free, held, Housed, Sound}
 use Rattle.table.proofs.EachLaws.{offset-even, each-length, each-at, every-at, each-says}
 use Rattle.table.proofs.TestLaws.{place-says}
@@ -64,12 +64,12 @@ module _ (e : Entry) (p : List ℕ) where
 -- ## What soundness adds
 
 module _ (clock next : ℕ) (e : Entry) (p : List ℕ) (whole : length p ≡ 4096) where
-  pub sound-confirm : SoundPlace clock next e p → e .confirm ≡ confirmIn (placeOf e p)
+  pub sound-confirm : SoundPlace clock next e p → isSet (e .confirm) ≡ confirmIn (placeOf e p)
   unfolding entryFor
   sound-confirm S = by-seen (seen clock next e p whole S)
     where
-      by-seen : Seen clock next e p → e .confirm ≡ confirmIn (placeOf e p)
-      by-seen (seen-free is entry _) = ap (λ (x : Entry). x .confirm) entry ∙ rw is
+      by-seen : Seen clock next e p → isSet (e .confirm) ≡ confirmIn (placeOf e p)
+      by-seen (seen-free is entry _) = ap (λ (x : Entry). isSet (x .confirm)) entry ∙ rw is
       by-seen (seen-held is _ _ _) = rw is
 
   pub sound-blob : SoundPlace clock next e p → take (e .«blob_len») p ≡ blobIn (placeOf e p)

@@ -20,7 +20,7 @@ use Rattle.table.specs.declared.LockRecord.{LockRecord}
 use Rattle.table.specs.Bytes.{allZero}
 use Rattle.table.specs.Each.{each}
 use Rattle.table.specs.Meaning.{size, keyOf, placeOf, view, freeEntry}
-use Rattle.table.specs.Soundness.{soundLifetime, soundLock, soundPlace, all, soundPlaces, unlike, Housed}
+use Rattle.table.specs.Soundness.{isFlag, soundFlags, soundLifetime, soundLock, soundPlace, all, soundPlaces, unlike, Housed}
 use Rattle.table.proofs.EachLaws.{offset-even, each-length, each-at}
 use Rattle.table.proofs.ReadLaws.{partAt, part-size, view-length, view-at, place-free, place-held}
 
@@ -32,17 +32,11 @@ and-yes a b x e f = rw (← e) f
 pub and-no : (a b : Bool) → false ≡ a → false ≡ a && b
 and-no a b e = rw (← e)
 
-pub or-yes : (a b : Bool) → a ≡ true → true ≡ a || b
-or-yes a b e = rw e
+pub or-yes : (a b c : Bool) → c ≡ true → c ≡ a → true ≡ a || b
+or-yes a b c e f = rw (← f, e)
 
-pub or-no : (a b x : Bool) → a ≡ false → x ≡ b → x ≡ a || b
-or-no a b x e f = rw e f
-
-pub not-yes : (b : Bool) → b ≡ false → true ≡ not b
-not-yes b e = rw e
-
-pub not-no : (b : Bool) → b ≡ true → false ≡ not b
-not-no b e = rw e
+pub or-no : (a b c x : Bool) → c ≡ false → c ≡ a → x ≡ b → x ≡ a || b
+or-no a b c x e f g = rw (← f, e) g
 
 -- a test that a call made; the code asks whether it failed
 turned : (v b test : Bool) → not b ≡ not v → b ≡ test → v ≡ test
@@ -50,6 +44,12 @@ turned true true test q e = e
 turned false false test q e = e
 turned true false test q e = q ∙ e
 turned false true test q e = q ∙ e
+
+pub flag-tested : (v b : Bool) (n : ℕ) → not b ≡ not v → b ≡ isFlag n → v ≡ isFlag n
+flag-tested v b n = turned v b (isFlag n)
+
+pub flags-tested : (v b : Bool) (e : Entry) → not b ≡ not v → b ≡ soundFlags e → v ≡ soundFlags e
+flags-tested v b e = turned v b (soundFlags e)
 
 pub lifetime-tested : (v b : Bool) (e : Entry) → not b ≡ not v → b ≡ soundLifetime e → v ≡ soundLifetime e
 lifetime-tested v b e = turned v b (soundLifetime e)
@@ -80,7 +80,7 @@ fields-rest-tested b p m e = e ∙ ap allZero (all-behind (1024 + m) (length p) 
 pub lock-rest-tested : (b : Bool) (p : List ℕ) (n : ℕ) → length p ≡ 1024 → b ≡ allZero (take (1024 - n) (drop n p)) → b ≡ allZero (drop n p)
 lock-rest-tested b p n long e = e ∙ ap allZero (all-behind n 1024 p long)
 
-pub ruleset tests = (steps, and-yes, and-no, or-yes, or-no, not-yes, not-no, lifetime-tested, lock-tested, places-tested, blob-rest-tested, fields-rest-tested, lock-rest-tested)
+pub ruleset tests = (steps, and-yes, and-no, or-yes, or-no, flag-tested, flags-tested, lifetime-tested, lock-tested, places-tested, blob-rest-tested, fields-rest-tested, lock-rest-tested)
 
 -- ## The loops: a test over a list goes by its first element and the rest
 

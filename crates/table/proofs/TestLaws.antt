@@ -1,31 +1,34 @@
 -- Each test of soundness is passed exactly where its fact holds; so the whole test says soundness.
 use Prim.Native.Nat.{ℕ}
 use mathlib.Core.Path.{_≡_, refl, ap}
-use mathlib.Core.Bool.{Bool, true, false, _||_, not}
+use mathlib.Core.Bool.{Bool, true, false, _||_}
 use mathlib.Core.List.{List}
 use native.Mathlib.Omega.{arith}
 use borrow.Author.Tests.{eqb-true, eqb-false, eq-eqb}
 use lib.Dec.{eqb}
 use lib.ListN.{length, take, drop}
 use Rattle.wire.specs.Steps.{so}
-use Rattle.rule.proofs.Cases.{not-true}
 use Rattle.rule.proofs.SoundLaws.{Says, both-say, le-says, lt-says, eq-says, within-says, distinct-says}
 use Rattle.rule.specs.Soundness.{lastNumber}
 use Rattle.table.specs.declared.Entry.{Entry}
 use Rattle.table.specs.declared.LockRecord.{LockRecord}
 use Rattle.table.specs.Bytes.{Zeros}
-use Rattle.table.specs.Meaning.{size, view, freeEntry}
-use Rattle.table.specs.Soundness.{soundFree, soundLifetime, soundHeld, soundPlace, soundPlaces, soundLock, soundState, SoundHeld, SoundPlace, free, held, SoundLock}
+use Rattle.table.specs.Meaning.{size, isSet, view, freeEntry}
+use Rattle.table.specs.Soundness.{isFlag, soundFree, soundFlags, soundLifetime, soundHeld, soundPlace, soundPlaces, soundLock, soundState, Flag, SoundHeld, SoundPlace, free, held, SoundLock}
 use Rattle.table.specs.Promises.{SoundStateRule}
 use Rattle.table.proofs.ByteLaws.{zeros-say}
 use Rattle.table.proofs.EachLaws.{each-says}
 
-not-says : (b : Bool) → Says (not b) (b ≡ false)
-not-says b = (not-true b, ap not)
+flag-says : (b : ℕ) → Says (isFlag b) (Flag b)
+flag-says b = le-says b _
 
-lifetime-says : (e : Entry) → Says (soundLifetime e) (e .limited ≡ false → e .seconds .count ≡ 0)
+flags-say : (e : Entry) → Says (soundFlags e) (Flag (e .limited) × Flag (e .confirm))
+unfolding soundFlags
+flags-say e = both-say _ _ _ _ (flag-says (e .limited)) (flag-says (e .confirm))
+
+lifetime-says : (e : Entry) → Says (soundLifetime e) (isSet (e .limited) ≡ false → e .seconds .count ≡ 0)
 unfolding soundLifetime
-lifetime-says e = by-limit (e .limited)
+lifetime-says e = by-limit (isSet (e .limited))
   where
     by-limit : (limited : Bool) → Says (limited || eqb (e .seconds .count) 0) (limited ≡ false → e .seconds .count ≡ 0)
     by-limit true = ((λ _ never. let z : _≡_ {A = ℕ} 0 1 = cc in absurd (omega arith)), (λ _. refl))
@@ -36,9 +39,9 @@ unfolding soundFree
 free-says e p number =
     let tests =
     both-say _ _ _ _ (eq-says (e .reading .count) 0)
-    (both-say _ _ _ _ (not-says (e .limited))
+    (both-say _ _ _ _ (eq-says (e .limited) 0)
     (both-say _ _ _ _ (eq-says (e .seconds .count) 0)
-    (both-say _ _ _ _ (not-says (e .confirm))
+    (both-say _ _ _ _ (eq-says (e .confirm) 0)
     (both-say _ _ _ _ (eq-says (e .«blob_len») 0)
     (both-say _ _ _ _ (eq-says (e .«fields_len») 0) (zeros-say p)))))) in (
       (λ t.
@@ -79,16 +82,19 @@ held-says clock next e p number =
     let tests =
     both-say _ _ _ _ (lt-says (e .number) next)
     (both-say _ _ _ _ (le-says (e .reading .count) clock)
+    (both-say _ _ _ _ (flags-say e)
     (both-say _ _ _ _ (lifetime-says e)
     (both-say _ _ _ _ (within-says 1 1024 (e .«blob_len»))
     (both-say _ _ _ _ (within-says 1 3072 (e .«fields_len»))
-    (both-say _ _ _ _ (zeros-say (drop (e .«blob_len») (take 1024 p))) (zeros-say (drop (e .«fields_len») (drop 1024 p)))))))) in (
+    (both-say _ _ _ _ (zeros-say (drop (e .«blob_len») (take 1024 p))) (zeros-say (drop (e .«fields_len») (drop 1024 p))))))))) in (
       (λ t.
-          let (taken, (reading, (seconds, (blob, (fields, (blob-rest, fields-rest)))))) = tests .0 t in
+          let (taken, (reading, (flags, (seconds, (blob, (fields, (blob-rest, fields-rest))))))) = tests .0 t in
           record {
             number-first = omega arith;
             number-taken = taken;
             reading-past = reading;
+            limited-flag = flags .0;
+            confirm-flag = flags .1;
             no-seconds = seconds;
             blob-some = blob .0;
             blob-fits = blob .1;
@@ -97,7 +103,7 @@ held-says clock next e p number =
             blob-rest = blob-rest;
             fields-rest = fields-rest;
           }),
-      (λ s. tests .1 (s .number-taken, (s .reading-past, (s .no-seconds, ((s .blob-some, s .blob-fits), ((s .fields-some, s .fields-fit), (s .blob-rest, s .fields-rest))))))),
+      (λ s. tests .1 (s .number-taken, (s .reading-past, ((s .limited-flag, s .confirm-flag), (s .no-seconds, ((s .blob-some, s .blob-fits), ((s .fields-some, s .fields-fit), (s .blob-rest, s .fields-rest)))))))),
     )
 
 pub place-says : (clock next : ℕ) (e : Entry) (p : List ℕ) → Says (soundPlace clock next e p) (SoundPlace clock next e p)

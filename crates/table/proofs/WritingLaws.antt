@@ -1,6 +1,6 @@
 -- A sound state and store are written in one way: place by place, entry and bytes are those of what they mean, and a sound gateway written
 -- so is sound and means itself.
-use Prim.Native.Nat.{ℕ, _+_, _*_, _-_, _≤_}
+use Prim.Native.Nat.{ℕ, zero, suc, _+_, _*_, _-_, _≤_}
 use mathlib.Core.Path.{_≡_, refl, sym, ap, _∙_}
 use mathlib.Core.Bool.{Bool, true, false}
 use mathlib.Core.Option.{none, some}
@@ -23,8 +23,8 @@ use Rattle.table.specs.declared.LockRecord.{LockRecord}
 use Rattle.table.specs.declared.State.{State}
 use Rattle.table.specs.Bytes.{padded}
 use Rattle.table.specs.Each.{each, Each}
-use Rattle.table.specs.Meaning.{size, lifetimeOf, keyOf, placeOf, view, passphrase, gatewayOf, isLimited, keptSeconds, heldEntry, heldBytes, entryFor, bytesFor, laid, lockOf, stateOf, layout}
-use Rattle.table.specs.Soundness.{SoundPlace, free, held, SoundLock, Sound, Means}
+use Rattle.table.specs.Meaning.{size, isSet, lifetimeOf, keyOf, placeOf, view, passphrase, gatewayOf, flagOf, limitedFlag, keptSeconds, heldEntry, heldBytes, entryFor, bytesFor, laid, lockOf, stateOf, layout}
+use Rattle.table.specs.Soundness.{Flag, SoundPlace, free, held, SoundLock, Sound, Means}
 use Rattle.table.specs.Promises.{SoundMeaning, SoundCanonical, OneWriting, EveryGateway, FreshMeans}
 use Rattle.table.proofs.ByteLaws.{padded-size, padded-front, padded-rest, zeros-padded}
 use Rattle.table.proofs.EachLaws.{each-length}
@@ -32,14 +32,20 @@ use Rattle.table.proofs.LayoutLaws.{Fits, free-size, key-size, laid-siz
 
 -- ## One place
 
+-- a sound flag is written as what it says
+flag-kept : (flag : ℕ) → Flag flag → flag ≡ flagOf (isSet flag)
+flag-kept zero h = refl
+flag-kept (suc zero) h = refl
+flag-kept (suc (suc n)) h = absurd (omega arith)
+
 -- a lifetime is kept as a flag and seconds
-lifetime-kept : (e : Entry) → (e .limited ≡ false → e .seconds .count ≡ 0) → (e .limited ≡ isLimited (lifetimeOf e)) × (e .seconds ≡ keptSeconds (lifetimeOf e))
+lifetime-kept : (e : Entry) → Flag (e .limited) → (isSet (e .limited) ≡ false → e .seconds .count ≡ 0) → (e .limited ≡ limitedFlag (lifetimeOf e)) × (e .seconds ≡ keptSeconds (lifetimeOf e))
 unfolding so
-lifetime-kept e none-without = by-limit (e .limited) refl
+lifetime-kept e flag none-without = by-limit (isSet (e .limited)) refl
   where
-    by-limit : (b : Bool) → e .limited ≡ b → (b ≡ isLimited (so Forever b (For (e .seconds)))) × (e .seconds ≡ keptSeconds (so Forever b (For (e .seconds))))
-    by-limit true _ = (refl, refl)
-    by-limit false b = let zero-seconds : e .seconds .count ≡ 0 = none-without b in (refl, (λ j. record { count = zero-seconds j }))
+    by-limit : (b : Bool) → isSet (e .limited) ≡ b → (e .limited ≡ limitedFlag (so Forever b (For (e .seconds)))) × (e .seconds ≡ keptSeconds (so Forever b (For (e .seconds))))
+    by-limit true b = (flag-kept (e .limited) flag ∙ ap flagOf b, refl)
+    by-limit false b = let zero-seconds : e .seconds .count ≡ 0 = none-without b in (flag-kept (e .limited) flag ∙ ap flagOf b, (λ j. record { count = zero-seconds j }))
 
 -- what a sound place is: free and written as free places are, or a sound key, written as that key is
 pub data Seen (clock next : ℕ) (e : Entry) (p : List ℕ) : Type 0 where
@@ -56,7 +62,8 @@ module _ (clock next : ℕ) (e : Entry) (p : List ℕ) (whole : length p ≡ 409
       let front : length (take 1024 p) ≡ 1024 = length-take-le 1024 p (omega arith) in
       let back : length (drop 1024 p) ≡ 3072 = rw (length-drop, whole) in
       let fields-size : length (take (e .«fields_len») (drop 1024 p)) ≡ e .«fields_len» = let h = s .fields-fit in length-take-le _ (drop 1024 p) (omega arith) in
-      let lifetime = lifetime-kept e (s .no-seconds) in
+      let lifetime = lifetime-kept e (s .limited-flag) (s .no-seconds) in
+      let confirm = flag-kept (e .confirm) (s .confirm-flag) in
       let blob : take 1024 p ≡ padded 1024 (take (e .«blob_len») p) =
       zeros-padded 1024 (e .«blob_len») (take 1024 p) front (s .blob-fits) (s .blob-rest) ∙ ap (padded 1024) (take-take (e .«blob_len») 1024 p (s .blob-fits)) in
       let fields : drop 1024 p ≡ padded 3072 (take (e .«fields_len») (drop 1024 p)) = zeros-padded 3072 (e .«fields_len») (drop 1024 p) back (s .fields-fit) (s .fields-rest) in
@@ -67,7 +74,7 @@ module _ (clock next : ℕ) (e : Entry) (p : List ℕ) (whole : length p ≡ 409
         reading = e .reading;
         limited = lifetime .0 j;
         seconds = lifetime .1 j;
-        confirm = e .confirm;
+        confirm = confirm j;
         «blob_len» = sym blob-size j;
         «fields_len» = sym fields-size j;
       })
@@ -149,7 +156,19 @@ one-writing s t x y S T e =
 
 -- ## From what is meant to what is written
 
-lifetime-back : (l : Lifetime) → so Forever (isLimited l) (For (keptSeconds l)) ≡ l
+flag-back : (b : Bool) → isSet (flagOf b) ≡ b
+flag-back true = refl
+flag-back false = refl
+
+flag-sound : (b : Bool) → Flag (flagOf b)
+flag-sound true = omega arith
+flag-sound false = omega arith
+
+limited-sound : (l : Lifetime) → Flag (limitedFlag l)
+limited-sound Forever = omega arith
+limited-sound (For seconds) = omega arith
+
+lifetime-back : (l : Lifetime) → so Forever (isSet (limitedFlag l)) (For (keptSeconds l)) ≡ l
 unfolding so
 lifetime-back Forever = refl
 lifetime-back (For seconds) = refl
@@ -182,7 +201,7 @@ module _ (clock next : ℕ) (k : Key) (s : SoundEntry clock next k) where
   unfolding placeOf entryFor bytesFor heldEntry so
   key-back =
       let number : k .number ≡ 0 → ⊥ = λ (n : k .number ≡ 0). let h = s .number-first in omega arith in
-      rw (ne-eqb (k .number) 0 number, blob-back, fields-back, lifetime-back)
+      rw (ne-eqb (k .number) 0 number, blob-back, fields-back, lifetime-back, flag-back)
 
   key-sound : SoundPlace clock next (entryFor (some k)) (bytesFor (some k))
   unfolding entryFor bytesFor heldEntry
@@ -190,6 +209,8 @@ module _ (clock next : ℕ) (k : Key) (s : SoundEntry clock next k) where
     number-first = s .number-first;
     number-taken = s .number-taken;
     reading-past = s .reading-past;
+    limited-flag = limited-sound (k .lifetime);
+    confirm-flag = flag-sound (k .confirm);
     no-seconds = no-seconds (k .lifetime);
     blob-some = s .blob-some;
     blob-fits = s .blob-fits;
@@ -199,7 +220,7 @@ module _ (clock next : ℕ) (k : Key) (s : SoundEntry clock next k) where
     fields-rest = rw fields-part (padded-rest 3072 (k .fields));
   })
     where
-      no-seconds : (l : Lifetime) → isLimited l ≡ false → keptSeconds l .count ≡ 0
+      no-seconds : (l : Lifetime) → isSet (limitedFlag l) ≡ false → keptSeconds l .count ≡ 0
       no-seconds Forever _ = refl
       no-seconds (For seconds) never = let z : _≡_ {A = ℕ} 0 1 = cc in absurd (omega arith)
 

@@ -24,9 +24,13 @@ size e = 4096
 
 -- ## What is meant
 
+-- a flag is a byte: 1 is yes, 0 is no, and any other is unsound
+abbrev pub isSet : ℕ → Bool
+isSet flag = eqb flag 1
+
 -- "perhaps a lifetime"
 abbrev pub lifetimeOf : Entry → Lifetime
-lifetimeOf e = so Forever (e .limited) (For (e .seconds))
+lifetimeOf e = so Forever (isSet (e .limited)) (For (e .seconds))
 
 -- "public blob (1 to 1,024 bytes) and key fields (1 to 3,072, in the last 3,072)"
 abbrev pub keyOf : Entry → List ℕ → Key
@@ -34,7 +38,7 @@ keyOf e p = record {
   number = e .number;
   reading = e .reading .count;
   lifetime = lifetimeOf e;
-  confirm = e .confirm;
+  confirm = isSet (e .confirm);
   blob = take (e .«blob_len») p;
   fields = take (e .«fields_len») (drop 1024 p);
 }
@@ -65,16 +69,20 @@ abbrev pub freeEntry : Entry
 freeEntry = record {
   number = 0;
   reading = record { count = 0 };
-  limited = false;
+  limited = 0;
   seconds = record { count = 0 };
-  confirm = false;
+  confirm = 0;
   «blob_len» = 0;
   «fields_len» = 0;
 }
 
-abbrev pub isLimited : Lifetime → Bool
-isLimited Forever = false
-isLimited (For seconds) = true
+abbrev pub flagOf : Bool → ℕ
+flagOf false = 0
+flagOf true = 1
+
+abbrev pub limitedFlag : Lifetime → ℕ
+limitedFlag Forever = 0
+limitedFlag (For seconds) = 1
 
 abbrev pub keptSeconds : Lifetime → Seconds
 keptSeconds Forever = record { count = 0 }
@@ -84,9 +92,9 @@ unfoldable pub heldEntry : ℕ → Millis → Lifetime → Bool → ℕ → ℕ 
 heldEntry number reading lifetime confirm blobLen fieldsLen = record {
   number = number;
   reading = reading;
-  limited = isLimited lifetime;
+  limited = limitedFlag lifetime;
   seconds = keptSeconds lifetime;
-  confirm = confirm;
+  confirm = flagOf confirm;
   «blob_len» = blobLen;
   «fields_len» = fieldsLen;
 }

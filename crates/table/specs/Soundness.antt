@@ -15,7 +15,7 @@ use Rattle.table.specs.declared.LockRecord.{LockRecord}
 use Rattle.table.specs.declared.State.{State}
 use Rattle.table.specs.Bytes.{allZero, Zeros}
 use Rattle.table.specs.Each.{each, Each}
-use Rattle.table.specs.Meaning.{size, view, gatewayOf, freeEntry}
+use Rattle.table.specs.Meaning.{size, isSet, view, gatewayOf, freeEntry}
 
 -- ## The tests
 
@@ -23,27 +23,36 @@ use Rattle.table.specs.Meaning.{size, view, gatewayOf, freeEntry}
 unfoldable pub soundFree : Entry → List ℕ → Bool
 soundFree e p =
     eqb (e .reading .count) 0
-    && (not (e .limited)
+    && (eqb (e .limited) 0
     && (eqb (e .seconds .count) 0
-    && (not (e .confirm)
+    && (eqb (e .confirm) 0
     && (eqb (e .«blob_len») 0
     && (eqb (e .«fields_len») 0
     && allZero p)))))
 
+-- a flag is a byte, 0 or 1
+abbrev pub isFlag : ℕ → Bool
+isFlag b = leb b 1
+
+-- "perhaps a lifetime, and Confirm or not"
+unfoldable pub soundFlags : Entry → Bool
+soundFlags e = isFlag (e .limited) && isFlag (e .confirm)
+
 -- no seconds without a lifetime
 unfoldable pub soundLifetime : Entry → Bool
-soundLifetime e = e .limited || eqb (e .seconds .count) 0
+soundLifetime e = isSet (e .limited) || eqb (e .seconds .count) 0
 
 -- "lengths within limits, unused bytes .. zero, .. insertion numbers .. below the next one, .. insertion readings not above the kept clock"
 unfoldable pub soundHeld : ℕ → ℕ → Entry → List ℕ → Bool
 soundHeld clock next e p =
     ltb (e .number) next
     && (leb (e .reading .count) clock
+    && (soundFlags e
     && (soundLifetime e
     && (within 1 1024 (e .«blob_len»)
     && (within 1 3072 (e .«fields_len»)
     && (allZero (drop (e .«blob_len») (take 1024 p))
-    && allZero (drop (e .«fields_len») (drop 1024 p)))))))
+    && allZero (drop (e .«fields_len») (drop 1024 p))))))))
 
 unfoldable pub soundPlace : ℕ → ℕ → Entry → List ℕ → Bool
 soundPlace clock next e p = so (soundHeld clock next e p) (eqb (e .number) 0) (soundFree e p)
@@ -74,11 +83,16 @@ soundState s x =
 
 -- ## The facts
 
+abbrev pub Flag : ℕ → Type 0
+Flag b = b ≤ 1
+
 pub record SoundHeld (clock next : ℕ) (e : Entry) (p : List ℕ) : Type 0 where
   pub number-first : 1 ≤ e .number
   pub number-taken : e .number < next
   pub reading-past : e .reading .count ≤ clock
-  pub no-seconds : e .limited ≡ false → e .seconds .count ≡ 0
+  pub limited-flag : Flag (e .limited)
+  pub confirm-flag : Flag (e .confirm)
+  pub no-seconds : isSet (e .limited) ≡ false → e .seconds .count ≡ 0
   pub blob-some : 1 ≤ e .«blob_len»
   pub blob-fits : e .«blob_len» ≤ 1024
   pub fields-some : 1 ≤ e .«fields_len»

@@ -1,7 +1,7 @@
 // Whole parts: zeroed, copied, padded, tested for zero, compared.
 ghost use mathlib.Core.Path.{_≡_};
 ghost use mathlib.Core.Bool.{_&&_};
-ghost use Prim.Native.Nat.{_≤_, max, min};
+ghost use Prim.Native.Nat.{_+_, _≤_, max, min};
 ghost use lib.ListN.{length, replicate};
 ghost use Rattle.wire.specs.Read.{same};
 ghost use Rattle.table.specs.Bytes.{allZero, greatestByte, padded};
@@ -18,7 +18,7 @@ pub fn wipe(p: &mut [u8])
 }
 
 // The bytes of `src` go into a part of the same length; whoever cuts the part cuts it so.
-pub fn copy_in(p: &mut [u8], src: &[u8])
+pub(crate) fn copy_in(p: &mut [u8], src: &[u8])
     requires { ⌜ length (now p) ≡ length (now src) ⌝ }
     ensures { λ r. ⌜ now (p .exit) ≡ now (src .entry) ⌝ }
 {
@@ -30,7 +30,7 @@ pub fn copy_in(p: &mut [u8], src: &[u8])
 }
 
 // The bytes of `src`, and zeros behind them; whoever cuts the part cuts it long enough.
-pub fn pad(p: &mut [u8], src: &[u8])
+pub(crate) fn pad(p: &mut [u8], src: &[u8])
     requires { ⌜ length (now src) ≤ length (now p) ⌝ }
     ensures { λ r. ⌜ now (p .exit) ≡ padded (length (now (p .entry))) (now (src .entry)) ⌝ }
 {
@@ -48,23 +48,39 @@ fn greater(a: u8, b: u8) -> u8
     a
 }
 
-// Goes over all bytes with no early exit, so that it is compiled to vector code.
-fn greatest_byte(p: &[u8]) -> u8
-    ensures { λ r. ⌜ r ≡ greatestByte (now (p .entry)) ⌝ }
+// Goes over all bytes with no early exit, so that it is compiled to vector code; two parts in one loop take half the turns.
+fn greatest_byte(a: &[u8], b: &[u8]) -> u8
+    requires { ⌜ length (now a) ≡ length (now b) ⌝ }
+    ensures { λ r. ⌜ r ≡ max (greatestByte (now (a .entry))) (greatestByte (now (b .entry))) ⌝ }
 {
     let mut most = 0;
     let mut i = 0;
-    while i < p.len() {
-        most = greater(most, p[i]);
+    while i < a.len() {
+        most = greater(most, greater(a[i], b[i]));
         i += 1;
     }
     most
 }
 
+// Half of n or more; where there is room a multiple of 32, so that vectors leave no byte over.
+fn window(n: usize) -> usize
+    ensures { λ r. ⌜ (r ≤ n) × (n ≤ r + r) ⌝ }
+{
+    let h = (n / 64 + 1) * 32;
+    if n < h {
+        return n;
+    }
+    h
+}
+
+// The first h bytes and the last h: the windows overlap, and leave no byte out.
 pub fn is_zero(p: &[u8]) -> bool
     ensures { λ r. ⌜ r ≡ allZero (now (p .entry)) ⌝ }
 {
-    greatest_byte(p) == 0
+    let n = p.len();
+    let h = window(n);
+    let from = n - h;
+    greatest_byte(&p[..h], &p[from..]) == 0
 }
 
 fn both(a: bool, b: bool) -> bool
@@ -101,7 +117,7 @@ fn front_length(n: usize) -> usize
 }
 
 // Stops behind the fronts where they differ, and goes over all that is left where not.
-pub fn is_equal(a: &[u8], b: &[u8]) -> bool
+pub(crate) fn is_equal(a: &[u8], b: &[u8]) -> bool
     ensures { λ r. ⌜ r ≡ same (now (a .entry)) (now (b .entry)) ⌝ }
 {
     let n = a.len();

@@ -3,7 +3,9 @@ use crate::Entry;
 use crate::State;
 use crate::bytes::pad;
 use crate::bytes::wipe;
+use crate::flag_of;
 use crate::free_entry;
+use crate::is_set;
 use crate::places::start_of;
 use keys::constraints::Lifetime;
 use rule::Millis;
@@ -17,7 +19,7 @@ ghost use Rattle.table.specs.Soundness.{Sound, Means};
 ghost use Rattle.table.specs.Changes.{Standing, MayPut};
 
 // Lifetimes count seconds and the clock counts milliseconds.
-pub fn millis_of(seconds: Seconds) -> Millis
+pub(crate) fn millis_of(seconds: Seconds) -> Millis
     ensures { λ r. ⌜ r .count ≡ millisOf seconds ⌝ }
 {
     Millis {
@@ -30,7 +32,7 @@ fn is_due(e: Entry, clock: Millis) -> bool
     requires { ⌜ e .reading .count ≤ clock .count ⌝ }
     ensures { λ r. ⌜ r ≡ dueAt (clock .count) (e .reading .count) (lifetimeOf e) ⌝ }
 {
-    if !e.limited {
+    if !is_set(e.limited) {
         return false;
     }
     let seconds = e.seconds;
@@ -122,7 +124,7 @@ pub fn remove_all(state: State, store: &mut [u8]) -> State
     }
 }
 
-// The entry of a key; what it keeps of its lifetime is a flag and seconds.
+// The entry of a key; what it keeps of its lifetime is a flag and seconds, and of Confirm a flag.
 fn held_entry(
     number: u64,
     reading: Millis,
@@ -133,22 +135,23 @@ fn held_entry(
 ) -> Entry
     ensures { λ r. ⌜ r ≡ heldEntry number reading lifetime confirm «blob_len» «fields_len» ⌝ }
 {
+    let flag = flag_of(confirm);
     match lifetime {
         Lifetime::Forever => Entry {
             number,
             reading,
-            limited: false,
+            limited: 0,
             seconds: Seconds { count: 0 },
-            confirm,
+            confirm: flag,
             blob_len,
             fields_len,
         },
         Lifetime::For(seconds) => Entry {
             number,
             reading,
-            limited: true,
+            limited: 1,
             seconds,
-            confirm,
+            confirm: flag,
             blob_len,
             fields_len,
         },

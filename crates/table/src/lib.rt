@@ -12,16 +12,16 @@ ghost use mathlib.Core.Path.{_≡_};
 ghost use mathlib.Core.List.{[]};
 ghost use mathlib.Core.Option.{none};
 ghost use Rattle.rule.specs.Gateway.{fresh as freshGateway};
-ghost use Rattle.table.specs.Meaning.{entryFor, stateOf};
+ghost use Rattle.table.specs.Meaning.{isSet, flagOf, entryFor, stateOf};
 
-// What is kept of a place beside its bytes. A free place is all zero.
+// What is kept of a place beside its bytes; `limited` and `confirm` are 0 or 1. A free place is all zero.
 #[repr(C)]
 pub struct Entry {
     pub number: u64,
     pub reading: Millis,
-    pub limited: bool,
+    pub limited: u8,
     pub seconds: Seconds,
-    pub confirm: bool,
+    pub confirm: u8,
     pub blob_len: usize,
     pub fields_len: usize,
 }
@@ -41,6 +41,22 @@ pub struct State {
     pub next: u64,
 }
 
+// What a flag says.
+fn is_set(flag: u8) -> bool
+    ensures { λ r. ⌜ r ≡ isSet flag ⌝ }
+{
+    flag == 1
+}
+
+fn flag_of(yes: bool) -> u8
+    ensures { λ r. ⌜ r ≡ flagOf yes ⌝ }
+{
+    if yes {
+        return 1;
+    }
+    0
+}
+
 // The entry of a free place.
 fn free_entry() -> Entry
     ensures { λ r. ⌜ r ≡ entryFor none ⌝ }
@@ -48,9 +64,9 @@ fn free_entry() -> Entry
     Entry {
         number: 0,
         reading: Millis { count: 0 },
-        limited: false,
+        limited: 0,
         seconds: Seconds { count: 0 },
-        confirm: false,
+        confirm: 0,
         blob_len: 0,
         fields_len: 0,
     }

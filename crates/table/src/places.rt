@@ -2,8 +2,9 @@
 // once the store's length is right. A place is below 8, since a search found it or a loop counts so far.
 use crate::Entry;
 use crate::State;
+use crate::bytes::is_equal;
+use crate::is_set;
 use rule::Found;
-use wire::read::is_same;
 ghost use mathlib.Core.Path.{_≡_};
 ghost use mathlib.Core.Bool.{not};
 ghost use mathlib.Core.Option.{none};
@@ -12,11 +13,11 @@ ghost use Prim.Native.Nat.{ℕ, _*_, _≤_, _<_};
 ghost use lib.ListN.{length, getD, take, drop};
 ghost use Rattle.rule.specs.Gateway.{seek, holds, isFree, placeFor};
 ghost use Rattle.rule.specs.Rule.{numberIn, confirmIn};
-ghost use Rattle.table.specs.Meaning.{gatewayOf, placeOf, blobIn, freeEntry};
+ghost use Rattle.table.specs.Meaning.{isSet, gatewayOf, placeOf, blobIn, freeEntry};
 ghost use Rattle.table.specs.Soundness.{Sound};
 
 // Where the bytes of place i begin; those of the last end where a ninth place would begin.
-pub fn start_of(i: usize) -> usize
+pub(crate) fn start_of(i: usize) -> usize
     requires { ⌜ i ≤ 8 ⌝ }
     ensures { λ r. ⌜ r ≡ i * 4096 ⌝ }
 {
@@ -56,11 +57,11 @@ pub fn number_at(state: State, i: usize) -> u64
 // Does a place's key have Confirm?
 pub fn confirm_at(state: State, i: usize) -> bool
     requires { ⌜ i < 8 ⌝ }
-    ensures { λ r. ⌜ (r ≡ getD (state .entries) i freeEntry .confirm) × ((x : List ℕ) → Sound state x → r ≡ confirmIn (getD (gatewayOf state x .places) i none)) ⌝ }
+    ensures { λ r. ⌜ (r ≡ isSet (getD (state .entries) i freeEntry .confirm)) × ((x : List ℕ) → Sound state x → r ≡ confirmIn (getD (gatewayOf state x .places) i none)) ⌝ }
 {
     let es = state.entries;
     let e = es[i];
-    e.confirm
+    is_set(e.confirm)
 }
 
 // The blob of a place's key, empty where the place is free.
@@ -84,7 +85,7 @@ fn is_holding(e: Entry, p: &[u8], blob: &[u8]) -> bool
         return false;
     }
     let n = e.blob_len;
-    is_same(&p[..n], blob)
+    is_equal(&p[..n], blob)
 }
 
 // The place that holds the blob.

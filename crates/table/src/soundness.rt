@@ -4,6 +4,7 @@ use crate::LockRecord;
 use crate::State;
 use crate::bytes::is_equal;
 use crate::bytes::is_zero;
+use crate::is_set;
 use crate::places::bytes_at;
 use rule::Millis;
 ghost use mathlib.Core.Path.{_≡_};
@@ -13,7 +14,7 @@ ghost use Prim.Native.Nat.{_+_, _≤_, _<_};
 ghost use lib.ListN.{length, getD, drop};
 ghost use Rattle.rule.specs.Soundness.{distinct};
 ghost use Rattle.table.specs.Meaning.{placeOf, view};
-ghost use Rattle.table.specs.Soundness.{soundFree, soundHeld, soundPlace, soundPlaces, soundLifetime, soundLock, soundState, unlike, Housed};
+ghost use Rattle.table.specs.Soundness.{isFlag, soundFree, soundHeld, soundPlace, soundPlaces, soundFlags, soundLifetime, soundLock, soundState, unlike, Housed};
 
 fn is_free_sound(e: Entry, p: &[u8]) -> bool
     ensures { λ r. ⌜ r ≡ soundFree e (now (p .entry)) ⌝ }
@@ -21,13 +22,13 @@ fn is_free_sound(e: Entry, p: &[u8]) -> bool
     if e.reading.count != 0 {
         return false;
     }
-    if e.limited {
+    if e.limited != 0 {
         return false;
     }
     if e.seconds.count != 0 {
         return false;
     }
-    if e.confirm {
+    if e.confirm != 0 {
         return false;
     }
     if e.blob_len != 0 {
@@ -39,11 +40,27 @@ fn is_free_sound(e: Entry, p: &[u8]) -> bool
     is_zero(p)
 }
 
+// A flag is 0 or 1.
+fn is_flag(b: u8) -> bool
+    ensures { λ r. ⌜ r ≡ isFlag b ⌝ }
+{
+    b <= 1
+}
+
+fn are_flags_sound(e: Entry) -> bool
+    ensures { λ r. ⌜ r ≡ soundFlags e ⌝ }
+{
+    if !is_flag(e.limited) {
+        return false;
+    }
+    is_flag(e.confirm)
+}
+
 // Seconds are there only with a lifetime.
 fn is_lifetime_sound(e: Entry) -> bool
     ensures { λ r. ⌜ r ≡ soundLifetime e ⌝ }
 {
-    if e.limited {
+    if is_set(e.limited) {
         return true;
     }
     e.seconds.count == 0
@@ -57,6 +74,9 @@ fn is_held_sound(e: Entry, p: &[u8], clock: Millis, next: u64) -> bool
         return false;
     }
     if clock.count < e.reading.count {
+        return false;
+    }
+    if !are_flags_sound(e) {
         return false;
     }
     if !is_lifetime_sound(e) {

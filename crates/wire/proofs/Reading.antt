@@ -9,6 +9,7 @@ use native.Mathlib.Decide.{decLe}
 use native.Mathlib.Omega.{arith}
 use native.Mathlib.Numerals.{add-one}
 use borrow.Author.Tests.{le-leb, lt-leb, lt-ltb, le-ltb, eq-eqb, ne-eqb, eqb-true}
+use denote.Ref.{RefT, ptr}
 use lib.Dec.{leb, eqb}
 use lib.ListN.{length, getD, take, drop, drop-of-length-le, List·getD-eq-default}
 use lib.Seq.{drop-cons}
@@ -19,7 +20,8 @@ use Rattle.wire.specs.declared.read.Part.{Part}
 use Rattle.wire.specs.declared.read.Part.the-variants.{Whole}
 use Rattle.wire.specs.Numbers.{beAt}
 use Rattle.wire.specs.Mpint.{mpint}
-use Rattle.wire.specs.Read.{cutOf, same, byteAt, numberAt, stringAt}
+use Rattle.wire.specs.Read.{cutOf, cutFrom, same, byteAt, numberAt, stringAt}
+use Rattle.wire.specs.Parts.{PartOf}
 use Rattle.wire.specs.Promises.{SameRule}
 
 pub le-or-lt : (a b : ℕ) → (a ≤ b) ⊎ (b < a)
@@ -39,6 +41,36 @@ module _ (s : List ℕ) (f t : ℕ) where
   pub cut-back : t < f → [] ≡ cutOf s f t
   unfolding cutOf
   cut-back h = rw (lt-leb _ _ h)
+
+  pub cut-empty : t ≤ f → [] ≡ cutOf s f t
+  cut-empty h =
+      ⊎-elim
+      (λ (k : f ≤ t).
+      let none : t - f ≡ 0 = omega arith in
+      ⊎-elim (λ (l : t ≤ length s). rw none at (cut-there k l)) (cut-past k) (le-or-lt t (length s)))
+      cut-back
+      (le-or-lt f t)
+
+  pub from-there : f ≤ t → t ≤ length s → cutFrom s f t ≡ f
+  unfolding cutFrom
+  from-there h k = rw (le-leb _ _ h, le-leb _ _ k)
+
+  pub from-past : f ≤ t → length s < t → cutFrom s f t ≡ 0
+  unfolding cutFrom
+  from-past h k = rw (le-leb _ _ h, lt-leb _ _ k)
+
+  pub from-back : t < f → cutFrom s f t ≡ 0
+  unfolding cutFrom
+  from-back h = rw (lt-leb _ _ h)
+
+pub cut-none : (s : List ℕ) → [] ≡ cutOf s 0 0
+cut-none s = cut-there s 0 0 (omega arith) (omega arith)
+
+pub from-none : (s : List ℕ) → cutFrom s 0 0 ≡ 0
+from-none s = from-there s 0 0 (omega arith) (omega arith)
+
+pub part-as : (s r : RefT (List ℕ)) (f g : ℕ) (v w : List ℕ) → PartOf s f v r → f ≡ g → v ≡ w → PartOf s g w r
+part-as s r f g v w p e h = record { bytes = p .bytes ∙ h; block = p .block; place = p .place ∙ ap (λ (n : ℕ). ptr s .1 + n) e }
 
 -- ## Bytes, numbers, strings
 

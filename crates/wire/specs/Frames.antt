@@ -6,6 +6,7 @@ use lib.ListN.{length}
 use lib.Dec.{leb}
 use Rattle.wire.specs.declared.Split.{Split}
 use Rattle.wire.specs.declared.Split.the-variants.{MoreNeeded, TooLong, Frame}
+use Rattle.wire.specs.declared.read.Cursor.{Cursor}
 use Rattle.wire.specs.Steps.{so, number}
 use Rattle.wire.specs.Read.{cutOf, numberAt}
 
@@ -15,9 +16,17 @@ splitOf s =
     so TooLong (leb n 262144)
     (so MoreNeeded (leb (k .at + n) (length s)) Frame)
 
--- the payload of a frame that is whole, else nothing
+-- what a frame that is whole gives, by its length and the place behind that; else z
+abbrev pub ofFrame : {A : Type 0} → A → List ℕ → (ℕ → Cursor → A) → A
+ofFrame z s next =
+    number (λ _. z) (numberAt s 0) λ n k.
+    so z (leb n 262144)
+    (so z (leb (k .at + n) (length s)) (next n k))
+
+-- its payload, else nothing
 unfoldable pub framePayload : List ℕ → List ℕ
-framePayload s =
-    number (λ _. []) (numberAt s 0) λ n k.
-    so [] (leb n 262144)
-    (so [] (leb (k .at + n) (length s)) (cutOf s (k .at) (k .at + n)))
+framePayload s = ofFrame [] s λ n k. cutOf s (k .at) (k .at + n)
+
+-- where in the bytes the payload begins: behind the length, else at the start
+unfoldable pub payloadFrom : List ℕ → ℕ
+payloadFrom s = ofFrame 0 s λ n k. k .at

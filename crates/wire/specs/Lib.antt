@@ -6,6 +6,7 @@ pub mod Utf8
 pub mod Abnf
 pub mod Mpint
 pub mod Read
+pub mod Parts
 pub mod Values
 pub mod Write
 pub mod Frames

@@ -17,6 +17,10 @@ use Rattle.wire.specs.Steps.{so, part}
 unfoldable pub cutOf : List ℕ → ℕ → ℕ → List ℕ
 cutOf s f t = cond (leb f t) (cond (leb t (length s)) (take (t - f) (drop f s)) []) []
 
+-- where they begin; none that are not all there lie at the start
+unfoldable pub cutFrom : List ℕ → ℕ → ℕ → ℕ
+cutFrom s f t = cond (leb f t) (cond (leb t (length s)) f 0) 0
+
 -- the two lists are equal
 unfoldable pub same : List ℕ → List ℕ → Bool
 same [] [] = true

@@ -3,7 +3,8 @@ use crate::utf8;
 ghost use mathlib.Core.Path.{_≡_};
 ghost use Rattle.wire.specs.Numbers.{be};
 ghost use Rattle.wire.specs.Mpint.{mpint};
-ghost use Rattle.wire.specs.Read.{byteAt, numberAt, stringAt, textAt, mpintAt, cutOf, same};
+ghost use Rattle.wire.specs.Read.{byteAt, numberAt, stringAt, textAt, mpintAt, cutOf, cutFrom, same};
+ghost use Rattle.wire.specs.Parts.{PartOf};
 
 pub struct Cursor {
     pub at: usize,
@@ -36,9 +37,9 @@ fn join(a: u8, b: u8, c: u8, d: u8) -> u32
     (((a as u32) * 256 + (b as u32)) * 256 + (c as u32)) * 256 + (d as u32)
 }
 
-// The bytes from `from` up to `to`, none where they are not all there.
+// The bytes from `from` up to `to`; where they are not all there, none, at the start.
 pub fn cut(s: &[u8], from: usize, to: usize) -> &[u8]
-    ensures { λ r. ⌜ now r ≡ cutOf (now (s .entry)) from to ⌝ }
+    ensures { λ r. ⌜ PartOf (s .entry) (cutFrom (now (s .entry)) from to) (cutOf (now (s .entry)) from to) r ⌝ }
 {
     if from <= to {
         if to <= s.len() { &s[from..to] } else { &s[..0] }

@@ -4,7 +4,7 @@ ghost use mathlib.Core.Bool.{cond};
 ghost use Rattle.wire.specs.Utf8.{leadOf, stepOf, ended, utf8End};
 
 // How many bytes must follow, and what the next one may be.
-pub enum Utf {
+pub(crate) enum Utf {
     Tails { left: u8, low: u8, high: u8 },
     Bad,
 }

@@ -14,7 +14,7 @@ returns-2 c = rw (← c .before .before .read-frame .ensures, c .enum-told2 .giv
 
 returns-3 : tie.Need-returns-3
 unfolding flatSplit splitAs
-returns-3 c = rw (← c .before .before .before .read-frame .ensures, c .before .enum-told3 .given .1, c .frame-payload .ensures)
+returns-3 c = rw (← c .before .before .before .read-frame .ensures, c .before .enum-told3 .given .1, c .frame-payload .ensures .bytes)
 
 pub split-spec : {M : Type 1} → statement M
 split-spec = tie.close (tie.spec (λ c κs. search needs) (λ c. search needs) (λ c. search needs) (λ c. search needs) (λ c κs. search needs) (λ c. search needs) returns returns-2 returns-3)

@@ -6,17 +6,17 @@ use Rattle.keys.proofs.kinds.put_blob.Statement.{statement}
 use Rattle.keys.proofs.kinds.put_blob.Tie as tie
 
 returns : tie.Need-returns
-returns c = blob-long _ _ _ _ _ _ _ (c .before .before .before .cut .ensures) (c .before .before .cut2 .ensures) (c .before .cut3 .ensures) (omega arith)
+returns c = blob-long _ _ _ _ _ _ _ (c .before .before .before .cut .ensures .bytes) (c .before .before .cut2 .ensures .bytes) (c .before .cut3 .ensures .bytes) (omega arith)
 
 returns-2 : tie.Need-returns-2
-returns-2 c = blob-long _ _ _ _ _ _ _ (c .before .before .before .before .cut .ensures) (c .before .before .before .cut2 .ensures) (c .before .before .cut3 .ensures) (omega arith)
+returns-2 c = blob-long _ _ _ _ _ _ _ (c .before .before .before .before .cut .ensures .bytes) (c .before .before .before .cut2 .ensures .bytes) (c .before .before .cut3 .ensures .bytes) (omega arith)
 
 returns-3 : tie.Need-returns-3
-returns-3 c = blob-long _ _ _ _ _ _ _ (c .before .before .before .before .before .cut .ensures) (c .before .before .before .before .cut2 .ensures) (c .before .before .before .cut3 .ensures) (omega arith)
+returns-3 c = blob-long _ _ _ _ _ _ _ (c .before .before .before .before .before .cut .ensures .bytes) (c .before .before .before .before .cut2 .ensures .bytes) (c .before .before .before .cut3 .ensures .bytes) (omega arith)
 
 returns-4 : tie.Need-returns-4
 returns-4 c =
-    blob-fits _ _ _ _ _ _ _ (c .before .before .before .before .before .before .before .before .before .before .before .before .before .before .before .before .before .cut .ensures) (c .before .before .before .before .before .before .before .before .before .before .before .before .before .before .before .before .cut2 .ensures) (c .before .before .before .before .before .before .before .before .before .before .before .before .before .before .before .cut3 .ensures) _ _ _ _ _ _
+    blob-fits _ _ _ _ _ _ _ (c .before .before .before .before .before .before .before .before .before .before .before .before .before .before .before .before .before .cut .ensures .bytes) (c .before .before .before .before .before .before .before .before .before .before .before .before .before .before .before .before .cut2 .ensures .bytes) (c .before .before .before .before .before .before .before .before .before .before .before .before .before .before .before .cut3 .ensures .bytes) _ _ _ _ _ _
     (c .before .before .before .before .before .before .before .before .before .before .put-bytes .ensures .1) (c .before .before .before .before .before .before .before .before .before .before .put-bytes .ensures .0)
     (c .before .before .before .before .before .before .put-bytes2 .ensures .1) (c .before .before .before .before .before .before .put-bytes2 .ensures .0)
     (c .before .before .put-bytes3 .ensures .1) (c .before .before .put-bytes3 .ensures .0)

@@ -17,7 +17,7 @@ unfolding endsIn so
 last-compared v end part b h p e = rw (le-leb (length end) (length v) h) (e ∙ ap (λ (x : List ℕ). same x end) p)
 
 returns-2 : tie.Need-returns-2
-returns-2 c = last-compared _ _ _ _ (c .before .before .if1 .left) (c .before .cut .ensures) (c .is-same .ensures)
+returns-2 c = last-compared _ _ _ _ (c .before .before .if1 .left) (c .before .cut .ensures .bytes) (c .is-same .ensures)
 
 pub ends-in-spec : {M : Type 1} → statement M
 unfolding endsIn

@@ -12,7 +12,7 @@ put-signature-requires : tie.Need-put-signature-requires
 put-signature-requires c κs =
     let start = c .before .before .before .before .before .before .before .before in
     let small = c .before .before .before .before .before .before .before .shared-slice-known .given in
-    rw (c .before .cut .ensures)
+    rw (c .before .cut .ensures .bytes)
     (reply-small (start .args .payload .now) _ _ _ (λ i. omega (arith, small i)) (sym (c .before .before .before .before .before .reply-at .ensures) ∙ c .before .before .before .found2 .given .1))
 
 returns : tie.Need-returns
@@ -22,7 +22,7 @@ returns c = rw (← c .before .before .before .reply-at .ensures, c .before .fou
 returns-2 : tie.Need-returns-2
 unfolding signatureAnswer signatureLeft
 returns-2 c =
-    rw (← c .before .before .before .before .before .before .before .before .reply-at .ensures, c .before .before .before .before .before .before .found2 .given .1, ← c .before .before .before .before .cut .ensures)
+    rw (← c .before .before .before .before .before .before .before .before .reply-at .ensures, c .before .before .before .before .before .before .found2 .given .1, ← c .before .before .before .before .cut .ensures .bytes)
     (c .before .before .put-signature .ensures)
 
 pub write-signature-spec : {M : Type 1} → statement M

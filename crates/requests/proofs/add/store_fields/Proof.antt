@@ -19,7 +19,7 @@ unfolding storing
 returns c = λ a e. search (adds, answering (c .before .before .failure .ensures), blob-over _ _ _ _ _ (c .before .before .before .before .before .before .before .put-blob .ensures .0) 1024 (length-replicate {A = ℕ} 1024 0) (c .before .before .before .before .enum-told .given .1)) depth 16
 
 returns-2 : tie.Need-returns-2
-returns-2 c = λ a e. stored-as _ _ _ _ _ _ _ _ _ _ _ _ _ ((blob-stands _ _ _ _ _ (c .before .before .before .before .before .before .before .before .before .before .before .before .before .put-blob .ensures .0) _ _ (c .before .before .before .before .before .before .before .before .before .before .before .before .before .put-blob .ensures .1) (c .before .before .before .before .before .before .before .before .before .before .n .given .1)) .blob) (c .before .before .before .before .before .before .cut .ensures) (c .before .before .before .before .store-key .ensures a e)
+returns-2 c = λ a e. stored-as _ _ _ _ _ _ _ _ _ _ _ _ _ ((blob-stands _ _ _ _ _ (c .before .before .before .before .before .before .before .before .before .before .before .before .before .put-blob .ensures .0) _ _ (c .before .before .before .before .before .before .before .before .before .before .before .before .before .put-blob .ensures .1) (c .before .before .before .before .before .before .before .before .before .before .n .given .1)) .blob) (c .before .before .before .before .before .before .cut .ensures .bytes) (c .before .before .before .before .store-key .ensures a e)
 
 pub store-fields-spec : {M : Type 1} → statement M
 store-fields-spec = tie.close (tie.spec (λ c. search needs) (λ c κs. search needs) (λ c. search needs) (λ c κs. search needs) (λ c. search needs) array-share-prefix-room slice-aggregate-store-key (λ c κs. search needs) (λ c κs. search needs) (λ c. search needs) returns (λ c. search needs) (λ c. search needs) returns-2)

@@ -11,7 +11,7 @@ returns c = λ a. search (ends, answering (c .before .before .failure .ensures))
 
 returns-2 : tie.Need-returns-2
 unfolding unlocking
-returns-2 c = λ a. search (ends, answering (c .before .before .success .ensures), c .before .before .before .before .with-lock .ensures .1, c .before .before .before .before .before .cut2 .ensures, c .before .before .before .before .before .before .if1 .taken, c .before .before .before .before .before .before .before .is-passphrase .ensures, c .before .before .before .before .before .before .before .before .cut .ensures, c .before .before .before .before .before .before .before .before .before .before .from .given .1, c .before .before .before .before .before .before .before .before .before .before .before .before .string .ensures, c .before .before .before .before .before .before .before .before .before .before .before .before .before .before .before .before .pre .1) depth 16
+returns-2 c = λ a. search (ends, answering (c .before .before .success .ensures), c .before .before .before .before .with-lock .ensures .1, c .before .before .before .before .before .cut2 .ensures .bytes, c .before .before .before .before .before .before .if1 .taken, c .before .before .before .before .before .before .before .is-passphrase .ensures, c .before .before .before .before .before .before .before .before .cut .ensures .bytes, c .before .before .before .before .before .before .before .before .before .before .from .given .1, c .before .before .before .before .before .before .before .before .before .before .before .before .string .ensures, c .before .before .before .before .before .before .before .before .before .before .before .before .before .before .before .before .pre .1) depth 16
 
 returns-3 : tie.Need-returns-3
 unfolding unlocking

@@ -15,7 +15,7 @@ success-requires c κs = omega (arith, c .before .before .before .before .before
 
 returns-2 : tie.Need-returns-2
 unfolding removing
-returns-2 c = λ a. search (ends, answering (c .before .before .success .ensures), c .before .before .before .before .before .before .remove .ensures, c .before .before .before .before .before .before .before .before .before .i .given .1, c .before .before .before .before .before .before .before .before .before .before .before .find .ensures, c .before .before .before .before .before .before .before .before .before .before .before .before .cut .ensures, c .before .before .before .before .before .before .before .before .before .before .before .before .before .before .before .from .given .1, c .before .before .before .before .before .before .before .before .before .before .before .before .before .before .before .before .before .string .ensures) depth 16
+returns-2 c = λ a. search (ends, answering (c .before .before .success .ensures), c .before .before .before .before .before .before .remove .ensures, c .before .before .before .before .before .before .before .before .before .i .given .1, c .before .before .before .before .before .before .before .before .before .before .before .find .ensures, c .before .before .before .before .before .before .before .before .before .before .before .before .cut .ensures .bytes, c .before .before .before .before .before .before .before .before .before .before .before .before .before .before .before .from .given .1, c .before .before .before .before .before .before .before .before .before .before .before .before .before .before .before .before .before .string .ensures) depth 16
 
 returns-3 : tie.Need-returns-3
 unfolding removing

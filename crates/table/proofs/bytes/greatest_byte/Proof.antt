@@ -1,4 +1,4 @@
--- The greatest byte so far and the greatest of those left give the greatest of all. Assumes nothing.
+-- The greatest byte so far and the greatest of those left, in both parts, give the greatest of all. Assumes nothing.
 use borrow.Author.Needs.{needs}
 use native.Mathlib.Omega.{arith}
 use Prim.Native.Nat.{_≤_, _-_, max}
@@ -10,22 +10,23 @@ use Rattle.table.proofs.bytes.greatest_byte.Statement.{statement}
 use Rattle.table.proofs.bytes.greatest_byte.Tie as tie
 
 abbrev Inv-loop : tie.InvT-loop
-Inv-loop p most₀ i₀ most i = (greatestByte p ≡ max most (greatestByte (drop i p))) × (i ≤ length p)
+Inv-loop a b most₀ i₀ most i = (max (greatestByte a) (greatestByte b) ≡ max most (max (greatestByte (drop i a)) (greatestByte (drop i b)))) × (i ≤ length a)
 
 abbrev μ-loop : tie.MeasureT-loop
-μ-loop p most₀ i₀ most i = length p - i
+μ-loop a b most₀ i₀ most i = length a - i
 
 loop-again : tie.Need-loop-again Inv-loop μ-loop
 loop-again c =
-    let l = c .before .before .before .loop in
-    let p = c .before .before .before .before .before .args .p .now in
-    (rw (c .greater .ensures) (l .inv .0 ∙ greatest-step p (l .i) (l .most) (omega arith)), omega arith)
+    let turn = c .before .before .before .before .before in
+    let l = turn .loop in
+    let a = turn .before .before .before .args in
+    (rw (c .greater2 .ensures, c .before .greater .ensures) (l .inv .0 ∙ greatest-step (a .a .now) (a .b .now) (l .i) (l .most) (omega arith) (omega arith)), omega arith)
 
 returns : tie.Need-returns Inv-loop μ-loop
 returns c =
     let l = c .before .loop in
-    let p = c .before .before .before .args .p .now in
-    sym (l .inv .0 ∙ greatest-end p (l .i) (l .most) (omega arith))
+    let a = c .before .before .before .before .args in
+    sym (l .inv .0 ∙ greatest-end (a .a .now) (a .b .now) (l .i) (l .most) (omega arith) (omega arith))
 
 pub greatest-byte-spec : {M : Type 1} → statement M
 greatest-byte-spec =
@@ -35,6 +36,8 @@ greatest-byte-spec =
     μ-loop
     (λ c. (omega arith, omega arith))
     (λ c. omega arith)
+    (λ c. omega arith)
+    (λ c κs. search needs)
     (λ c κs. search needs)
     (λ c. omega arith)
     (λ c. omega arith)

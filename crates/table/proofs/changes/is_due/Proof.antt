@@ -8,11 +8,14 @@ use Rattle.table.proofs.changes.is_due.Tie as tie
 
 returns : tie.Need-returns
 unfolding dueAt so
-returns c = rw (not-true (c .before .before .args .e .limited) (c .if1 .taken))
+returns c = let asked = c .before .is-set in rw (← asked .ensures, not-true (asked .result) (c .if1 .taken))
 
 returns-2 : tie.Need-returns-2
 unfolding dueAt so
-returns-2 c = rw (not-false (c .before .before .before .before .before .before .before .args .e .limited) (c .before .before .before .before .before .if1 .left), c .before .before .before .millis-of .ensures)
+returns-2 c =
+    let left = c .before .before .before .before .before in
+    let asked = left .before .is-set in
+    rw (← asked .ensures, not-false (asked .result) (left .if1 .left), c .before .before .before .millis-of .ensures)
 
 pub is-due-spec : {M : Type 1} → statement M
-is-due-spec = tie.close (tie.spec returns (λ c κs. search needs) (λ c. search needs) returns-2)
+is-due-spec = tie.close (tie.spec (λ c κs. search needs) returns (λ c κs. search needs) (λ c. search needs) returns-2)

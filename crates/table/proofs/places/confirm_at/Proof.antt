@@ -1,5 +1,4 @@
 -- A sound free place has no Confirm; a held one's is the key's. Assumes nothing.
-use mathlib.Core.Path.{refl}
 use borrow.Author.Needs.{needs}
 use Rattle.table.specs.Meaning.{gatewayOf}
 use Rattle.table.proofs.ReadLaws.{view-at, part-size, state-sound-at, sound-confirm}
@@ -9,12 +8,12 @@ use Rattle.table.proofs.places.confirm_at.Tie as tie
 returns : tie.Need-returns
 unfolding gatewayOf
 returns c =
-    let st = c .before .before in
+    let st = c .before .before .before in
     let s = st .args .state in
     let i = st .args .i in (
-      refl,
-      λ x S. rw (view-at (s .entries) x (S .eight-entries) i (st .pre)) (sound-confirm _ _ _ _ (part-size x i (S .store-size) (st .pre)) (state-sound-at s x S i (st .pre))),
+      c .is-set .ensures,
+      λ x S. rw (c .is-set .ensures, view-at (s .entries) x (S .eight-entries) i (st .pre)) (sound-confirm _ _ _ _ (part-size x i (S .store-size) (st .pre)) (state-sound-at s x S i (st .pre))),
     )
 
 pub confirm-at-spec : {M : Type 1} → statement M
-confirm-at-spec = tie.close (tie.spec (λ c. search needs) (λ c. search needs) returns)
+confirm-at-spec = tie.close (tie.spec (λ c. search needs) (λ c. search needs) (λ c κs. search needs) returns)

@@ -9,11 +9,11 @@ use Rattle.table.proofs.places.is_holding.Tie as tie
 returns : tie.Need-returns
 returns c = let a = c .before .before .before .before .args in rw (place-free (a .e) (a .p .now) (c .if1 .taken))
 
-front : tie.Need-slice-aggregate-is-same
+front : tie.Need-slice-aggregate-is-equal
 front c = let st = c .before .before .before .before .before in sym (length-take-le _ (st .args .p .now) (st .pre))
 
 returns-2 : tie.Need-returns-2
-returns-2 c = let a = c .before .before .before .before .before .before .args in rw (place-held (a .e) (a .p .now) (c .before .before .if1 .left)) (c .is-same .ensures)
+returns-2 c = let a = c .before .before .before .before .before .before .args in rw (place-held (a .e) (a .p .now) (c .before .before .if1 .left)) (c .is-equal .ensures)
 
 pub is-holding-spec : {M : Type 1} → statement M
 is-holding-spec = tie.close (tie.spec returns front (λ c κs. search needs) returns-2)

@@ -14,6 +14,8 @@ is-held-sound-spec =
     (λ c. search tests depth 16)
     (λ c κs. search needs)
     (λ c. search tests depth 16)
+    (λ c κs. search needs)
+    (λ c. search tests depth 16)
     (λ c. search tests depth 16)
     (λ c. search tests depth 16)
     (λ c. search tests depth 16)

@@ -20,16 +20,16 @@ sub-if1 c = let h = string-read _ _ _ _ _ (sym (c .before .before .before .befor
 
 returns-2 : tie.Need-returns-2
 unfolding textAt part so
-returns-2 c = rw (← c .before .before .before .before .before .before .string .ensures, c .before .before .before .before .p .given .1, ← c .before .before .cut .ensures, ← c .before .utf8-end .ensures, eq-eqb _ _ (c .if1 .taken))
+returns-2 c = rw (← c .before .before .before .before .before .before .string .ensures, c .before .before .before .before .p .given .1, ← c .before .before .cut .ensures .bytes, ← c .before .utf8-end .ensures, eq-eqb _ _ (c .if1 .taken))
 
 add-t9 : tie.Need-add-t9
 add-t9 c =
     omega
-    (arith, text-room _ _ _ _ _ _ _ (sym (c .before .before .before .before .before .before .string .ensures) ∙ c .before .before .before .before .p .given .1) (c .before .before .cut .ensures) (c .before .utf8-end .ensures))
+    (arith, text-room _ _ _ _ _ _ _ (sym (c .before .before .before .before .before .before .string .ensures) ∙ c .before .before .before .before .p .given .1) (c .before .before .cut .ensures .bytes) (c .before .utf8-end .ensures))
 
 returns-3 : tie.Need-returns-3
 unfolding textAt part so
-returns-3 c = rw (← c .before .before .before .before .before .before .string .ensures, c .before .before .before .before .p .given .1, ← c .before .before .cut .ensures, ← c .before .utf8-end .ensures, ne-eqb _ _ (c .if1 .left))
+returns-3 c = rw (← c .before .before .before .before .before .before .string .ensures, c .before .before .before .before .p .given .1, ← c .before .before .cut .ensures .bytes, ← c .before .utf8-end .ensures, ne-eqb _ _ (c .if1 .left))
 
 pub text-spec : {M : Type 1} → statement M
 text-spec =
