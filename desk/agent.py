@@ -8,6 +8,7 @@ for an answer the core is free for the others. What goes over the core's standar
 """
 import argparse
 import os
+import platform
 import resource
 import select
 import shlex
@@ -23,6 +24,7 @@ import time
 
 HERE = os.path.dirname(os.path.abspath(__file__))
 CORE = os.path.join(os.path.dirname(HERE), 'target', 'bin', 'desk')
+EMULATED = os.path.join(os.path.dirname(HERE), '.ci', 'program')
 LONGEST = 262144  # bytes of a payload
 ROOM = 8265  # bytes of the reply buffer
 SIGNATURE = 2048  # bytes of a lent signature
@@ -107,8 +109,9 @@ class Lent:
 
 class Core:
     def __init__(self, path):
-        # A session of its own, so that Ctrl-C on the terminal reaches the host alone; the core ends when its input does.
-        self.process = subprocess.Popen([path], stdin=subprocess.PIPE, stdout=subprocess.PIPE, start_new_session=True)
+        # The core is x86-64 code. A session of its own, so that Ctrl-C on the terminal reaches the host alone; the core ends when its input does.
+        command = [path] if platform.machine() == 'x86_64' else [EMULATED, path]
+        self.process = subprocess.Popen(command, stdin=subprocess.PIPE, stdout=subprocess.PIPE, start_new_session=True)
         self.start = time.clock_gettime(time.CLOCK_BOOTTIME)  # never falls, and goes on while the machine sleeps
 
     def call(self, payload, lent):

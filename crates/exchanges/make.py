@@ -662,4 +662,5 @@ def sections(folder, scripts):
     yield from damaged_sections(exchanges, blobs)
 
 
-write(sys.argv[3], sections(*sys.argv[1:3]))
+if __name__ == '__main__':
+    write(sys.argv[3], sections(*sys.argv[1:3]))

@@ -3,7 +3,7 @@ use Prim.Native.Nat.{ℕ, _+_, _≤_, _<_}
 use mathlib.Core.Path.{_≡_, refl, sym, ap, _∙_}
 use mathlib.Core.Bool.{true, false}
 use mathlib.Core.List.{List, []}
-use mathlib.Core.Logic.{⊎-elim}
+use mathlib.Core.Logic.{_⊎_, inl, inr, ⊎-elim}
 use native.Mathlib.Omega.{arith}
 use borrow.Author.Tests.{le-leb, lt-leb}
 use lib.ListN.{length}
@@ -23,7 +23,7 @@ use Rattle.requests.specs.declared.Signed.the-variants as signed
 use Rattle.requests.specs.declared.Outcome.the-variants.{Refused, Gate, Check, Confirm, Sign, Reply, Close}
 use Rattle.requests.proofs.OutcomeLaws.{outcomes-apart}
 use Rattle.gateway.specs.Flat.{saidOf, confirmedOf, signedOf, answersOf, flatOf, flatSplit, splitAs}
-use Rattle.gateway.specs.Promises.{OthersMissing, saidNumber, confirmedNumber, confirmedFor, signedNumber, signedFor, EveryAnswer, flatValues, SameValues, FlatApart, SplitsAs, SplitRule}
+use Rattle.gateway.specs.Promises.{OthersMissing, saidNumber, confirmedNumber, confirmedFor, signedNumber, signedFor, EveryAnswer, flatValues, SameValues, FlatApart, FlatUnused, SplitsAs, SplitRule}
 use Rattle.gateway.proofs.FlatSteps.{told-nothing}
 
 -- ## Answers
@@ -72,6 +72,31 @@ same-values Close = refl
 
 pub flat-apart : FlatApart
 flat-apart a b e = outcomes-apart a b (sym (same-values a) ∙ ap flatValues e ∙ same-values b)
+
+-- a kind that is none of these
+beyond : (kind : ℕ) → (kind ≡ 2) ⊎ (5 ≤ kind) → (kind ≡ 2 → ⊥) → kind < 5 → ⊥
+beyond kind (inl is) other below = other is
+beyond kind (inr is) other below = omega arith
+
+between : (kind : ℕ) → (kind ≤ 1) ⊎ ((kind ≡ 3) ⊎ (kind ≡ 6)) → 1 < kind → (kind ≡ 3 → ⊥) → (kind ≡ 6 → ⊥) → ⊥
+between kind (inl is) above third sixth = omega arith
+between kind (inr (inl is)) above third sixth = third is
+between kind (inr (inr is)) above third sixth = sixth is
+
+pub flat-unused : FlatUnused
+unfolding flatOf
+flat-unused (Refused n) = record { hash = λ _. refl; number = λ never. absurd (beyond _ never (omega arith) (omega arith)); part = λ _. (refl, refl); reply = λ _. refl }
+flat-unused (Gate class) = record { hash = λ _. refl; number = λ never. absurd (beyond _ never (omega arith) (omega arith)); part = λ _. (refl, refl); reply = λ _. refl }
+flat-unused (Check from to) = record { hash = λ _. refl; number = λ _. refl; part = λ never. absurd (between _ never (omega arith) (omega arith) (omega arith)); reply = λ never. absurd (omega (arith, never)) }
+flat-unused (Confirm n) = record { hash = λ _. refl; number = λ never. absurd (beyond _ never (omega arith) (omega arith)); part = λ _. (refl, refl); reply = λ _. refl }
+flat-unused (Sign n from to hash) = record {
+  hash = λ never. absurd (never refl);
+  number = λ never. absurd (beyond _ never (omega arith) (omega arith));
+  part = λ never. absurd (between _ never (omega arith) (omega arith) (omega arith));
+  reply = λ never. absurd (omega (arith, never));
+}
+flat-unused (Reply n) = record { hash = λ _. refl; number = λ _. refl; part = λ never. absurd (between _ never (omega arith) (omega arith) (omega arith)); reply = λ _. refl }
+flat-unused Close = record { hash = λ _. refl; number = λ _. refl; part = λ _. (refl, refl); reply = λ _. refl }
 
 -- ## The split
 

@@ -2,4 +2,4 @@
 pub mod FlatSteps
 pub mod FlatLaws
 pub mod WithinLaws
-pub mod LentLaws
+pub mod ExportLaws

@@ -36,7 +36,7 @@ use Rattle.requests.specs.declared.Outcome.the-variants.{Refused}
 use Rattle.requests.specs.Outcomes.{lentOf, code}
 use Rattle.requests.specs.Ends.{Done, laidOut}
 use Rattle.server.specs.Calls.{callOf}
-use Rattle.gateway.specs.Flat.{flatOf}
+use Rattle.gateway.specs.Flat.{answersOf, flatOf}
 use Rattle.gateway.specs.Promises.{NamesWithin, CallsNameWithin}
 
 -- ## What a plan asks
@@ -216,9 +216,11 @@ coded payload buffer (asks (signature n from to hash)) f g = record {
 coded payload buffer (lands (reply bytes)) f g = record { ordered = omega arith; of-payload = λ other. absurd (other refl); of-reply = λ _. g bytes refl }
 coded payload buffer (lands close) f g = record { ordered = omega arith; of-payload = λ _. omega arith; of-reply = λ _. omega arith }
 
-pub calls-name-within : CallsNameWithin
+call-names-within : (state : State) (store payload : List ℕ) (reading : Millis) (answers : Answers) (bytes buffer : List ℕ)
+    → length (state .entries) ≡ 8 → length (state .lock .bytes) ≡ 1024
+    → NamesWithin payload buffer (flatOf (callOf state store payload reading answers bytes buffer .called .outcome))
 unfolding callOf served flatOf
-calls-name-within state store payload reading answers bytes buffer eight long =
+call-names-within state store payload reading answers bytes buffer eight long =
     given-cases (λ (d : Done). NamesWithin payload buffer (flatOf (d .called .outcome)))
     (refusalOf (length buffer) (length store) (soundState state store) (length payload) (lentLength (lentOf answers bytes .signature)))
     {z = laidOut buffer (served (advance (reading .count) (gatewayOf state store)) (record { payload = payload }) (lentOf answers bytes))}
@@ -228,3 +230,7 @@ calls-name-within state store payload reading answers bytes buffer eight long =
     (rule-inside payload (lent (lentOf answers bytes)) (advance (reading .count) (gatewayOf state store)) .inside)
     (reply-fits state store payload reading (lentOf answers bytes) (length buffer) eight long ok))
     (λ n _. record { ordered = omega arith; of-payload = λ _. omega arith; of-reply = λ _. omega arith })
+
+pub calls-name-within : CallsNameWithin
+calls-name-within state store payload reading answers bytes buffer outcome after storeAfter out eight long m =
+    subst (NamesWithin payload buffer) (sym (m .outcome-is)) (call-names-within state store payload reading (answersOf answers) bytes buffer eight long)

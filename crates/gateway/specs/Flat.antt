@@ -1,5 +1,6 @@
 -- What the flat values stand for: 01's numbers and values in the place of each enum.
 use Prim.Native.Nat.{ℕ, _+_}
+use mathlib.Core.Path.{_≡_}
 use mathlib.Core.Bool.{true, false}
 use mathlib.Core.List.{List}
 use lib.ListN.{length}
@@ -8,6 +9,8 @@ use Rattle.wire.specs.declared.Split.{Split}
 use Rattle.wire.specs.declared.Split.the-variants.{MoreNeeded, TooLong, Frame}
 use Rattle.wire.specs.Steps.{so}
 use Rattle.wire.specs.Frames.{splitOf, framePayload}
+use Rattle.rule.specs.declared.Millis.{Millis}
+use Rattle.table.specs.declared.State.{State}
 use Rattle.requests.specs.declared.Said.{Said}
 use Rattle.requests.specs.declared.Said.the-variants as said
 use Rattle.requests.specs.declared.Confirmed.{Confirmed}
@@ -18,6 +21,8 @@ use Rattle.requests.specs.declared.Answers.{Answers}
 use Rattle.requests.specs.declared.Outcome.{Outcome}
 use Rattle.requests.specs.declared.Outcome.the-variants.{Refused, Gate, Check, Confirm, Sign, Reply, Close}
 use Rattle.requests.specs.Outcomes.{hashBits}
+use Rattle.requests.specs.Ends.{Done}
+use Rattle.server.specs.Calls.{callOf}
 use Rattle.gateway.specs.declared.flat.FlatAnswers.{FlatAnswers}
 use Rattle.gateway.specs.declared.flat.FlatOutcome.{FlatOutcome}
 use Rattle.gateway.specs.declared.flat.FlatSplit.{FlatSplit}
@@ -61,6 +66,19 @@ flatOf (Confirm n) = numbered 3 n
 flatOf (Sign n from to hash) = record { kind = 4; hash = hashBits hash; number = n; from = from; to = to }
 flatOf (Reply n) = part 5 0 n
 flatOf Close = part 6 0 0
+
+-- ## The exported call
+
+module _ (state : State) (store payload : List ℕ) (reading : Millis) (answers : FlatAnswers) (signature buffer : List ℕ) where
+  abbrev called : Done
+  called = callOf state store payload reading (answersOf answers) signature buffer
+
+  -- what it gave is what `callOf` gives, flat
+  pub record FlatMeets (outcome : FlatOutcome) (after : State) (storeAfter reply : List ℕ) : Type 0 where
+    pub outcome-is : outcome ≡ flatOf (called .called .outcome)
+    pub state-is : after ≡ called .called .state
+    pub store-is : storeAfter ≡ called .store
+    pub reply-is : reply ≡ called .reply
 
 -- ## The split: 0 more needed, 1 too long, 2 a whole frame; where its payload lies
 

@@ -1,6 +1,7 @@
--- What the flat values promise, as statements; the proofs are in proofs/FlatLaws.antt and proofs/WithinLaws.antt.
+-- What the flat values and the exported call promise, as statements; the proofs are in proofs/FlatLaws.antt, WithinLaws.antt and ExportLaws.antt.
 use Prim.Native.Nat.{ℕ, _≤_}
 use mathlib.Core.Path.{_≡_}
+use mathlib.Core.Logic.{_⊎_}
 use mathlib.Core.Bool.{Bool, true, false}
 use mathlib.Core.List.{List, [], _∷_}
 use lib.ListN.{length}
@@ -10,7 +11,9 @@ use Rattle.wire.specs.Read.{cutOf}
 use Rattle.wire.specs.Frames.{splitOf, framePayload}
 use Rattle.wire.specs.Promises.{OneToOne}
 use Rattle.rule.specs.declared.Millis.{Millis}
+use Rattle.rule.specs.Examples.{oneKey, signWith}
 use Rattle.table.specs.declared.State.{State}
+use Rattle.table.specs.Soundness.{Means}
 use Rattle.requests.specs.declared.Said.{Said}
 use Rattle.requests.specs.declared.Said.the-variants as said
 use Rattle.requests.specs.declared.Confirmed.{Confirmed}
@@ -20,12 +23,11 @@ use Rattle.requests.specs.declared.Signed.the-variants as signed
 use Rattle.requests.specs.declared.Answers.{Answers}
 use Rattle.requests.specs.declared.Outcome.{Outcome}
 use Rattle.requests.specs.Outcomes.{outcomeValues}
-use Rattle.server.specs.Calls.{calledOf, storeOf, replyOf}
-use Rattle.server.specs.Runs.{Meets}
+use Rattle.server.specs.Runs.{Step, CodePromises}
 use Rattle.client.specs.Values.{splitNumber}
 use Rattle.gateway.specs.declared.flat.FlatAnswers.{FlatAnswers}
 use Rattle.gateway.specs.declared.flat.FlatOutcome.{FlatOutcome}
-use Rattle.gateway.specs.Flat.{saidOf, confirmedOf, signedOf, answersOf, flatOf, flatSplit}
+use Rattle.gateway.specs.Flat.{saidOf, confirmedOf, signedOf, answersOf, flatOf, FlatMeets, flatSplit}
 
 -- ## Answers
 
@@ -97,6 +99,16 @@ SameValues = (o : Outcome) → flatValues (flatOf o) ≡ outcomeValues o
 abbrev pub FlatApart : Type 0
 FlatApart = OneToOne Outcome FlatOutcome flatOf
 
+-- a field without meaning is 0
+pub record UnusedZero (o : FlatOutcome) : Type 0 where
+  pub hash : (o .kind ≡ 4 → ⊥) → o .hash ≡ 0
+  pub number : (o .kind ≡ 2) ⊎ (5 ≤ o .kind) → o .number ≡ 0
+  pub part : (o .kind ≤ 1) ⊎ ((o .kind ≡ 3) ⊎ (o .kind ≡ 6)) → (o .from ≡ 0) × (o .to ≡ 0)
+  pub reply : o .kind ≡ 5 → o .from ≡ 0
+
+abbrev pub FlatUnused : Type 0
+FlatUnused = (o : Outcome) → UnusedZero (flatOf o)
+
 -- what an outcome names lies in what was lent: a part of the reply buffer where it replies, else of the payload
 pub record NamesWithin (payload buffer : List ℕ) (o : FlatOutcome) : Type 0 where
   pub ordered : o .from ≤ o .to
@@ -106,21 +118,42 @@ pub record NamesWithin (payload buffer : List ℕ) (o : FlatOutcome) : Type 0 wh
 -- for every call; a state's two arrays have the lengths of their types
 abbrev pub CallsNameWithin : Type 0
 CallsNameWithin =
-    (state : State) (store payload : List ℕ) (reading : Millis) (answers : Answers) (signature buffer : List ℕ)
+    (state : State) (store payload : List ℕ) (reading : Millis) (answers : FlatAnswers) (signature buffer : List ℕ) (outcome : FlatOutcome) (after : State)
+    (storeAfter reply : List ℕ)
     → length (state .entries) ≡ 8 → length (state .lock .bytes) ≡ 1024
-    → NamesWithin payload buffer (flatOf (calledOf state store payload reading answers signature buffer .outcome))
+    → FlatMeets state store payload reading answers signature buffer outcome after storeAfter reply → NamesWithin payload buffer outcome
 
--- ## Runs
+-- ## The exported call
 
--- What a call over the lent state gave, as `serve` is proved to give it, meets the contract of `call`: so calls of that form, one after another, are
--- a run of the code, and all of `CodePromises` holds of them.
-abbrev pub LentMeets : Type 0
-LentMeets =
-    (state : State) (store payload : List ℕ) (reading : Millis) (answers : Answers) (signature buffer : List ℕ) (outcome : Outcome) (after : State)
-    (storeAfter replyAfter : List ℕ)
-    → outcome ≡ calledOf state store payload reading answers signature buffer .outcome → after ≡ calledOf state store payload reading answers signature buffer .state
-    → storeAfter ≡ storeOf state store payload reading answers signature buffer → replyAfter ≡ replyOf state store payload reading answers signature buffer
-    → Meets state store payload reading answers signature buffer (record { called = record { outcome = outcome; state = after }; store = storeAfter; reply = replyAfter })
+-- a step gave what meets the contract of `key_agent_call`
+pub record ByExport (state : State) (store : List ℕ) (k : Step) : Type 0 where
+  pub answers : FlatAnswers
+  pub outcome : FlatOutcome
+  pub answers-are : k .answers ≡ answersOf answers
+  pub ended-is : k .gave .ended ≡ flatValues outcome
+  pub meets : FlatMeets state store (k .payload) (k .reading) answers (k .signature) (k .buffer) outcome (k .gave .state) (k .gave .store) (k .gave .reply)
+
+-- runs of it, each call on the state and store that the one before it left: all that is promised of `call`
+abbrev pub ExportPromises : Type 0
+ExportPromises = CodePromises ByExport
+
+-- the gate's yes, and no other answer
+abbrev pub gateYes : FlatAnswers
+gateYes = record { gate = 2; check = 0; confirmation = 0; signature = 0; «confirmation_number» = 0; «signature_number» = 0 }
+
+-- with one key, the signer is asked for its number, no data and a hash of so many bits
+abbrev pub TellsBits : ℕ → ℕ → Type 0
+TellsBits flags bits =
+    (state : State) (store signature buffer : List ℕ) (outcome : FlatOutcome) (after : State) (storeAfter reply : List ℕ)
+    → Means state store oneKey → length buffer ≡ 8265
+    → FlatMeets state store (signWith flags) (record { count = 0 }) gateYes signature buffer outcome after storeAfter reply
+    → outcome ≡ record { kind = 4; hash = bits; number = 1; from = 10; to = 10 }
+
+-- "Flags 6: SHA-256. 4: SHA-512. 1: none."
+pub record FlagsTold : Type 0 where
+  pub flags-6 : TellsBits 6 256
+  pub flags-4 : TellsBits 4 512
+  pub flags-1 : TellsBits 1 0
 
 -- ## The split
 

@@ -14,8 +14,7 @@ ghost use mathlib.Core.Path.{_≡_};
 ghost use Rattle.rule.specs.Gateway.{fresh as freshGateway};
 ghost use Rattle.table.specs.Meaning.{stateOf};
 ghost use Rattle.table.specs.Soundness.{soundState};
-ghost use Rattle.server.specs.Calls.{calledOf, storeOf, replyOf};
-ghost use Rattle.gateway.specs.Flat.{answersOf, flatOf, flatSplit};
+ghost use Rattle.gateway.specs.Flat.{FlatMeets, flatSplit};
 
 #[no_mangle]
 pub extern "C" fn key_agent_fresh() -> State
@@ -42,7 +41,7 @@ pub extern "C" fn key_agent_call(
     signature: &[u8],
     reply: &mut [u8],
 ) -> FlatOutcome
-    ensures { λ r. ⌜ (r ≡ flatOf (calledOf (now (state .entry)) (now (store .entry)) (now (payload .entry)) reading (answersOf answers) (now (signature .entry)) (now (reply .entry)) .outcome)) × (now (state .exit) ≡ calledOf (now (state .entry)) (now (store .entry)) (now (payload .entry)) reading (answersOf answers) (now (signature .entry)) (now (reply .entry)) .state) × (now (store .exit) ≡ storeOf (now (state .entry)) (now (store .entry)) (now (payload .entry)) reading (answersOf answers) (now (signature .entry)) (now (reply .entry))) × (now (reply .exit) ≡ replyOf (now (state .entry)) (now (store .entry)) (now (payload .entry)) reading (answersOf answers) (now (signature .entry)) (now (reply .entry))) ⌝ }
+    ensures { λ r. ⌜ FlatMeets (now (state .entry)) (now (store .entry)) (now (payload .entry)) reading answers (now (signature .entry)) (now (reply .entry)) r (now (state .exit)) (now (store .exit)) (now (reply .exit)) ⌝ }
 {
     let lent = answers_of(answers);
     let outcome = serve(state, store, payload, reading, lent, signature, reply);

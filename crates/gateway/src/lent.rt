@@ -4,8 +4,7 @@ use requests::Outcome;
 use rule::Millis;
 use server::call::call;
 use table::State;
-ghost use mathlib.Core.Path.{_≡_};
-ghost use Rattle.server.specs.Calls.{calledOf, storeOf, replyOf};
+ghost use Rattle.server.specs.Calls.{Meets};
 
 pub fn serve(
     state: &mut State,
@@ -16,7 +15,7 @@ pub fn serve(
     signature: &[u8],
     reply: &mut [u8],
 ) -> Outcome
-    ensures { λ r. ⌜ (r ≡ calledOf (now (state .entry)) (now (store .entry)) (now (payload .entry)) reading answers (now (signature .entry)) (now (reply .entry)) .outcome) × (now (state .exit) ≡ calledOf (now (state .entry)) (now (store .entry)) (now (payload .entry)) reading answers (now (signature .entry)) (now (reply .entry)) .state) × (now (store .exit) ≡ storeOf (now (state .entry)) (now (store .entry)) (now (payload .entry)) reading answers (now (signature .entry)) (now (reply .entry))) × (now (reply .exit) ≡ replyOf (now (state .entry)) (now (store .entry)) (now (payload .entry)) reading answers (now (signature .entry)) (now (reply .entry))) ⌝ }
+    ensures { λ r. ⌜ Meets (now (state .entry)) (now (store .entry)) (now (payload .entry)) reading answers (now (signature .entry)) (now (reply .entry)) r (now (state .exit)) (now (store .exit)) (now (reply .exit)) ⌝ }
 {
     let r = call(*state, store, payload, reading, answers, signature, reply);
     *state = r.state;

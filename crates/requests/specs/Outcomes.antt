@@ -1,10 +1,13 @@
 -- What the code's enums stand for: the answers that are lent, and 01's six outcomes and its refusals.
 use Prim.Native.Nat.{ℕ}
 use mathlib.Core.Path.{_≡_}
+use mathlib.Core.Logic.{_↔_}
 use mathlib.Core.Bool.{Bool, true, false}
 use mathlib.Core.Option.{Option, none, some}
 use mathlib.Core.List.{List, [], _∷_}
-use lib.ListN.{length, take}
+use lib.ListN.{length, getD, take}
+use lib.Dec.{eqb}
+use Rattle.wire.specs.Steps.{so}
 use Rattle.wire.specs.Promises.{OneToOne}
 use Rattle.wire.specs.Write.{write}
 use Rattle.rule.specs.declared.Hash.{Hash}
@@ -66,20 +69,6 @@ written (asks q) buffer = buffer
 written (lands (reply bytes)) buffer = write buffer 0 bytes
 written (lands close) buffer = buffer
 
--- the rule's outcome, read off the code's word and the reply buffer
-unfoldable pub outcomeOf : Outcome → List ℕ → rule.Outcome
-outcomeOf (Refused n) buffer = refused n
-outcomeOf (Gate class) buffer = asks (gate class)
-outcomeOf (Check from to) buffer = asks (check from to)
-outcomeOf (Confirm n) buffer = asks (confirmation n)
-outcomeOf (Sign n from to hash) buffer = asks (signature n from to hash)
-outcomeOf (Reply n) buffer = lands (reply (take n buffer))
-outcomeOf Close buffer = lands close
-
--- every outcome of the rule can be read off what the code says and writes for it
-abbrev pub OutcomesRead : Type 0
-OutcomesRead = (o : rule.Outcome) (buffer : List ℕ) → outcomeOf (code o) (written o buffer) ≡ o
-
 -- ## 01's numbers and values
 
 -- the bits of a hash, 0 for none
@@ -101,3 +90,41 @@ outcomeValues Close = 6 ∷ []
 
 abbrev pub OutcomesApart : Type 0
 OutcomesApart = OneToOne Outcome (List ℕ) outcomeValues
+
+-- the rule's outcome in 01's numbers
+pub record InNumbers (o : rule.Outcome) (values : List ℕ) : Type 0 where
+  pub refusal : (n : ℕ) → (o ≡ refused n) ↔ (values ≡ 0 ∷ n ∷ [])
+  pub gate-class : (class : ℕ) → (o ≡ asks (gate class)) ↔ (values ≡ 1 ∷ class ∷ [])
+  pub check-part : (from to : ℕ) → (o ≡ asks (check from to)) ↔ (values ≡ 2 ∷ from ∷ to ∷ [])
+  pub confirmation-of : (n : ℕ) → (o ≡ asks (confirmation n)) ↔ (values ≡ 3 ∷ n ∷ [])
+  pub signature-plain : (n from to : ℕ) → (o ≡ asks (signature n from to Plain)) ↔ (values ≡ 4 ∷ n ∷ from ∷ to ∷ 0 ∷ [])
+  pub signature-256 : (n from to : ℕ) → (o ≡ asks (signature n from to Sha256)) ↔ (values ≡ 4 ∷ n ∷ from ∷ to ∷ 256 ∷ [])
+  pub signature-512 : (n from to : ℕ) → (o ≡ asks (signature n from to Sha512)) ↔ (values ≡ 4 ∷ n ∷ from ∷ to ∷ 512 ∷ [])
+  pub reply-length : (bytes : List ℕ) → o ≡ lands (reply bytes) → values ≡ 5 ∷ length bytes ∷ []
+  pub closing : (o ≡ lands close) ↔ (values ≡ 6 ∷ [])
+
+abbrev pub OutcomesTold : Type 0
+OutcomesTold = (o : rule.Outcome) → InNumbers o (outcomeValues (code o))
+
+-- ## Read back
+
+abbrev pub hashIn : ℕ → Hash
+hashIn bits = so (so Plain (eqb bits 512) Sha512) (eqb bits 256) Sha256
+
+-- the rule's outcome, by the kind, the values behind it and the reply buffer
+unfoldable pub outcomeFor : ℕ → (ℕ → ℕ) → List ℕ → rule.Outcome
+outcomeFor kind value buffer =
+    so (so (so (so (so (so (refused (value 1))
+    (eqb kind 6) (lands close))
+    (eqb kind 5) (lands (reply (take (value 1) buffer))))
+    (eqb kind 4) (asks (signature (value 1) (value 2) (value 3) (hashIn (value 4)))))
+    (eqb kind 3) (asks (confirmation (value 1))))
+    (eqb kind 2) (asks (check (value 1) (value 2))))
+    (eqb kind 1) (asks (gate (value 1)))
+
+abbrev pub outcomeIn : List ℕ → List ℕ → rule.Outcome
+outcomeIn values buffer = outcomeFor (getD values 0 0) (λ i. getD values i 0) buffer
+
+-- every outcome of the rule can be read off the values of the code's word for it and what it writes
+abbrev pub OutcomesRead : Type 0
+OutcomesRead = (o : rule.Outcome) (buffer : List ℕ) → outcomeIn (outcomeValues (code o)) (written o buffer) ≡ o

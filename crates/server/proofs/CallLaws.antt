@@ -1,6 +1,6 @@
 -- A call is what `callOf` gives: a refused one by its first refusal, an accepted one since a sound state and store are the one writing of their meaning.
 use Prim.Native.Nat.{ℕ, _≤_, _<_}
-use mathlib.Core.Path.{_≡_, refl, sym, _∙_, subst}
+use mathlib.Core.Path.{_≡_, refl, sym, ap, _∙_, subst}
 use mathlib.Core.Bool.{Bool, true, false, not}
 use mathlib.Core.Option.{Option, none, some}
 use mathlib.Core.List.{List}
@@ -20,7 +20,7 @@ use Rattle.requests.specs.declared.Outcome.the-variants.{Refused}
 use Rattle.requests.specs.Outcomes.{signatureOf, lentOf}
 use Rattle.requests.specs.Ends.{Ends}
 use Rattle.requests.proofs.EndLaws.{ends-laid-out}
-use Rattle.server.specs.Calls.{callOf}
+use Rattle.server.specs.Calls.{callOf, Meets}
 
 -- ## Soundness, as the test tells it
 
@@ -35,11 +35,16 @@ module _ (s : State) (x p : List ℕ) (t : Millis) (answers : Answers) (bytes bu
   refusalHere = refusalOf (length buffer) (length x) (soundState s x) (length p) (lentLength (lentOf answers bytes .signature))
 
   abbrev Gives : Called → List ℕ → List ℕ → Type 0
-  Gives r y out = (r ≡ callOf s x p t answers bytes buffer .called) × (y ≡ callOf s x p t answers bytes buffer .store) × (out ≡ callOf s x p t answers bytes buffer .reply)
+  Gives r y out = Meets s x p t answers bytes buffer (r .outcome) (r .state) y out
 
   refuses : (n : ℕ) (r : Called) → refusalHere ≡ some n → r ≡ record { outcome = Refused n; state = s } → Gives r x buffer
   unfolding callOf
-  refuses n r e f = rw e (f, refl, refl)
+  refuses n r e f = record {
+    outcome-is = rw e (ap (λ (c : Called). c .outcome) f);
+    state-is = rw e (ap (λ (c : Called). c .state) f);
+    store-is = rw e refl;
+    reply-is = rw e refl;
+  }
 
   pub refuses-1 : (r : Called) → length buffer < 8265 → r ≡ record { outcome = Refused 1; state = s } → Gives r x buffer
   unfolding refusalOf so lentOf
@@ -86,8 +91,15 @@ module _ (s : State) (x p : List ℕ) (t : Millis) (answers : Answers) (bytes bu
           → Ends buffer r y out (served (gatewayOf raised z) (record { payload = p }) (lentOf answers bytes)) → Gives r y out
       unfolding callOf
       accepts r y out raised z b m e =
-          rw (none-applies b)
-          (ends-laid-out buffer r y out _ (subst (λ (g : Gateway). Ends buffer r y out (served g (record { payload = p }) (lentOf answers bytes))) (m .gateway) e))
+          let as-served = subst (λ (g : Gateway). Ends buffer r y out (served g (record { payload = p }) (lentOf answers bytes))) (m .gateway) e in
+          let laid = ends-laid-out buffer r y out _ as-served in
+          let ok = none-applies b in
+          record {
+            outcome-is = rw ok (ap (λ (c : Called). c .outcome) (laid .0));
+            state-is = rw ok (ap (λ (c : Called). c .state) (laid .0));
+            store-is = rw ok (laid .1);
+            reply-is = rw ok (laid .2);
+          }
 
 -- a lent signature that the test lets through is short
 pub lent-short : (answers : Answers) (bytes : List ℕ) (n : ℕ) → n ≡ lentLength (signatureOf (answers .signature) bytes) → n ≤ 2048 → lentLength (lentOf answers bytes .signature) ≤ 2048

@@ -2,4 +2,5 @@
 pub mod RowSteps
 pub mod CallLaws
 pub mod Leavings
+pub mod Numbers
 pub mod Lift

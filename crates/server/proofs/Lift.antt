@@ -1,18 +1,19 @@
 -- A run of the code is a run of the rule: each step ends as the rule's call does (Leavings), and the state and store that it leaves are sound
 -- and mean what the rule's next call starts from. So the promises of order hold of what the code gave. Assumed: a sound state and store at
--- the start, and steps that meet the contract of `call`.
+-- the start, and steps that meet the contract of `call` (`ByCall`).
 use Prim.Native.Nat.{ℕ, max}
 use mathlib.Core.Path.{_≡_, refl, sym, ap, _∙_, subst}
 use mathlib.Core.Logic.{_≢_}
 use mathlib.Core.Bool.{Bool, true, false}
 use mathlib.Core.Option.{Option, none, some}
-use mathlib.Core.List.{List, [], _∷_, map}
+use mathlib.Core.List.{List, [], _∷_, _++_, map}
 use native.Mathlib.Omega.{arith}
 use borrow.Author.Tests.{lt-ltb}
 use lib.Dec.{leb}
 use Rattle.wire.specs.Steps.{so}
 use Rattle.rule.specs.Gateway.{Gateway, locked}
-use Rattle.rule.specs.Rule.{Question, gate}
+use Rattle.rule.specs.Rule.{gate}
+use Rattle.rule.specs.Calls as calls
 use Rattle.rule.specs.Calls.{given, refusalOf, Frame, Call, refused, asks, Result, refusal, call}
 use Rattle.rule.specs.Runs.{heard, heardIn, turn, turnsFrom, endOf, Oracle}
 use Rattle.rule.specs.Order.{EveryAccepted, Keeps, AsOneAtATime, asked, askedIn, ownFrame, ownAnswers, Begins, NoUnlocking, NeverFall, EveryQuestion, EveryOutcome, someAccepted, OnlyExpiry}
@@ -30,14 +31,13 @@ use Rattle.table.specs.Soundness.{Means}
 use Rattle.table.proofs.WritingLaws.{sound-meaning}
 use Rattle.requests.specs.declared.Outcome.{Outcome}
 use Rattle.requests.specs.declared.Outcome.the-variants.{Refused, Gate, Check, Confirm, Sign, Reply, Close}
-use Rattle.requests.specs.Outcomes.{outcomeOf, outcomeValues}
-use Rattle.requests.proofs.OutcomeLaws.{outcomes-apart}
-use Rattle.server.specs.Runs.{endedWith, Unchanged}
-use Rattle.server.specs.Runs.{Step, MeetsCall, stateAfter, storeAfter, CodeRun, endState, endStore, EveryStep, asCall, RuleRun, IsARun, CodeIsARun}
+use Rattle.requests.specs.Outcomes.{code, outcomeValues, outcomeFor, outcomeIn}
+use Rattle.server.specs.Runs.{Step, ByCall, EndedWith, Asked, Unchanged, EndsAs, CodeRun, endState, endStore, EveryStep, asCall, RuleRun, IsARun, CodeIsARun}
 use Rattle.server.specs.Runs.{outcomeAfter, isAccepted, Accepted, heardAt, heardOver, turnsOver, turnsOf, askedOver, acceptedOver, acceptedSteps}
 use Rattle.server.specs.Runs.{CodeAsOneAtATime, CodeDemand3, CodeAsLent, CodeRefusedDropOut, NeverFallOver, CodeOwnReadings, CodeOnlyExpiry, CodeWhileLocked, CodeBetweenLockAndUnlock, CodeNeverRefused3, CodePromises}
-use Rattle.server.proofs.Leavings.{no-second-answer, code-refusals, code-refusal-leaves, StepEnds, step-ends, ended-is}
+use Rattle.server.proofs.Leavings.{no-second-answer, code-refusals, code-refusal-leaves, step-ends, ended-is, asked-question, replied}
 use Rattle.server.proofs.Leavings.{code-question-leaves, code-close-leaves, code-failure-leaves, code-reply-leaves, code-reply-bytes, code-others-stay}
+use Rattle.server.proofs.Numbers.{code-numbers, code-gate-asks, code-hashes}
 
 -- ## The run
 
@@ -45,15 +45,15 @@ record Lifted (state : State) (store : List ℕ) (g : Gateway) (ks : List Step) 
   calls : RuleRun g ks
   end : Means (endState state ks) (endStore store ks) (endOf g (map asCall ks))
 
-lift : (ks : List Step) (state : State) (store : List ℕ) (g : Gateway) → Means state store g → CodeRun state store ks → Lifted state store g ks
+lift : (ks : List Step) (state : State) (store : List ℕ) (g : Gateway) → Means state store g → CodeRun ByCall state store ks → Lifted state store g ks
 unfolding endState endStore endOf
 lift [] state store g m run = record { calls = tt; end = m }
 lift (k ∷ ks) state store g m run =
-    let e = subst (λ (g : Gateway). StepEnds k (call g (asCall k))) (m .gateway) (step-ends state store (m .sound) k (run .0)) in
-    let rest = lift ks (stateAfter k) (storeAfter k) (call g (asCall k) .gateway) (e .means) (run .1) in
+    let e = subst (λ (g : Gateway). EndsAs k (call g (asCall k))) (m .gateway) (step-ends state store (m .sound) k (run .0)) in
+    let rest = lift ks (k .gave .state) (k .gave .store) (call g (asCall k) .gateway) (e .means) (run .1) in
     record { calls = (e, rest .calls); end = rest .end }
 
-pub code-is-a-run : CodeIsARun
+pub code-is-a-run : CodeIsARun ByCall
 code-is-a-run state store ks S run =
     let l = lift ks state store (gatewayOf state store) (record { gateway = refl; sound = S }) run in
     record { calls = l .calls; end = l .end }
@@ -71,7 +71,7 @@ unfolding isAccepted
 accepted-if g c =
     own-cases g c (λ (o : Option ℕ) (r : Result). o ≡ none → isAccepted (r .outcome) ≡ true) (λ n never. absurd (some-not-none never)) (λ q needs _. refl) (λ _. refl)
 
-module _ (k : Step) (g : Gateway) (e : StepEnds k (call g (asCall k))) where
+module _ (k : Step) (g : Gateway) (e : EndsAs k (call g (asCall k))) where
   accepts-step : {A : Type 0} (z a : A) → so z (isAccepted (outcomeAfter k)) a ≡ given (refusal g (asCall k)) a λ n. z
   accepts-step z a = rw (ended-is k (call g (asCall k)) e) (accepts g (asCall k) z a)
 
@@ -104,54 +104,66 @@ reads (k ∷ ks) m a b g run =
 
 -- ## Refused steps drop out
 
-refused-by-name : (o : Outcome) (reply : List ℕ) → isAccepted (outcomeOf o reply) ≡ false → (n : ℕ) × (o ≡ Refused n)
-unfolding isAccepted outcomeOf
-refused-by-name (Refused n) reply e = (n, refl)
-refused-by-name (Gate class) reply e = absurd (true-not-false e)
-refused-by-name (Check from to) reply e = absurd (true-not-false e)
-refused-by-name (Confirm n) reply e = absurd (true-not-false e)
-refused-by-name (Sign n from to hash) reply e = absurd (true-not-false e)
-refused-by-name (Reply n) reply e = absurd (true-not-false e)
-refused-by-name Close reply e = absurd (true-not-false e)
+refused-by-values : (o : Outcome) (out : List ℕ) → isAccepted (outcomeIn (outcomeValues o) out) ≡ false → (n : ℕ) × (outcomeValues o ≡ 0 ∷ n ∷ [])
+unfolding isAccepted outcomeFor so
+refused-by-values (Refused n) out e = (n, refl)
+refused-by-values (Gate class) out e = absurd (true-not-false e)
+refused-by-values (Check from to) out e = absurd (true-not-false e)
+refused-by-values (Confirm n) out e = absurd (true-not-false e)
+refused-by-values (Sign n from to hash) out e = absurd (true-not-false e)
+refused-by-values (Reply n) out e = absurd (true-not-false e)
+refused-by-values Close out e = absurd (true-not-false e)
 
--- two runs come to the same
-record Alike (m : ℕ) (state : State) (store : List ℕ) (xs ks : List Step) : Type 0 where
-  run : CodeRun state store xs
-  same-turns : turnsOver m xs ≡ turnsOver m ks
-  same-heard : heardOver m xs ≡ heardOver m ks
-  same-state : endState state xs ≡ endState state ks
-  same-store : endStore store xs ≡ endStore store ks
+-- a call that is not accepted changes nothing
+record NoStep (state : State) (store : List ℕ) (k : Step) : Type 0 where
+  number : ℕ
+  ended : EndedWith (0 ∷ number ∷ []) k
+  unchanged : Unchanged state store k
 
-module _ (m : ℕ) (state : State) (store : List ℕ) (k : Step) (xs ks : List Step) (meets : MeetsCall state store k) where
-  alike-with : Alike (heardAt m k) (stateAfter k) (storeAfter k) xs ks → Alike m state store (k ∷ xs) (k ∷ ks)
-  unfolding turnsOver heardOver endState endStore
-  alike-with a = record { run = (meets, a .run); same-turns = rw (a .same-turns); same-heard = a .same-heard; same-state = a .same-state; same-store = a .same-store }
+no-step : (state : State) (store : List ℕ) (k : Step) → ByCall state store k → isAccepted (outcomeAfter k) ≡ false → NoStep state store k
+no-step state store k m e =
+    let (n, is) = refused-by-values (m .outcome) (k .gave .reply) (ap (λ (vs : List ℕ). isAccepted (outcomeIn vs (k .gave .reply))) (sym (m .ended-is)) ∙ e) in
+    let v = m .ended-is ∙ is in
+    record { number = n; ended = v; unchanged = code-refusal-leaves state store k n m v }
 
-  alike-without : (n : ℕ) → k .done .called .outcome ≡ Refused n → Unchanged state store (k .buffer) (k .done) → Alike m state store xs ks → Alike m state store xs (k ∷ ks)
-  unfolding turnsOver heardOver endState endStore turn so isAccepted outcomeOf
-  alike-without n e u a = record {
-    run = a .run;
-    same-turns = rw e (a .same-turns);
-    same-heard = rw e (a .same-heard);
-    same-state = rw (u .state-stays) (a .same-state);
-    same-store = rw (u .store-stays) (a .same-store);
-  }
+module _ (Met : State → List ℕ → Step → Type 0) (by-call : (state : State) (store : List ℕ) (k : Step) → Met state store k → ByCall state store k) where
+  -- two runs come to the same
+  record Alike (m : ℕ) (state : State) (store : List ℕ) (xs ks : List Step) : Type 0 where
+    run : CodeRun Met state store xs
+    same-turns : turnsOver m xs ≡ turnsOver m ks
+    same-heard : heardOver m xs ≡ heardOver m ks
+    same-state : endState state xs ≡ endState state ks
+    same-store : endStore store xs ≡ endStore store ks
 
-drop-out : (ks : List Step) (m : ℕ) (state : State) (store : List ℕ) → CodeRun state store ks → Alike m state store (acceptedSteps ks) ks
-unfolding acceptedSteps
-drop-out [] m state store run = record { run = tt; same-turns = refl; same-heard = refl; same-state = refl; same-store = refl }
-drop-out (k ∷ ks) m state store run =
-    so-cases (λ xs. Alike m state store xs (k ∷ ks)) (isAccepted (outcomeAfter k))
-    (λ _. alike-with m state store k _ ks (run .0) (drop-out ks (heardAt m k) (stateAfter k) (storeAfter k) (run .1)))
-    (λ no-step.
-    let (n, e) = refused-by-name (k .done .called .outcome) (k .done .reply) no-step in
-    let u = code-refusal-leaves state store (k .payload) (k .reading) (k .answers) (k .signature) (k .buffer) (k .done) n (run .0) (ap outcomeValues e) in
-    alike-without m state store k _ ks (run .0) n e u (drop-out ks m state store (rw (u .state-stays, u .store-stays) at (run .1))))
+  module _ (m : ℕ) (state : State) (store : List ℕ) (k : Step) (xs ks : List Step) where
+    alike-with : Met state store k → Alike (heardAt m k) (k .gave .state) (k .gave .store) xs ks → Alike m state store (k ∷ xs) (k ∷ ks)
+    unfolding turnsOver heardOver endState endStore
+    alike-with meets a = record { run = (meets, a .run); same-turns = rw (a .same-turns); same-heard = a .same-heard; same-state = a .same-state; same-store = a .same-store }
 
-pub code-refused-drop-out : CodeRefusedDropOut
-code-refused-drop-out state store ks run =
-    let a = drop-out ks 0 state store run in
-    record { still-a-run = a .run; landings-stay = a .same-turns; greatest-stays = a .same-heard; state-stays = a .same-state; store-stays = a .same-store }
+    alike-without : NoStep state store k → Alike m state store xs ks → Alike m state store xs (k ∷ ks)
+    unfolding turnsOver heardOver endState endStore turn so isAccepted outcomeFor
+    alike-without u a = record {
+      run = a .run;
+      same-turns = rw (u .ended) (a .same-turns);
+      same-heard = rw (u .ended) (a .same-heard);
+      same-state = rw (u .unchanged .state-stays) (a .same-state);
+      same-store = rw (u .unchanged .store-stays) (a .same-store);
+    }
+
+  drop-out : (ks : List Step) (m : ℕ) (state : State) (store : List ℕ) → CodeRun Met state store ks → Alike m state store (acceptedSteps ks) ks
+  unfolding acceptedSteps
+  drop-out [] m state store run = record { run = tt; same-turns = refl; same-heard = refl; same-state = refl; same-store = refl }
+  drop-out (k ∷ ks) m state store run =
+      so-cases (λ xs. Alike m state store xs (k ∷ ks)) (isAccepted (outcomeAfter k))
+      (λ _. alike-with m state store k _ ks (run .0) (drop-out ks (heardAt m k) (k .gave .state) (k .gave .store) (run .1)))
+      (λ not-accepted.
+      let u = no-step state store k (by-call state store k (run .0)) not-accepted in
+      alike-without m state store k _ ks u (drop-out ks m state store (rw (u .unchanged .state-stays, u .unchanged .store-stays) at (run .1))))
+
+  pub code-refused-drop-out : CodeRefusedDropOut Met
+  code-refused-drop-out state store ks run =
+      let a = drop-out ks 0 state store run in
+      record { still-a-run = a .run; landings-stay = a .same-turns; greatest-stays = a .same-heard; state-stays = a .same-state; store-stays = a .same-store }
 
 -- ## The promises, carried over
 
@@ -170,12 +182,16 @@ never-fall (k ∷ ks) m g run low = (
   never-fall ks (heard m g (asCall k)) (call g (asCall k) .gateway) (run .1) (rw (heard-is k g (run .0) m) at (low .1)),
 )
 
-asked-steps : (P : Call → Question → Type 0) (ks : List Step) (g : Gateway) → RuleRun g ks → EveryQuestion P g (map asCall ks)
-    → EveryStep (λ k. (q : Question) → outcomeAfter k ≡ asks q → P (asCall k) q) ks
-asked-steps P [] g run all = tt
-asked-steps P (k ∷ ks) g run all = (
-  (λ q e. all .0 q (sym (ended-is k (call g (asCall k)) (run .0)) ∙ e)),
-  asked-steps P ks (call g (asCall k) .gateway) (run .1) (all .1),
+gate-7-steps : (ks : List Step) (g : Gateway) → RuleRun g ks → EveryQuestion (λ c q. (q ≡ gate 7) × Begins 23 (c .frame .payload)) g (map asCall ks)
+    → EveryStep (λ k. Asked k → EndedWith (1 ∷ 7 ∷ []) k × Begins 23 (k .payload)) ks
+unfolding code
+gate-7-steps [] g run all = tt
+gate-7-steps (k ∷ ks) g run all = (
+  (λ a.
+      let (q, is) = asked-question k (call g (asCall k)) (run .0) a in
+      let (seven, begins) = all .0 q is in
+      (run .0 .ended ∙ ap (λ (o : calls.Outcome). outcomeValues (code o)) (is ∙ ap asks seven), begins)),
+  gate-7-steps ks (call g (asCall k) .gateway) (run .1) (all .1),
 )
 
 module _ (state : State) (store : List ℕ) (ks : List Step) (is : IsARun state store ks) where
@@ -204,50 +220,50 @@ module _ (state : State) (store : List ℕ) (ks : List Step) (is : IsARun state 
         all-fail = rw (r .turns-are) (only .all-fail);
         only-expiry = rw (r .heard-are, is .end .gateway) (only .only-expiry);
         exactly = rw (r .heard-are, r .accepted-are, ← only .exactly) (is .end);
-        only-gate-7 = asked-steps (λ c q. (q ≡ gate 7) × Begins 23 (c .frame .payload)) ks start (is .calls) (only .only-gate-7);
+        only-gate-7 = gate-7-steps ks start (is .calls) (only .only-gate-7);
       }
 
   while-locked : locked start ≡ true → NoUnlocking (turnsOf ks) → CodeOnlyExpiry state store ks
   while-locked h no-unlocking = only-expiry (locks.while-locked start asCalls h (rw (as-read .turns-are) at no-unlocking))
 
-pub code-demand-3 : CodeDemand3
+pub code-demand-3 : CodeDemand3 ByCall
 code-demand-3 frames oracles state store ks S run keeps =
     let is = code-is-a-run state store ks S run in
     let g = gatewayOf state store in
     as-one-at-a-time state store ks is _ _
     (demands.demand-3 frames oracles g (map asCall ks) (kept-steps (Keeps (λ c. frames (c .request)) (λ c. oracles (c .request))) ks g (is .calls) keeps))
 
-pub code-own-readings : CodeOwnReadings
+pub code-own-readings : CodeOwnReadings ByCall
 code-own-readings state store ks S run low =
     let is = code-is-a-run state store ks S run in
     let g = gatewayOf state store in
     rw (as-read state store ks is .turns-are) (demands.own-readings g (map asCall ks) (never-fall ks 0 g (is .calls) low))
 
-pub code-as-lent : CodeAsLent
+pub code-as-lent : CodeAsLent ByCall
 code-as-lent state store ks S run =
     as-one-at-a-time state store ks (code-is-a-run state store ks S run) ownFrame ownAnswers (demands.as-lent (gatewayOf state store) (map asCall ks))
 
-pub code-while-locked : CodeWhileLocked
+pub code-while-locked : CodeWhileLocked ByCall
 code-while-locked state store ks S run = while-locked state store ks (code-is-a-run state store ks S run)
 
-pub code-between-lock-and-unlock : CodeBetweenLockAndUnlock
-code-between-lock-and-unlock state store [] lock ks passphrase S run begins carries some-byte e no-unlocking =
+pub code-between-lock-and-unlock : CodeBetweenLockAndUnlock ByCall
+code-between-lock-and-unlock state store [] lock ks passphrase S run begins carries some-byte success no-unlocking =
     let g = gatewayOf state store in
     let step = step-ends state store S lock (run .0) in
-    let stored = ap (λ (after : Gateway). after .lock) (lock-holds g (asCall lock) passphrase begins carries (sym (ended-is lock (call g (asCall lock)) step) ∙ e)) in
-    let h : locked (gatewayOf (stateAfter lock) (storeAfter lock)) ≡ true = rw (step .means .gateway, stored) (lt-ltb _ _ some-byte) in
-    code-while-locked (stateAfter lock) (storeAfter lock) ks (step .means .sound) (run .1) h no-unlocking
-code-between-lock-and-unlock state store (k ∷ before) lock ks passphrase S run begins carries some-byte e no-unlocking =
+    let stored = ap (λ (after : Gateway). after .lock) (lock-holds g (asCall lock) passphrase begins carries (replied state store lock S (run .0) _ success)) in
+    let h : locked (gatewayOf (lock .gave .state) (lock .gave .store)) ≡ true = rw (step .means .gateway, stored) (lt-ltb _ _ some-byte) in
+    code-while-locked (lock .gave .state) (lock .gave .store) ks (step .means .sound) (run .1) h no-unlocking
+code-between-lock-and-unlock state store (k ∷ before) lock ks passphrase S run begins carries some-byte success no-unlocking =
     let sound = step-ends state store S k (run .0) .means .sound in
-    code-between-lock-and-unlock (stateAfter k) (storeAfter k) before lock ks passphrase sound (run .1) begins carries some-byte e no-unlocking
+    code-between-lock-and-unlock (k .gave .state) (k .gave .store) before lock ks passphrase sound (run .1) begins carries some-byte success no-unlocking
 
 -- ## Refusals that never occur
 
-refused-steps : (n : ℕ) (ks : List Step) (g : Gateway) → RuleRun g ks → EveryOutcome (λ o. o ≢ refused n) g (map asCall ks) → EveryStep (λ k. endedWith (k .done) ≢ 0 ∷ n ∷ []) ks
-unfolding outcomeOf
+refused-steps : (n : ℕ) (ks : List Step) (g : Gateway) → RuleRun g ks → EveryOutcome (λ o. o ≢ refused n) g (map asCall ks) → EveryStep (λ k. ¬ (EndedWith (0 ∷ n ∷ []) k)) ks
+unfolding outcomeFor so
 refused-steps n [] g run all = tt
 refused-steps n (k ∷ ks) g run all = (
-  (λ v. all .0 (sym (ended-is k (call g (asCall k)) (run .0)) ∙ ap (λ o. outcomeOf o (k .done .reply)) (outcomes-apart (k .done .called .outcome) (Refused n) v))),
+  (λ v. all .0 (sym (ended-is k (call g (asCall k)) (run .0)) ∙ ap (λ (vs : List ℕ). outcomeIn vs (k .gave .reply)) v)),
   refused-steps n ks (call g (asCall k) .gateway) (run .1) (all .1),
 )
 
@@ -276,7 +292,7 @@ unfolding refusal
 never-2 [] g = tt
 never-2 (k ∷ ks) g = ((λ e. not-2 _ _ _ _ (refused-by g (asCall k) 2 e)), never-2 ks (call g (asCall k) .gateway))
 
-pub code-never-refused-3 : CodeNeverRefused3
+pub code-never-refused-3 : CodeNeverRefused3 ByCall
 code-never-refused-3 state store ks S run =
     let is = code-is-a-run state store ks S run in
     let g = gatewayOf state store in
@@ -286,25 +302,36 @@ code-never-refused-3 state store ks S run =
       end-sound = is .end .sound;
     }
 
--- ## All of them
+-- ## All of them, of any kind of call that meets the contract of `call`
 
-pub code-promises : CodePromises
-code-promises = record {
-  no-second-answer = no-second-answer;
-  refusals = code-refusals;
-  refusal-leaves = code-refusal-leaves;
-  question-leaves = code-question-leaves;
-  close-leaves = code-close-leaves;
-  failure-leaves = code-failure-leaves;
-  reply-leaves = code-reply-leaves;
-  reply-bytes = code-reply-bytes;
-  others-stay = code-others-stay;
-  is-a-run = code-is-a-run;
-  demand-3 = code-demand-3;
-  as-lent = code-as-lent;
-  refused-drop-out = code-refused-drop-out;
-  own-readings = code-own-readings;
-  while-locked = code-while-locked;
-  between-lock-and-unlock = code-between-lock-and-unlock;
-  never-refused-3 = code-never-refused-3;
-}
+module _ (Met : State → List ℕ → Step → Type 0) (by-call : (state : State) (store : List ℕ) (k : Step) → Met state store k → ByCall state store k) where
+  as-calls : (ks : List Step) (state : State) (store : List ℕ) → CodeRun Met state store ks → CodeRun ByCall state store ks
+  as-calls [] state store run = tt
+  as-calls (k ∷ ks) state store run = (by-call state store k (run .0), as-calls ks (k .gave .state) (k .gave .store) (run .1))
+
+  pub code-promises : CodePromises Met
+  code-promises = record {
+    no-second-answer = λ state store k other m n. no-second-answer state store k other (by-call _ _ _ m) (by-call _ _ _ n);
+    refusals = λ state store k eight long m. code-refusals state store k eight long (by-call _ _ _ m);
+    refusal-leaves = λ state store k n m. code-refusal-leaves state store k n (by-call _ _ _ m);
+    numbers = λ state store k S m. code-numbers state store k S (by-call _ _ _ m);
+    gate-asks = λ state store k byte needs class S m. code-gate-asks state store k byte needs class S (by-call _ _ _ m);
+    hashes = λ state store k n from to bits S m. code-hashes state store k n from to bits S (by-call _ _ _ m);
+    question-leaves = λ state store k S m. code-question-leaves state store k S (by-call _ _ _ m);
+    close-leaves = λ state store k S m. code-close-leaves state store k S (by-call _ _ _ m);
+    failure-leaves = λ state store k S m. code-failure-leaves state store k S (by-call _ _ _ m);
+    reply-leaves = λ state store k bytes S m. code-reply-leaves state store k bytes S (by-call _ _ _ m);
+    reply-bytes = λ state store k n S m. code-reply-bytes state store k n S (by-call _ _ _ m);
+    others-stay = λ state store k m. code-others-stay state store k (by-call _ _ _ m);
+    is-a-run = λ state store ks S run. code-is-a-run state store ks S (as-calls ks state store run);
+    demand-3 = λ frames oracles state store ks S run. code-demand-3 frames oracles state store ks S (as-calls ks state store run);
+    as-lent = λ state store ks S run. code-as-lent state store ks S (as-calls ks state store run);
+    refused-drop-out = code-refused-drop-out Met by-call;
+    own-readings = λ state store ks S run. code-own-readings state store ks S (as-calls ks state store run);
+    while-locked = λ state store ks S run. code-while-locked state store ks S (as-calls ks state store run);
+    between-lock-and-unlock = λ state store before lock ks passphrase S run. code-between-lock-and-unlock state store before lock ks passphrase S (as-calls (before ++ lock ∷ ks) state store run);
+    never-refused-3 = λ state store ks S run. code-never-refused-3 state store ks S (as-calls ks state store run);
+  }
+
+pub call-promises : CodePromises ByCall
+call-promises = code-promises ByCall (λ state store k m. m)

@@ -1,5 +1,6 @@
 -- What one call gives: outcome, state, and every byte of store and reply buffer.
 use Prim.Native.Nat.{ℕ}
+use mathlib.Core.Path.{_≡_}
 use mathlib.Core.List.{List}
 use lib.ListN.{length}
 use Rattle.rule.specs.declared.Millis.{Millis}
@@ -9,8 +10,8 @@ use Rattle.table.specs.declared.State.{State}
 use Rattle.table.specs.Meaning.{gatewayOf}
 use Rattle.table.specs.Soundness.{soundState}
 use Rattle.requests.specs.declared.Answers.{Answers}
+use Rattle.requests.specs.declared.Outcome.{Outcome}
 use Rattle.requests.specs.declared.Outcome.the-variants.{Refused}
-use Rattle.requests.specs.declared.Called.{Called}
 use Rattle.requests.specs.Outcomes.{lentOf}
 use Rattle.requests.specs.Ends.{Done, laidOut}
 
@@ -23,11 +24,9 @@ module _ (state : State) (store payload : List ℕ) (reading : Millis) (answers 
       (laidOut buffer (served (advance (reading .count) (gatewayOf state store)) (record { payload = payload }) (lentOf answers signature)))
       λ n. record { called = record { outcome = Refused n; state = state }; store = store; reply = buffer }
 
-  abbrev pub calledOf : Called
-  calledOf = callOf .called
-
-  abbrev pub storeOf : List ℕ
-  storeOf = callOf .store
-
-  abbrev pub replyOf : List ℕ
-  replyOf = callOf .reply
+  -- what a call gave is what `callOf` gives: the contract of every form of the call
+  pub record Meets (outcome : Outcome) (after : State) (storeAfter reply : List ℕ) : Type 0 where
+    pub outcome-is : outcome ≡ callOf .called .outcome
+    pub state-is : after ≡ callOf .called .state
+    pub store-is : storeAfter ≡ callOf .store
+    pub reply-is : reply ≡ callOf .reply

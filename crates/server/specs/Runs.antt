@@ -1,58 +1,39 @@
--- Calls of the code that meet the contract of `call`, and runs of them, each on what the one before it returned. What a call leaves, and
--- the promises of order, said of what the code gave.
-use Prim.Native.Nat.{ℕ, max, _≤_, _<_}
+-- What a call gave, in 01's numbers and values, and runs of calls, each on what the one before it gave. What a call leaves, and the promises of
+-- order, said of what was given; `Met` says what kind of call it is: `ByCall`, or in crate gateway `ByExport`.
+use Prim.Native.Nat.{ℕ, max, _≤_, _<_, _%_}
 use mathlib.Core.Path.{_≡_}
 use mathlib.Core.Logic.{_≢_}
 use mathlib.Core.Bool.{Bool, true, false}
 use mathlib.Core.List.{List, [], _∷_, _++_, map}
-use lib.ListN.{length, drop}
+use lib.ListN.{length, getD, take, drop}
+use Rattle.wire.specs.Numbers.{Bytes}
 use Rattle.wire.specs.Steps.{so}
 use Rattle.rule.specs.declared.Millis.{Millis}
 use Rattle.rule.specs.Gateway.{Gateway, advance, locked}
-use Rattle.rule.specs.Rule.{Question, gate, Landing, FAILURE, SUCCESS}
-use Rattle.rule.specs.Calls.{Frame, Call, Outcome, refused, asks, lands, call}
+use Rattle.rule.specs.Rule.{FAILURE}
+use Rattle.rule.specs.Calls as rule
+use Rattle.rule.specs.Calls.{Frame, Call, refused, asks, lands, call}
 use Rattle.rule.specs.Runs.{Turn, turn, endOf, landings, Oracle, oneAtATime, oneAtATimeEnd}
 use Rattle.rule.specs.Order.{EveryTurn, Keeps, asked, settled, ownFrame, ownAnswers, Begins, Carries, NoUnlocking}
+use Rattle.rule.specs.Content.{Row, SignRequest}
 use Rattle.table.specs.declared.State.{State}
 use Rattle.table.specs.Meaning.{gatewayOf}
 use Rattle.table.specs.Soundness.{Sound, Means}
+use Rattle.requests.specs.declared.Said.the-variants.{Missing}
 use Rattle.requests.specs.declared.Signed.the-variants.{Given}
 use Rattle.requests.specs.declared.Answers.{Answers}
-use Rattle.requests.specs.Outcomes.{lentOf, outcomeOf, outcomeValues}
-use Rattle.requests.specs.Ends.{Done, Ends}
-use Rattle.server.specs.Calls.{calledOf, storeOf, replyOf}
+use Rattle.requests.specs.declared.Outcome.{Outcome}
+use Rattle.requests.specs.Outcomes.{lentOf, code, written, outcomeValues, InNumbers, outcomeIn}
+use Rattle.server.specs.Calls.{Meets}
 
 -- ## One call
 
-module _ (state : State) (store payload : List ℕ) (reading : Millis) (answers : Answers) (signature buffer : List ℕ) where
-  -- what a call gave meets the contract of `call`
-  pub record Meets (done : Done) : Type 0 where
-    pub called-is : done .called ≡ calledOf state store payload reading answers signature buffer
-    pub store-is : done .store ≡ storeOf state store payload reading answers signature buffer
-    pub reply-is : done .reply ≡ replyOf state store payload reading answers signature buffer
-
--- 01's number and values of how a call ended
-abbrev pub endedWith : Done → List ℕ
-endedWith done = outcomeValues (done .called .outcome)
-
--- "no second answer satisfies the contract"
-abbrev pub NoSecondAnswer : Type 0
-NoSecondAnswer =
-    (state : State) (store payload : List ℕ) (reading : Millis) (answers : Answers) (signature buffer : List ℕ) (a b : Done)
-    → Meets state store payload reading answers signature buffer a → Meets state store payload reading answers signature buffer b → a ≡ b
-
--- "state, clock and all buffers unchanged"
-pub record Unchanged (state : State) (store buffer : List ℕ) (done : Done) : Type 0 where
-  pub state-stays : done .called .state ≡ state
-  pub store-stays : done .store ≡ store
-  pub buffer-stays : done .reply ≡ buffer
-
-abbrev pub CodeRefusalLeaves : Type 0
-CodeRefusalLeaves =
-    (state : State) (store payload : List ℕ) (reading : Millis) (answers : Answers) (signature buffer : List ℕ) (done : Done) (n : ℕ)
-    → Meets state store payload reading answers signature buffer done → endedWith done ≡ 0 ∷ n ∷ [] → Unchanged state store buffer done
-
--- ## Runs
+-- 01's number and values of its outcome; state, store and reply buffer at exit
+pub record Gave : Type 0 where
+  pub ended : List ℕ
+  pub state : State
+  pub store : List ℕ
+  pub reply : List ℕ
 
 -- a call as it was made, and what it gave
 pub record Step : Type 0 where
@@ -62,35 +43,47 @@ pub record Step : Type 0 where
   pub answers : Answers
   pub signature : List ℕ
   pub buffer : List ℕ  -- the reply buffer at entry
-  pub done : Done
+  pub gave : Gave
 
-abbrev pub stateAfter : Step → State
-stateAfter k = k .done .called .state
+-- it gave what meets the contract of `call`
+pub record ByCall (state : State) (store : List ℕ) (k : Step) : Type 0 where
+  pub outcome : Outcome
+  pub ended-is : k .gave .ended ≡ outcomeValues outcome
+  pub meets : Meets state store (k .payload) (k .reading) (k .answers) (k .signature) (k .buffer) outcome (k .gave .state) (k .gave .store) (k .gave .reply)
 
-abbrev pub storeAfter : Step → List ℕ
-storeAfter k = k .done .store
+-- ## Read off what a call gave
 
-abbrev pub MeetsCall : State → List ℕ → Step → Type 0
-MeetsCall state store k = Meets state store (k .payload) (k .reading) (k .answers) (k .signature) (k .buffer) (k .done)
+abbrev pub EndedWith : List ℕ → Step → Type 0
+EndedWith values k = k .gave .ended ≡ values
 
--- "each call gets the state and store that the call before it returned"
-abbrev pub CodeRun : State → List ℕ → List Step → Type 0
-CodeRun state store [] = Unit {0}
-CodeRun state store (k ∷ ks) = MeetsCall state store k × CodeRun (stateAfter k) (storeAfter k) ks
+-- it asked for the gate (1), the key check, the confirmation or the signature (4)
+pub record Asked (k : Step) : Type 0 where
+  pub from-gate : 1 ≤ getD (k .gave .ended) 0 0
+  pub to-signature : getD (k .gave .ended) 0 0 ≤ 4
 
-unfoldable pub endState : State → List Step → State
-endState state [] = state
-endState state (k ∷ ks) = endState (stateAfter k) ks
+-- it replied these bytes
+pub record Replied (bytes : List ℕ) (k : Step) : Type 0 where
+  pub ended : EndedWith (5 ∷ length bytes ∷ []) k
+  pub front : take (length bytes) (k .gave .reply) ≡ bytes
 
-unfoldable pub endStore : List ℕ → List Step → List ℕ
-endStore store [] = store
-endStore store (k ∷ ks) = endStore (storeAfter k) ks
+-- "FAILURE is 00 00 00 01 05, SUCCESS 00 00 00 01 06."
+abbrev pub failureBytes : List ℕ
+failureBytes = 0 ∷ 0 ∷ 0 ∷ 1 ∷ 5 ∷ []
 
-abbrev pub EveryStep : (Step → Type 0) → List Step → Type 0
-EveryStep P [] = Unit {0}
-EveryStep P (k ∷ ks) = P k × EveryStep P ks
+abbrev pub successBytes : List ℕ
+successBytes = 0 ∷ 0 ∷ 0 ∷ 1 ∷ 6 ∷ []
 
--- ## As a run of the rule
+-- how it ended, in the rule's words
+abbrev pub outcomeAfter : Step → rule.Outcome
+outcomeAfter k = outcomeIn (k .gave .ended) (k .gave .reply)
+
+unfoldable pub isAccepted : rule.Outcome → Bool
+isAccepted (refused n) = false
+isAccepted (asks q) = true
+isAccepted (lands l) = true
+
+abbrev pub Accepted : Step → Type 0
+Accepted k = isAccepted (outcomeAfter k) ≡ true
 
 -- the rule's call; a store beside a sound state has 32,768 bytes
 abbrev pub asCall : Step → Call
@@ -103,32 +96,19 @@ asCall k = record {
   store = 32768;
 }
 
--- each step ends as the rule's call does, from the gateway that the rule's call before it left
-abbrev pub RuleRun : Gateway → List Step → Type 0
-RuleRun g [] = Unit {0}
-RuleRun g (k ∷ ks) =
-    Ends (k .buffer) (k .done .called) (k .done .store) (k .done .reply) (call g (asCall k)) × RuleRun (call g (asCall k) .gateway) ks
+-- ## Read off a run
 
-pub record IsARun (state : State) (store : List ℕ) (ks : List Step) : Type 0 where
-  pub calls : RuleRun (gatewayOf state store) ks
-  pub end : Means (endState state ks) (endStore store ks) (endOf (gatewayOf state store) (map asCall ks))
+unfoldable pub endState : State → List Step → State
+endState state [] = state
+endState state (k ∷ ks) = endState (k .gave .state) ks
 
-abbrev pub CodeIsARun : Type 0
-CodeIsARun = (state : State) (store : List ℕ) (ks : List Step) → Sound state store → CodeRun state store ks → IsARun state store ks
+unfoldable pub endStore : List ℕ → List Step → List ℕ
+endStore store [] = store
+endStore store (k ∷ ks) = endStore (k .gave .store) ks
 
--- ## Read off what the code gave
-
--- how a step ended, in the rule's words
-abbrev pub outcomeAfter : Step → Outcome
-outcomeAfter k = outcomeOf (k .done .called .outcome) (k .done .reply)
-
-unfoldable pub isAccepted : Outcome → Bool
-isAccepted (refused n) = false
-isAccepted (asks q) = true
-isAccepted (lands l) = true
-
-abbrev pub Accepted : Step → Type 0
-Accepted k = isAccepted (outcomeAfter k) ≡ true
+abbrev pub EveryStep : (Step → Type 0) → List Step → Type 0
+EveryStep P [] = Unit {0}
+EveryStep P (k ∷ ks) = P k × EveryStep P ks
 
 -- the greatest reading accepted so far, with this step
 abbrev pub heardAt : ℕ → Step → ℕ
@@ -159,79 +139,68 @@ unfoldable pub acceptedOver : Bool → List Step → Bool
 acceptedOver before [] = before
 acceptedOver before (k ∷ ks) = acceptedOver (so before (isAccepted (outcomeAfter k)) true) ks
 
--- ## What one call does
+-- ## What one call does, said of a step
 
 -- "Call refusals, first that applies"
 pub record RefusalsInOrder (state : State) (store : List ℕ) (k : Step) : Type 0 where
-  pub first : length (k .buffer) < 8265 → endedWith (k .done) ≡ 0 ∷ 1 ∷ []
-  pub second : 8265 ≤ length (k .buffer) → length store ≢ 32768 → endedWith (k .done) ≡ 0 ∷ 2 ∷ []
-  pub third : 8265 ≤ length (k .buffer) → length store ≡ 32768 → (Sound state store → ⊥) → endedWith (k .done) ≡ 0 ∷ 3 ∷ []
-  pub fourth : 8265 ≤ length (k .buffer) → Sound state store → 262144 < length (k .payload) → endedWith (k .done) ≡ 0 ∷ 4 ∷ []
+  pub first : length (k .buffer) < 8265 → EndedWith (0 ∷ 1 ∷ []) k
+  pub second : 8265 ≤ length (k .buffer) → length store ≢ 32768 → EndedWith (0 ∷ 2 ∷ []) k
+  pub third : 8265 ≤ length (k .buffer) → length store ≡ 32768 → (Sound state store → ⊥) → EndedWith (0 ∷ 3 ∷ []) k
+  pub fourth : 8265 ≤ length (k .buffer) → Sound state store → 262144 < length (k .payload) → EndedWith (0 ∷ 4 ∷ []) k
   pub fifth : 8265 ≤ length (k .buffer) → Sound state store → length (k .payload) ≤ 262144
-      → (n : ℕ) → k .answers .signature ≡ Given n → 2048 < length (k .signature) → endedWith (k .done) ≡ 0 ∷ 5 ∷ []
+      → (n : ℕ) → k .answers .signature ≡ Given n → 2048 < length (k .signature) → EndedWith (0 ∷ 5 ∷ []) k
   pub accepted : 8265 ≤ length (k .buffer) → Sound state store → length (k .payload) ≤ 262144
-      → ((n : ℕ) → k .answers .signature ≡ Given n → length (k .signature) ≤ 2048) → (n : ℕ) → endedWith (k .done) ≢ 0 ∷ n ∷ []
+      → ((n : ℕ) → k .answers .signature ≡ Given n → length (k .signature) ≤ 2048) → (n : ℕ) → ¬ (EndedWith (0 ∷ n ∷ []) k)
 
--- on any state and store; the two lengths are the arrays'
-abbrev pub CodeRefusals : Type 0
-CodeRefusals =
-    (state : State) (store : List ℕ) (k : Step) → length (state .entries) ≡ 8 → length (state .lock .bytes) ≡ 1024 → MeetsCall state store k
-    → RefusalsInOrder state store k
+-- "state, clock and all buffers unchanged"
+pub record Unchanged (state : State) (store : List ℕ) (k : Step) : Type 0 where
+  pub state-stays : k .gave .state ≡ state
+  pub store-stays : k .gave .store ≡ store
+  pub buffer-stays : k .gave .reply ≡ k .buffer
+
+-- "Flag 2 set: SHA-256; else flag 4: SHA-512; else none."
+pub record BitsTable (flags bits : ℕ) : Type 0 where
+  pub flag-2 : 2 ≤ flags % 4 → bits ≡ 256
+  pub flag-4 : flags % 4 < 2 → 4 ≤ flags % 8 → bits ≡ 512
+  pub neither : flags % 4 < 2 → flags % 8 < 4 → bits ≡ 0
 
 -- state and store mean the gateway as it was, its clock raised and its due entries gone, and are sound
 abbrev pub OnlyClock : State → List ℕ → Step → Type 0
-OnlyClock state store k = Means (stateAfter k) (storeAfter k) (advance (k .reading .count) (gatewayOf state store))
+OnlyClock state store k = Means (k .gave .state) (k .gave .store) (advance (k .reading .count) (gatewayOf state store))
 
 -- and no byte of the reply buffer changed
 pub record Quiet (state : State) (store : List ℕ) (k : Step) : Type 0 where
   pub only-clock : OnlyClock state store k
-  pub buffer-stays : k .done .reply ≡ k .buffer
+  pub buffer-stays : k .gave .reply ≡ k .buffer
 
--- "Questions and closing alter nothing but clock and expiry"
-abbrev pub CodeQuestionLeaves : Type 0
-CodeQuestionLeaves =
-    (state : State) (store : List ℕ) (k : Step) (q : Question) → Sound state store → MeetsCall state store k → outcomeAfter k ≡ asks q → Quiet state store k
-
-abbrev pub CodeCloseLeaves : Type 0
-CodeCloseLeaves =
-    (state : State) (store : List ℕ) (k : Step) → Sound state store → MeetsCall state store k → endedWith (k .done) ≡ 6 ∷ []
-    → Quiet state store k
-
--- ".. nor does FAILURE": five bytes, and the reply buffer's others stay
+-- five bytes, and the reply buffer's others stay
 pub record Failed (state : State) (store : List ℕ) (k : Step) : Type 0 where
   pub only-clock : OnlyClock state store k
-  pub ended : endedWith (k .done) ≡ 5 ∷ 5 ∷ []
-  pub buffer : k .done .reply ≡ 0 ∷ 0 ∷ 0 ∷ 1 ∷ 5 ∷ drop 5 (k .buffer)
-
-abbrev pub CodeFailureLeaves : Type 0
-CodeFailureLeaves =
-    (state : State) (store : List ℕ) (k : Step) → Sound state store → MeetsCall state store k → outcomeAfter k ≡ lands FAILURE → Failed state store k
-
--- nor does any reply but SUCCESS
-abbrev pub CodeReplyLeaves : Type 0
-CodeReplyLeaves =
-    (state : State) (store : List ℕ) (k : Step) (l : Landing) → Sound state store → MeetsCall state store k → outcomeAfter k ≡ lands l → l ≢ SUCCESS
-    → OnlyClock state store k
+  pub buffer : k .gave .reply ≡ failureBytes ++ drop 5 (k .buffer)
 
 -- "A reply fills the first bytes of the reply buffer; all its other bytes .. stay."
 pub record Fills (n : ℕ) (k : Step) : Type 0 where
   pub fits : n ≤ 8265
   pub room : 8265 ≤ length (k .buffer)
-  pub length-stays : length (k .done .reply) ≡ length (k .buffer)
-  pub others-stay : drop n (k .done .reply) ≡ drop n (k .buffer)
+  pub length-stays : length (k .gave .reply) ≡ length (k .buffer)
+  pub others-stay : drop n (k .gave .reply) ≡ drop n (k .buffer)
 
-abbrev pub CodeReplyBytes : Type 0
-CodeReplyBytes =
-    (state : State) (store : List ℕ) (k : Step) (n : ℕ) → Sound state store → MeetsCall state store k → endedWith (k .done) ≡ 5 ∷ n ∷ []
-    → Fills n k
+-- it ended as the rule's call does
+pub record EndsAs (k : Step) (result : rule.Result) : Type 0 where
+  pub ended : EndedWith (outcomeValues (code (result .outcome))) k
+  pub means : Means (k .gave .state) (k .gave .store) (result .gateway)
+  pub bytes : k .gave .reply ≡ written (result .outcome) (k .buffer)
 
--- ".. and in other outcomes all its bytes, stay": on any state and store
-abbrev pub CodeOthersStay : Type 0
-CodeOthersStay =
-    (state : State) (store : List ℕ) (k : Step) → MeetsCall state store k → ((n : ℕ) → endedWith (k .done) ≢ 5 ∷ n ∷ [])
-    → k .done .reply ≡ k .buffer
+-- ## What a run does, said of its steps
 
--- ## Demand 3
+-- each step ends as the rule's call does, from the gateway that the rule's call before it left
+abbrev pub RuleRun : Gateway → List Step → Type 0
+RuleRun g [] = Unit {0}
+RuleRun g (k ∷ ks) = EndsAs k (call g (asCall k)) × RuleRun (call g (asCall k) .gateway) ks
+
+pub record IsARun (state : State) (store : List ℕ) (ks : List Step) : Type 0 where
+  pub calls : RuleRun (gatewayOf state store) ks
+  pub end : Means (endState state ks) (endStore store ks) (endOf (gatewayOf state store) (map asCall ks))
 
 module _ (frameOf : Call → Frame) (oracleOf : Call → Oracle) (state : State) (store : List ℕ) (ks : List Step) where
   abbrev pub aloneEnd : Gateway
@@ -245,94 +214,172 @@ module _ (frameOf : Call → Frame) (oracleOf : Call → Oracle) (state : State)
     pub end-states : advance (greatestOf ks) (gatewayOf (endState state ks) (endStore store ks)) ≡ advance (greatestOf ks) aloneEnd
     pub exactly : Means (endState state ks) (endStore store ks) (settled (askedOver false ks) (greatestOf ks) aloneEnd)
 
--- "each request keeps its frame, and a question asked twice within it gets one answer"
-abbrev pub CodeDemand3 : Type 0
-CodeDemand3 =
-    (frames : ℕ → Frame) (oracles : ℕ → Oracle) (state : State) (store : List ℕ) (ks : List Step) → Sound state store → CodeRun state store ks
-    → EveryStep (λ k. Accepted k → Keeps (λ c. frames (c .request)) (λ c. oracles (c .request)) (asCall k)) ks
-    → CodeAsOneAtATime (λ c. frames (c .request)) (λ c. oracles (c .request)) state store ks
-
--- "the one-at-a-time run gets the answers lent at the landing": of any run
-abbrev pub CodeAsLent : Type 0
-CodeAsLent =
-    (state : State) (store : List ℕ) (ks : List Step) → Sound state store → CodeRun state store ks
-    → CodeAsOneAtATime ownFrame ownAnswers state store ks
-
 -- the run without its refused steps
 unfoldable pub acceptedSteps : List Step → List Step
 acceptedSteps [] = []
 acceptedSteps (k ∷ ks) = so (acceptedSteps ks) (isAccepted (outcomeAfter k)) (k ∷ acceptedSteps ks)
-
-pub record CodeDropsOut (state : State) (store : List ℕ) (ks : List Step) : Type 0 where
-  pub still-a-run : CodeRun state store (acceptedSteps ks)
-  pub landings-stay : turnsOf (acceptedSteps ks) ≡ turnsOf ks
-  pub greatest-stays : greatestOf (acceptedSteps ks) ≡ greatestOf ks
-  pub state-stays : endState state (acceptedSteps ks) ≡ endState state ks
-  pub store-stays : endStore store (acceptedSteps ks) ≡ endStore store ks
-
--- "refused calls drop out"
-abbrev pub CodeRefusedDropOut : Type 0
-CodeRefusedDropOut = (state : State) (store : List ℕ) (ks : List Step) → CodeRun state store ks → CodeDropsOut state store ks
 
 -- where readings never fall, each landing is at its own step's reading
 abbrev pub NeverFallOver : ℕ → List Step → Type 0
 NeverFallOver greatest [] = Unit {0}
 NeverFallOver greatest (k ∷ ks) = (Accepted k → greatest ≤ k .reading .count) × NeverFallOver (heardAt greatest k) ks
 
-abbrev pub CodeOwnReadings : Type 0
-CodeOwnReadings =
-    (state : State) (store : List ℕ) (ks : List Step) → Sound state store → CodeRun state store ks → NeverFallOver 0 ks
-    → EveryTurn (λ t. t .reading ≡ t .by .reading) (turnsOf ks)
-
--- ## Between a non-empty lock's success and the next unlock's success
-
--- every landing is FAILURE; no key arrives, keys leave only by expiry, nothing else changes; nothing is asked but the gate for an unlock
+-- between a lock and an unlock every landing is FAILURE; no key arrives, keys leave only by expiry, nothing else changes; nothing is asked but the
+-- gate for an unlock
 pub record CodeOnlyExpiry (state : State) (store : List ℕ) (ks : List Step) : Type 0 where
   pub all-fail : EveryTurn (λ t. t .landing ≡ FAILURE) (turnsOf ks)
   pub only-expiry : advance (greatestOf ks) (gatewayOf (endState state ks) (endStore store ks)) ≡ advance (greatestOf ks) (gatewayOf state store)
   pub exactly : Means (endState state ks) (endStore store ks) (settled (acceptedOver false ks) (greatestOf ks) (gatewayOf state store))
-  pub only-gate-7 : EveryStep (λ k. (q : Question) → outcomeAfter k ≡ asks q → (q ≡ gate 7) × Begins 23 (k .payload)) ks
+  pub only-gate-7 : EveryStep (λ k. Asked k → EndedWith (1 ∷ 7 ∷ []) k × Begins 23 (k .payload)) ks
 
-abbrev pub CodeWhileLocked : Type 0
-CodeWhileLocked =
-    (state : State) (store : List ℕ) (ks : List Step) → Sound state store → CodeRun state store ks → locked (gatewayOf state store) ≡ true
-    → NoUnlocking (turnsOf ks) → CodeOnlyExpiry state store ks
-
--- at any place of a run: `before`, then the lock, then steps without an unlock's success
-abbrev pub CodeBetweenLockAndUnlock : Type 0
-CodeBetweenLockAndUnlock =
-    (state : State) (store : List ℕ) (before : List Step) (lock : Step) (ks : List Step) (passphrase : List ℕ) → Sound state store
-    → CodeRun state store (before ++ lock ∷ ks) → Begins 22 (lock .payload) → Carries passphrase (lock .payload) → 0 < length passphrase
-    → outcomeAfter lock ≡ lands SUCCESS → NoUnlocking (turnsOf ks) → CodeOnlyExpiry (stateAfter lock) (storeAfter lock) ks
-
--- ## Refusals that never occur
-
--- from a sound state on, neither for the state nor for the store
+-- from a sound state on, it is refused neither for the state nor for the store
 pub record NeverUnsound (state : State) (store : List ℕ) (ks : List Step) : Type 0 where
-  pub never-3 : EveryStep (λ k. endedWith (k .done) ≢ 0 ∷ 3 ∷ []) ks
-  pub never-2 : EveryStep (λ k. endedWith (k .done) ≢ 0 ∷ 2 ∷ []) ks
+  pub never-3 : EveryStep (λ k. ¬ (EndedWith (0 ∷ 3 ∷ []) k)) ks
+  pub never-2 : EveryStep (λ k. ¬ (EndedWith (0 ∷ 2 ∷ []) k)) ks
   pub end-sound : Sound (endState state ks) (endStore store ks)
 
-abbrev pub CodeNeverRefused3 : Type 0
-CodeNeverRefused3 = (state : State) (store : List ℕ) (ks : List Step) → Sound state store → CodeRun state store ks → NeverUnsound state store ks
+-- ## The promises
 
--- ## All of them
+-- the same call, giving this
+abbrev pub giving : Step → Gave → Step
+giving k gave = record { request = k .request; payload = k .payload; reading = k .reading; answers = k .answers; signature = k .signature; buffer = k .buffer; gave = gave }
 
-pub record CodePromises : Type 0 where
-  pub no-second-answer : NoSecondAnswer
-  pub refusals : CodeRefusals
-  pub refusal-leaves : CodeRefusalLeaves
-  pub question-leaves : CodeQuestionLeaves
-  pub close-leaves : CodeCloseLeaves
-  pub failure-leaves : CodeFailureLeaves
-  pub reply-leaves : CodeReplyLeaves
-  pub reply-bytes : CodeReplyBytes
-  pub others-stay : CodeOthersStay
-  pub is-a-run : CodeIsARun
-  pub demand-3 : CodeDemand3
-  pub as-lent : CodeAsLent
-  pub refused-drop-out : CodeRefusedDropOut
-  pub own-readings : CodeOwnReadings
-  pub while-locked : CodeWhileLocked
-  pub between-lock-and-unlock : CodeBetweenLockAndUnlock
-  pub never-refused-3 : CodeNeverRefused3
+module _ (Met : State → List ℕ → Step → Type 0) where
+  -- "each call gets the state and store that the call before it returned"
+  abbrev pub CodeRun : State → List ℕ → List Step → Type 0
+  CodeRun state store [] = Unit {0}
+  CodeRun state store (k ∷ ks) = Met state store k × CodeRun (k .gave .state) (k .gave .store) ks
+
+  -- ### One call
+
+  -- "no second answer satisfies the contract"
+  abbrev pub NoSecondAnswer : Type 0
+  NoSecondAnswer = (state : State) (store : List ℕ) (k : Step) (other : Gave) → Met state store k → Met state store (giving k other) → k .gave ≡ other
+
+  -- on any state and store; the two lengths are the arrays'
+  abbrev pub CodeRefusals : Type 0
+  CodeRefusals =
+      (state : State) (store : List ℕ) (k : Step) → length (state .entries) ≡ 8 → length (state .lock .bytes) ≡ 1024 → Met state store k
+      → RefusalsInOrder state store k
+
+  abbrev pub CodeRefusalLeaves : Type 0
+  CodeRefusalLeaves = (state : State) (store : List ℕ) (k : Step) (n : ℕ) → Met state store k → EndedWith (0 ∷ n ∷ []) k → Unchanged state store k
+
+  -- what is told outside of the rule's outcome
+  abbrev pub CodeNumbers : Type 0
+  CodeNumbers =
+      (state : State) (store : List ℕ) (k : Step) → Sound state store → Met state store k
+      → InNumbers (call (gatewayOf state store) (asCall k) .outcome) (k .gave .ended)
+
+  -- the gate is asked for the class of the request
+  abbrev pub CodeGateAsks : Type 0
+  CodeGateAsks =
+      (state : State) (store : List ℕ) (k : Step) (byte : ℕ) (needs : Bool) (class : ℕ) → Sound state store → Met state store k → Accepted k
+      → Row byte needs class → Begins byte (k .payload) → locked (gatewayOf state store) ≡ needs → k .answers .gate ≡ Missing
+      → EndedWith (1 ∷ class ∷ []) k
+
+  -- the signer is asked for the hash that the flags of the request choose
+  abbrev pub CodeHashes : Type 0
+  CodeHashes =
+      (state : State) (store : List ℕ) (k : Step) (n from to bits : ℕ) → Sound state store → Met state store k → Bytes (k .payload)
+      → EndedWith (4 ∷ n ∷ from ∷ to ∷ bits ∷ []) k
+      → (blob bytes : List ℕ) × (flags : ℕ) × SignRequest (k .payload) blob bytes flags × BitsTable flags bits
+
+  -- "Questions and closing alter nothing but clock and expiry"
+  abbrev pub CodeQuestionLeaves : Type 0
+  CodeQuestionLeaves = (state : State) (store : List ℕ) (k : Step) → Sound state store → Met state store k → Asked k → Quiet state store k
+
+  abbrev pub CodeCloseLeaves : Type 0
+  CodeCloseLeaves = (state : State) (store : List ℕ) (k : Step) → Sound state store → Met state store k → EndedWith (6 ∷ []) k → Quiet state store k
+
+  -- ".. nor does FAILURE"
+  abbrev pub CodeFailureLeaves : Type 0
+  CodeFailureLeaves =
+      (state : State) (store : List ℕ) (k : Step) → Sound state store → Met state store k → Replied failureBytes k → Failed state store k
+
+  -- nor does any reply but SUCCESS
+  abbrev pub CodeReplyLeaves : Type 0
+  CodeReplyLeaves =
+      (state : State) (store : List ℕ) (k : Step) (bytes : List ℕ) → Sound state store → Met state store k → Replied bytes k → bytes ≢ successBytes
+      → OnlyClock state store k
+
+  abbrev pub CodeReplyBytes : Type 0
+  CodeReplyBytes = (state : State) (store : List ℕ) (k : Step) (n : ℕ) → Sound state store → Met state store k → EndedWith (5 ∷ n ∷ []) k → Fills n k
+
+  -- ".. and in other outcomes all its bytes, stay": on any state and store
+  abbrev pub CodeOthersStay : Type 0
+  CodeOthersStay =
+      (state : State) (store : List ℕ) (k : Step) → Met state store k → ((n : ℕ) → ¬ (EndedWith (5 ∷ n ∷ []) k)) → k .gave .reply ≡ k .buffer
+
+  -- ### Runs
+
+  abbrev pub CodeIsARun : Type 0
+  CodeIsARun = (state : State) (store : List ℕ) (ks : List Step) → Sound state store → CodeRun state store ks → IsARun state store ks
+
+  -- demand 3: "each request keeps its frame, and a question asked twice within it gets one answer"
+  abbrev pub CodeDemand3 : Type 0
+  CodeDemand3 =
+      (frames : ℕ → Frame) (oracles : ℕ → Oracle) (state : State) (store : List ℕ) (ks : List Step) → Sound state store → CodeRun state store ks
+      → EveryStep (λ k. Accepted k → Keeps (λ c. frames (c .request)) (λ c. oracles (c .request)) (asCall k)) ks
+      → CodeAsOneAtATime (λ c. frames (c .request)) (λ c. oracles (c .request)) state store ks
+
+  -- "the one-at-a-time run gets the answers lent at the landing": of any run
+  abbrev pub CodeAsLent : Type 0
+  CodeAsLent =
+      (state : State) (store : List ℕ) (ks : List Step) → Sound state store → CodeRun state store ks
+      → CodeAsOneAtATime ownFrame ownAnswers state store ks
+
+  pub record CodeDropsOut (state : State) (store : List ℕ) (ks : List Step) : Type 0 where
+    pub still-a-run : CodeRun state store (acceptedSteps ks)
+    pub landings-stay : turnsOf (acceptedSteps ks) ≡ turnsOf ks
+    pub greatest-stays : greatestOf (acceptedSteps ks) ≡ greatestOf ks
+    pub state-stays : endState state (acceptedSteps ks) ≡ endState state ks
+    pub store-stays : endStore store (acceptedSteps ks) ≡ endStore store ks
+
+  -- "refused calls drop out"
+  abbrev pub CodeRefusedDropOut : Type 0
+  CodeRefusedDropOut = (state : State) (store : List ℕ) (ks : List Step) → CodeRun state store ks → CodeDropsOut state store ks
+
+  abbrev pub CodeOwnReadings : Type 0
+  CodeOwnReadings =
+      (state : State) (store : List ℕ) (ks : List Step) → Sound state store → CodeRun state store ks → NeverFallOver 0 ks
+      → EveryTurn (λ t. t .reading ≡ t .by .reading) (turnsOf ks)
+
+  abbrev pub CodeWhileLocked : Type 0
+  CodeWhileLocked =
+      (state : State) (store : List ℕ) (ks : List Step) → Sound state store → CodeRun state store ks → locked (gatewayOf state store) ≡ true
+      → NoUnlocking (turnsOf ks) → CodeOnlyExpiry state store ks
+
+  -- at any place of a run: `before`, then a non-empty lock's success, then steps without an unlock's success
+  abbrev pub CodeBetweenLockAndUnlock : Type 0
+  CodeBetweenLockAndUnlock =
+      (state : State) (store : List ℕ) (before : List Step) (lock : Step) (ks : List Step) (passphrase : List ℕ) → Sound state store
+      → CodeRun state store (before ++ lock ∷ ks) → Begins 22 (lock .payload) → Carries passphrase (lock .payload) → 0 < length passphrase
+      → Replied successBytes lock → NoUnlocking (turnsOf ks) → CodeOnlyExpiry (lock .gave .state) (lock .gave .store) ks
+
+  abbrev pub CodeNeverRefused3 : Type 0
+  CodeNeverRefused3 = (state : State) (store : List ℕ) (ks : List Step) → Sound state store → CodeRun state store ks → NeverUnsound state store ks
+
+  -- ### All of them
+
+  pub record CodePromises : Type 0 where
+    pub no-second-answer : NoSecondAnswer
+    pub refusals : CodeRefusals
+    pub refusal-leaves : CodeRefusalLeaves
+    pub numbers : CodeNumbers
+    pub gate-asks : CodeGateAsks
+    pub hashes : CodeHashes
+    pub question-leaves : CodeQuestionLeaves
+    pub close-leaves : CodeCloseLeaves
+    pub failure-leaves : CodeFailureLeaves
+    pub reply-leaves : CodeReplyLeaves
+    pub reply-bytes : CodeReplyBytes
+    pub others-stay : CodeOthersStay
+    pub is-a-run : CodeIsARun
+    pub demand-3 : CodeDemand3
+    pub as-lent : CodeAsLent
+    pub refused-drop-out : CodeRefusedDropOut
+    pub own-readings : CodeOwnReadings
+    pub while-locked : CodeWhileLocked
+    pub between-lock-and-unlock : CodeBetweenLockAndUnlock
+    pub never-refused-3 : CodeNeverRefused3

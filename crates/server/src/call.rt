@@ -27,7 +27,7 @@ ghost use Rattle.table.specs.Meaning.{gatewayOf};
 ghost use Rattle.table.specs.Soundness.{Sound};
 ghost use Rattle.requests.specs.Outcomes.{signatureOf, lentOf};
 ghost use Rattle.requests.specs.Ends.{Ends};
-ghost use Rattle.server.specs.Calls.{calledOf, storeOf, replyOf};
+ghost use Rattle.server.specs.Calls.{Meets};
 ghost use Rattle.server.specs.Rows.{gatedRow, rowOf};
 
 // What a request comes to by its first byte, the lock and the gate's answer.
@@ -140,7 +140,7 @@ fn call_sound(
     reply: &mut [u8],
 ) -> Called
     requires { ⌜ Sound state (now store) ⌝ }
-    ensures { λ r. ⌜ (r ≡ calledOf state (now (store .entry)) (now (payload .entry)) reading answers (now (signature .entry)) (now (reply .entry))) × (now (store .exit) ≡ storeOf state (now (store .entry)) (now (payload .entry)) reading answers (now (signature .entry)) (now (reply .entry))) × (now (reply .exit) ≡ replyOf state (now (store .entry)) (now (payload .entry)) reading answers (now (signature .entry)) (now (reply .entry))) ⌝ }
+    ensures { λ r. ⌜ Meets state (now (store .entry)) (now (payload .entry)) reading answers (now (signature .entry)) (now (reply .entry)) (r .outcome) (r .state) (now (store .exit)) (now (reply .exit)) ⌝ }
 {
     if reply.len() < 8265 {
         return refused(1, state);
@@ -166,7 +166,7 @@ pub fn call(
     signature: &[u8],
     reply: &mut [u8],
 ) -> Called
-    ensures { λ r. ⌜ (r ≡ calledOf state (now (store .entry)) (now (payload .entry)) reading answers (now (signature .entry)) (now (reply .entry))) × (now (store .exit) ≡ storeOf state (now (store .entry)) (now (payload .entry)) reading answers (now (signature .entry)) (now (reply .entry))) × (now (reply .exit) ≡ replyOf state (now (store .entry)) (now (payload .entry)) reading answers (now (signature .entry)) (now (reply .entry))) ⌝ }
+    ensures { λ r. ⌜ Meets state (now (store .entry)) (now (payload .entry)) reading answers (now (signature .entry)) (now (reply .entry)) (r .outcome) (r .state) (now (store .exit)) (now (reply .exit)) ⌝ }
 {
     if reply.len() < 8265 {
         return refused(1, state);

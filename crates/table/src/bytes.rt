@@ -18,7 +18,7 @@ pub fn wipe(p: &mut [u8])
 }
 
 // The bytes of `src` go into a part of the same length; whoever cuts the part cuts it so.
-pub fn copy_in(p: &mut [u8], src: &[u8])
+pub(crate) fn copy_in(p: &mut [u8], src: &[u8])
     requires { ⌜ length (now p) ≡ length (now src) ⌝ }
     ensures { λ r. ⌜ now (p .exit) ≡ now (src .entry) ⌝ }
 {
@@ -30,7 +30,7 @@ pub fn copy_in(p: &mut [u8], src: &[u8])
 }
 
 // The bytes of `src`, and zeros behind them; whoever cuts the part cuts it long enough.
-pub fn pad(p: &mut [u8], src: &[u8])
+pub(crate) fn pad(p: &mut [u8], src: &[u8])
     requires { ⌜ length (now src) ≤ length (now p) ⌝ }
     ensures { λ r. ⌜ now (p .exit) ≡ padded (length (now (p .entry))) (now (src .entry)) ⌝ }
 {
@@ -117,7 +117,7 @@ fn front_length(n: usize) -> usize
 }
 
 // Stops behind the fronts where they differ, and goes over all that is left where not.
-pub fn is_equal(a: &[u8], b: &[u8]) -> bool
+pub(crate) fn is_equal(a: &[u8], b: &[u8]) -> bool
     ensures { λ r. ⌜ r ≡ same (now (a .entry)) (now (b .entry)) ⌝ }
 {
     let n = a.len();

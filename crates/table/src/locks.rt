@@ -19,7 +19,7 @@ fn zeros() -> [u8; 1024]
 }
 
 // The record of a passphrase: its bytes, and zeros behind them. Who locks has tested the length.
-pub fn locked_by(p: &[u8]) -> LockRecord
+pub(crate) fn locked_by(p: &[u8]) -> LockRecord
     requires { ⌜ length (now p) ≤ 1024 ⌝ }
     ensures { λ r. ⌜ r ≡ lockOf (now (p .entry)) ⌝ }
 {

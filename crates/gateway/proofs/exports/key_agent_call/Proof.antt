@@ -38,7 +38,7 @@ use denote.Triple.Table.{entered, cited}
 use denote.Triple.Walked.{says, Stays, gave-ref, gave-slice, stay-dropped, walkOf, AllGo, goes-gave-ref, goes-gave-slice, goes-dropped, Walks, ends-at, walked, walk-meets}
 use denote.Exit.{yes}
 use denote.Signature.{plain, shrSliceOf}
-use Rattle.server.specs.Calls.{calledOf, storeOf, replyOf}
+use Rattle.server.specs.Calls.{Meets as CallMeets}
 use Rattle.gateway.specs.Flat.{answersOf, flatOf}
 use Rattle.table.specs.declared.State.{State}
 use Rattle.requests.specs.declared.Outcome.{Outcome}
@@ -147,7 +147,7 @@ module _ {M : Type 1} (𝓤 : URA M) (H : Heap 𝓤) (A : Atoms 𝓤) (W : Given
 
   -- what `serve` ensures when it is lent x
   abbrev Promised : Answers → Outcome → State → List ℕ → List ℕ → Type 0
-  Promised x oc z z-store z-reply = (oc ≡ calledOf h (store .now) (payload .now) reading x (signature .now) (reply .now) .outcome) × (z ≡ calledOf h (store .now) (payload .now) reading x (signature .now) (reply .now) .state) × (z-store ≡ storeOf h (store .now) (payload .now) reading x (signature .now) (reply .now)) × (z-reply ≡ replyOf h (store .now) (payload .now) reading x (signature .now) (reply .now))
+  Promised x oc z z-store z-reply = CallMeets h (store .now) (payload .now) reading x (signature .now) (reply .now) oc z z-store z-reply
 
   -- what the callees' triples bind outside
   abbrev to-answers-of : Answering 𝓤 H A at-mem run .Ghost
@@ -179,7 +179,7 @@ module _ {M : Type 1} (𝓤 : URA M) (H : Heap 𝓤) (A : Atoms 𝓤) (W : Given
   exits fo oc z z-store z-reply f e l-store l-reply is =
       qed W ((‵ (flft κ q) ⊛ ‵ (flft κ1 q1) ⊛ ‵ (flft κ2 q2) ⊛ ‵ (flft κ3 q3) ⊛ ‵ (flft κ4 q4) ⊛ ‵ ftrue) ∷ ‵ (finally u8 (reply .name) z-reply) ∷ ‵ (finally u8 (store .name) z-store) ∷ ‵ (fres γ (R .coded .code z)) ∷ []) ∵
       suffices ! _ (ends-at 𝓤 H A call′.ended stayed (call′.clauses 𝓤 H A at-mem run) W (((κ, (κ1, (κ2, (κ3, (κ4, tt))))), (q, (q1, (q2, (q3, (q4, tt))))), tt, a, vals v-answers), tt) (flat-val fo) fo (z, (z-store, (tt, (tt, (tt, (tt, (z-reply, tt))))))) (tt, (l-store, (tt, (tt, (tt, (tt, (l-reply, tt)))))))) $
-      says ! (f ∙ ap flatOf (e .0), e .1, e .2, e .3) $ frame ! $
+      says ! (record { outcome-is = f ∙ ap flatOf (e .outcome-is); state-is = e .state-is; store-is = e .store-is; reply-is = e .reply-is }) $ frame ! $
       -- [the last values]
       nothing ! $ move ! (1 ∷ 0 ∷ []) $ fjoin ! $ nothing ! $ fjoin ! $ nothing ! $ fjoin ! $ nothing ! $ fjoin ! $ nothing ! $ fjoin ! $ move ! (1 ∷ 0 ∷ []) $ fjoin ! $ move ! (1 ∷ 0 ∷ []) $ fjoin ! $ frame ! $
       owned ! FlatOutcome′.the-row (Is FlatOutcome′.the-row) (LL.makes FlatOutcome′.the-type FlatOutcome″.the-plain 𝓤 H A) fo _ is $ done !

@@ -41,7 +41,7 @@ use denote.Triple.Table.{entered, cited}
 use denote.Triple.Walked.{says, Stays, stay-ref, gave-slice, stay-dropped, walkOf, AllGo, goes-ref, goes-gave-slice, goes-dropped, Walks, ends-at, walked, walk-meets}
 use denote.Exit.{yes}
 use denote.Signature.{plain, shrSliceOf}
-use Rattle.server.specs.Calls.{calledOf, storeOf, replyOf}
+use Rattle.server.specs.Calls.{Meets as CallMeets}
 use Rattle.table.specs.declared.State.{State}
 use Rattle.requests.specs.declared.Outcome.{Outcome}
 use Rattle.requests.specs.declared.Called.{Called}
@@ -116,7 +116,7 @@ module _ {M : Type 1} (𝓤 : URA M) (H : Heap 𝓤) (A : Atoms 𝓤) (W : Given
 
   -- what the callee ensures of its result and of the last values
   abbrev Promised : Called → List ℕ → List ℕ → Type 0
-  Promised r z-store z-reply = (r ≡ calledOf h (store .now) (payload .now) reading answers (signature .now) (reply .now)) × (z-store ≡ storeOf h (store .now) (payload .now) reading answers (signature .now) (reply .now)) × (z-reply ≡ replyOf h (store .now) (payload .now) reading answers (signature .now) (reply .now))
+  Promised r z-store z-reply = CallMeets h (store .now) (payload .now) reading answers (signature .now) (reply .now) (r .outcome) (r .state) z-store z-reply
 
   -- what the callee's triple binds outside: the slices' own lifetimes, shares and values
   abbrev to-callee : Callee 𝓤 H A at-mem run .Ghost
@@ -130,7 +130,7 @@ module _ {M : Type 1} (𝓤 : URA M) (H : Heap 𝓤) (A : Atoms 𝓤) (W : Given
   exits r z-store z-reply e l-store l-reply is =
       qed W (‵ (flft κ q) ∷ (‵ (flft κ1 q1) ⊛ ‵ (flft κ2 q2) ⊛ ‵ (flft κ3 q3) ⊛ ‵ (flft κ4 q4) ⊛ ‵ ftrue) ∷ ‵ (fobs γ (R .coded .code (r .state))) ∷ ‵ (fbor κ (Body (mem R) b o γ)) ∷ ‵ (finally u8 (reply .name) z-reply) ∷ ‵ (finally u8 (store .name) z-store) ∷ []) ∵
       suffices ! _ (ends-at 𝓤 H A serve′.ended stayed (serve′.clauses 𝓤 H A at-mem run) W (((κ, (κ1, (κ2, (κ3, (κ4, tt))))), (q, (q1, (q2, (q3, (q4, tt))))), tt, a, vals), tt) (outcome-val (r .outcome)) (r .outcome) (r .state, (z-store, (tt, (tt, (tt, (tt, (z-reply, tt))))))) (tt, (l-store, (tt, (tt, (tt, (tt, (l-reply, tt)))))))) $
-      says ! (λ i. e .0 i .outcome, λ i. e .0 i .state, e .1, e .2) $ join ! $ frame ! $
+      says ! e $ join ! $ frame ! $
       -- [obs; the borrow; the last values]
       nothing ! $ move ! (3 ∷ 0 ∷ []) $ fjoin ! $ nothing ! $ fjoin ! $ nothing ! $ fjoin ! $ nothing ! $ fjoin ! $ nothing ! $ fjoin ! $ move ! (3 ∷ 0 ∷ []) $ fjoin ! $ move ! (1 ∷ 2 ∷ []) $ feqI ! (List Val) (vptr b o ∷ []) (vptr b o ∷ []) refl $ fjoin3 ! $ fjoin ! $ frame ! $
       owned ! Outcome′.the-row (Is Outcome′.the-row) (EL.makes Outcome′.the-type Outcome″.the-plain 𝓤 H A) (r .outcome) _ is $ done !
