@@ -1,25 +1,37 @@
 -- What the table promises, as statements; the proofs are in proofs/.
 use Prim.Native.Nat.{ℕ, _≤_, _<_}
 use mathlib.Core.Path.{_≡_}
-use mathlib.Core.Bool.{true}
+use mathlib.Core.Bool.{true, false}
 use mathlib.Core.List.{List}
 use mathlib.Core.Logic.{_↔_, _⊎_, _≢_}
 use mathlib.Core.Option.{Option, none, some}
 use lib.ListN.{length, getD, replicate}
 use Rattle.wire.specs.Promises.{OneToOne}
+use Rattle.keys.specs.declared.constraints.Lifetime.the-variants.{Forever, For}
 use Rattle.rule.specs.declared.Found.{Found}
 use Rattle.rule.specs.Gateway.{Entry as Key, Place, Gateway, fresh, seek, holds, placeFor}
 use Rattle.rule.specs.Searches.{foundPlace}
 use Rattle.rule.specs.Soundness as rule
 use Rattle.rule.specs.Soundness.{lastNumber}
+use Rattle.table.specs.declared.Entry.{Entry}
 use Rattle.table.specs.declared.State.{State}
-use Rattle.table.specs.Meaning.{gatewayOf, stateOf, layout}
+use Rattle.table.specs.Meaning.{keyOf, gatewayOf, stateOf, layout}
 use Rattle.table.specs.Soundness.{soundState, Sound, Means}
 use Rattle.table.specs.Changes.{MayPut}
 
 -- the test says the facts; the two lengths are the arrays'
 abbrev pub SoundStateRule : Type 0
 SoundStateRule = (s : State) (x : List ℕ) → length (s .entries) ≡ 8 → length (s .lock .bytes) ≡ 1024 → (soundState s x ≡ true) ↔ Sound s x
+
+-- what an entry's flags say: 1 is yes, 0 is no
+pub record FlagsSay (e : Entry) (p : List ℕ) : Type 0 where
+  pub confirm : e .confirm ≡ 1 → keyOf e p .confirm ≡ true
+  pub no-confirm : e .confirm ≡ 0 → keyOf e p .confirm ≡ false
+  pub lifetime : e .limited ≡ 1 → keyOf e p .lifetime ≡ For (e .seconds)
+  pub no-lifetime : e .limited ≡ 0 → keyOf e p .lifetime ≡ Forever
+
+abbrev pub FlagRule : Type 0
+FlagRule = (e : Entry) (p : List ℕ) → FlagsSay e p
 
 -- what is sound here means what is sound in the rule
 abbrev pub SoundMeaning : Type 0
