@@ -1,5 +1,4 @@
--- What frames, writers and refusals promise, as statements; the proofs are in proofs/. That no second answer meets a contract is the wire's
--- `OneAnswer`.
+-- What frames, writers and refusals promise, as statements; the proofs are in proofs/.
 use Prim.Native.Nat.{ℕ, _+_, _^_, _≤_, _<_}
 use mathlib.Core.Path.{_≡_}
 use mathlib.Core.List.{List, [], _∷_, _++_}

@@ -21,15 +21,12 @@ use Rattle.wire.specs.Abnf.{Octets}
 use Rattle.wire.specs.Mpint.{mpint}
 use Rattle.wire.specs.Steps.{so, part}
 use Rattle.wire.specs.Read.{cutOf, numberAt, stringAt, textAt, mpintAt}
-use Rattle.wire.specs.Promises.{OneAnswer, AnswersApart, ByteRule, ByteCut, NumberRule, NumberCut, StringRule, StringCut, CutRule, TextRule, TextFault, MpintAtRule, MpintFault, WriteRule}
+use Rattle.wire.specs.Promises.{AnswersApart, ByteRule, ByteCut, NumberRule, NumberCut, StringRule, StringCut, CutRule, TextRule, TextFault, MpintAtRule, MpintFault, WriteRule}
 use Rattle.wire.proofs.Reading.{le-or-lt, byte-there, byte-cut, string-read, string-short, string-cut, cut-there, cut-past, cut-back, from-there, from-past, from-back}
 use Rattle.wire.proofs.Format.{number-form, number-none, string-form, string-none, part-length}
 use Rattle.wire.proofs.Abnf.{utf8-rule}
 use Rattle.wire.proofs.Longest.{utf8-end, utf8-end-whole}
 use Rattle.wire.proofs.Writing.{length-write, write-in, write-out}
-
-pub one-answer : OneAnswer
-one-answer A given answer other e f = e ∙ sym f
 
 -- ## Values
 

@@ -16,11 +16,7 @@ use Rattle.wire.specs.Mpint.{mpint, Shortest}
 use Rattle.wire.specs.Read.{cutOf, cutFrom, same, byteAt, numberAt, stringAt, textAt, mpintAt}
 use Rattle.wire.specs.Write.{string, write}
 
--- ## Input decides
-
--- no second answer meets an equation
-abbrev pub OneAnswer : Type 1
-OneAnswer = (A : Type 0) (given answer other : A) → answer ≡ given → other ≡ given → answer ≡ other
+-- ## Answers
 
 -- an answer's values tell it from every other answer
 abbrev pub OneToOne : (A B : Type 0) → (A → B) → Type 0
