@@ -148,7 +148,7 @@ pub fn flat_of(outcome: Outcome) -> FlatOutcome
     }
 }
 
-pub fn split(bytes: &[u8]) -> FlatSplit
+pub(crate) fn split(bytes: &[u8]) -> FlatSplit
     ensures { λ r. ⌜ r ≡ flatSplit (now (bytes .entry)) ⌝ }
 {
     match read_frame(bytes) {

@@ -1,7 +1,7 @@
 -- The values of an outcome say it, since each can be read back from them; so do they and the reply buffer of the rule's.
 use Prim.Native.Nat.{ℕ}
 use mathlib.Core.Path.{_≡_, refl, sym, ap, _∙_}
-use mathlib.Core.List.{List}
+use mathlib.Core.List.{List, [], _∷_}
 use lib.Dec.{eqb}
 use lib.ListN.{getD, length, take}
 use lib.Seq.{take-at}
@@ -10,10 +10,11 @@ use Rattle.wire.specs.Write.{write}
 use Rattle.rule.specs.declared.Hash.{Hash}
 use Rattle.rule.specs.declared.Hash.the-variants.{Plain, Sha256, Sha512}
 use Rattle.rule.specs.Rule.{gate, check, confirmation, signature, reply, close}
+use Rattle.rule.specs.Calls as rule
 use Rattle.rule.specs.Calls.{refused, asks, lands}
 use Rattle.requests.specs.declared.Outcome.{Outcome}
 use Rattle.requests.specs.declared.Outcome.the-variants.{Refused, Gate, Check, Confirm, Sign, Reply, Close}
-use Rattle.requests.specs.Outcomes.{hashBits, outcomeValues, OutcomesApart, code, written, hashIn, outcomeFor, outcomeIn, OutcomesRead}
+use Rattle.requests.specs.Outcomes.{hashBits, outcomeValues, OutcomesApart, code, written, OutcomesTold, hashIn, outcomeFor, outcomeIn, OutcomesRead}
 
 hash-in : (h : Hash) → hashIn (hashBits h) ≡ h
 unfolding so
@@ -62,3 +63,26 @@ outcomes-read (asks (confirmation n)) buffer = refl
 outcomes-read (asks (signature n from to hash)) buffer = ap (λ (h : Hash). asks (signature n from to h)) (hash-in hash)
 outcomes-read (lands (reply bytes)) buffer = ap (λ (b : List ℕ). lands (reply b)) (front buffer bytes)
 outcomes-read (lands close) buffer = refl
+
+-- ## What is told
+
+module _ (o : rule.Outcome) where
+  told : (x : rule.Outcome) → o ≡ x → outcomeValues (code o) ≡ outcomeValues (code x)
+  told x e = ap (λ (x : rule.Outcome). outcomeValues (code x)) e
+
+  read : (values : List ℕ) → outcomeValues (code o) ≡ values → o ≡ outcomeIn values (written o [])
+  read values e = sym (outcomes-read o []) ∙ ap (λ (vs : List ℕ). outcomeIn vs (written o [])) e
+
+pub outcomes-told : OutcomesTold
+unfolding code outcomeFor so
+outcomes-told o = record {
+  refusal = λ n. (told o (refused n), read o (0 ∷ n ∷ []));
+  gate-class = λ class. (told o (asks (gate class)), read o (1 ∷ class ∷ []));
+  check-part = λ from to. (told o (asks (check from to)), read o (2 ∷ from ∷ to ∷ []));
+  confirmation-of = λ n. (told o (asks (confirmation n)), read o (3 ∷ n ∷ []));
+  signature-plain = λ n from to. (told o (asks (signature n from to Plain)), read o (4 ∷ n ∷ from ∷ to ∷ 0 ∷ []));
+  signature-256 = λ n from to. (told o (asks (signature n from to Sha256)), read o (4 ∷ n ∷ from ∷ to ∷ 256 ∷ []));
+  signature-512 = λ n from to. (told o (asks (signature n from to Sha512)), read o (4 ∷ n ∷ from ∷ to ∷ 512 ∷ []));
+  reply-length = λ bytes. told o (lands (reply bytes));
+  closing = (told o (lands close), read o (6 ∷ []));
+}

@@ -1,6 +1,7 @@
 -- What the code's enums stand for: the answers that are lent, and 01's six outcomes and its refusals.
 use Prim.Native.Nat.{ℕ}
 use mathlib.Core.Path.{_≡_}
+use mathlib.Core.Logic.{_↔_}
 use mathlib.Core.Bool.{Bool, true, false}
 use mathlib.Core.Option.{Option, none, some}
 use mathlib.Core.List.{List, [], _∷_}
@@ -89,6 +90,21 @@ outcomeValues Close = 6 ∷ []
 
 abbrev pub OutcomesApart : Type 0
 OutcomesApart = OneToOne Outcome (List ℕ) outcomeValues
+
+-- the rule's outcome in 01's numbers
+pub record InNumbers (o : rule.Outcome) (values : List ℕ) : Type 0 where
+  pub refusal : (n : ℕ) → (o ≡ refused n) ↔ (values ≡ 0 ∷ n ∷ [])
+  pub gate-class : (class : ℕ) → (o ≡ asks (gate class)) ↔ (values ≡ 1 ∷ class ∷ [])
+  pub check-part : (from to : ℕ) → (o ≡ asks (check from to)) ↔ (values ≡ 2 ∷ from ∷ to ∷ [])
+  pub confirmation-of : (n : ℕ) → (o ≡ asks (confirmation n)) ↔ (values ≡ 3 ∷ n ∷ [])
+  pub signature-plain : (n from to : ℕ) → (o ≡ asks (signature n from to Plain)) ↔ (values ≡ 4 ∷ n ∷ from ∷ to ∷ 0 ∷ [])
+  pub signature-256 : (n from to : ℕ) → (o ≡ asks (signature n from to Sha256)) ↔ (values ≡ 4 ∷ n ∷ from ∷ to ∷ 256 ∷ [])
+  pub signature-512 : (n from to : ℕ) → (o ≡ asks (signature n from to Sha512)) ↔ (values ≡ 4 ∷ n ∷ from ∷ to ∷ 512 ∷ [])
+  pub reply-length : (bytes : List ℕ) → o ≡ lands (reply bytes) → values ≡ 5 ∷ length bytes ∷ []
+  pub closing : (o ≡ lands close) ↔ (values ≡ 6 ∷ [])
+
+abbrev pub OutcomesTold : Type 0
+OutcomesTold = (o : rule.Outcome) → InNumbers o (outcomeValues (code o))
 
 -- ## Read back
 

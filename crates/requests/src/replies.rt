@@ -30,14 +30,14 @@ pub fn failure(state: State, reply: &mut [u8]) -> Called
     answer(state, msg::FAILURE, reply)
 }
 
-pub fn success(state: State, reply: &mut [u8]) -> Called
+pub(crate) fn success(state: State, reply: &mut [u8]) -> Called
     requires { ⌜ 5 ≤ length (now reply) ⌝ }
     ensures { λ r. ⌜ Answered 6 state (now (reply .entry)) r (now (reply .exit)) ⌝ }
 {
     answer(state, msg::SUCCESS, reply)
 }
 
-pub fn closed(state: State) -> Called
+pub(crate) fn closed(state: State) -> Called
     ensures { λ r. ⌜ r ≡ record { outcome = Outcome.Close; state = state } ⌝ }
 {
     Called {

@@ -2,16 +2,15 @@
 -- order, said of what was given; `Met` says what kind of call it is: `ByCall`, or in crate gateway `ByExport`.
 use Prim.Native.Nat.{ℕ, max, _≤_, _<_, _%_}
 use mathlib.Core.Path.{_≡_}
-use mathlib.Core.Logic.{_↔_, _≢_}
+use mathlib.Core.Logic.{_≢_}
 use mathlib.Core.Bool.{Bool, true, false}
 use mathlib.Core.List.{List, [], _∷_, _++_, map}
 use lib.ListN.{length, getD, take, drop}
 use Rattle.wire.specs.Numbers.{Bytes}
 use Rattle.wire.specs.Steps.{so}
-use Rattle.rule.specs.declared.Hash.the-variants.{Plain, Sha256, Sha512}
 use Rattle.rule.specs.declared.Millis.{Millis}
 use Rattle.rule.specs.Gateway.{Gateway, advance, locked}
-use Rattle.rule.specs.Rule.{gate, check, confirmation, signature, reply, close, FAILURE}
+use Rattle.rule.specs.Rule.{FAILURE}
 use Rattle.rule.specs.Calls as rule
 use Rattle.rule.specs.Calls.{Frame, Call, refused, asks, lands, call}
 use Rattle.rule.specs.Runs.{Turn, turn, endOf, landings, Oracle, oneAtATime, oneAtATimeEnd}
@@ -24,7 +23,7 @@ use Rattle.requests.specs.declared.Said.the-variants.{Missing}
 use Rattle.requests.specs.declared.Signed.the-variants.{Given}
 use Rattle.requests.specs.declared.Answers.{Answers}
 use Rattle.requests.specs.declared.Outcome.{Outcome}
-use Rattle.requests.specs.Outcomes.{lentOf, code, written, outcomeValues, outcomeIn}
+use Rattle.requests.specs.Outcomes.{lentOf, code, written, outcomeValues, InNumbers, outcomeIn}
 use Rattle.server.specs.Calls.{Meets}
 
 -- ## One call
@@ -158,18 +157,6 @@ pub record Unchanged (state : State) (store : List ℕ) (k : Step) : Type 0 wher
   pub state-stays : k .gave .state ≡ state
   pub store-stays : k .gave .store ≡ store
   pub buffer-stays : k .gave .reply ≡ k .buffer
-
--- the rule's outcome in 01's numbers
-pub record InNumbers (o : rule.Outcome) (values : List ℕ) : Type 0 where
-  pub refusal : (n : ℕ) → (o ≡ refused n) ↔ (values ≡ 0 ∷ n ∷ [])
-  pub gate-class : (class : ℕ) → (o ≡ asks (gate class)) ↔ (values ≡ 1 ∷ class ∷ [])
-  pub check-part : (from to : ℕ) → (o ≡ asks (check from to)) ↔ (values ≡ 2 ∷ from ∷ to ∷ [])
-  pub confirmation-of : (n : ℕ) → (o ≡ asks (confirmation n)) ↔ (values ≡ 3 ∷ n ∷ [])
-  pub signature-plain : (n from to : ℕ) → (o ≡ asks (signature n from to Plain)) ↔ (values ≡ 4 ∷ n ∷ from ∷ to ∷ 0 ∷ [])
-  pub signature-256 : (n from to : ℕ) → (o ≡ asks (signature n from to Sha256)) ↔ (values ≡ 4 ∷ n ∷ from ∷ to ∷ 256 ∷ [])
-  pub signature-512 : (n from to : ℕ) → (o ≡ asks (signature n from to Sha512)) ↔ (values ≡ 4 ∷ n ∷ from ∷ to ∷ 512 ∷ [])
-  pub reply-length : (bytes : List ℕ) → o ≡ lands (reply bytes) → values ≡ 5 ∷ length bytes ∷ []
-  pub closing : (o ≡ lands close) ↔ (values ≡ 6 ∷ [])
 
 -- "Flag 2 set: SHA-256; else flag 4: SHA-512; else none."
 pub record BitsTable (flags bits : ℕ) : Type 0 where
@@ -329,14 +316,15 @@ module _ (Met : State → List ℕ → Step → Type 0) where
   abbrev pub CodeIsARun : Type 0
   CodeIsARun = (state : State) (store : List ℕ) (ks : List Step) → Sound state store → CodeRun state store ks → IsARun state store ks
 
-  -- demand 3: "each request keeps its frame, and a question asked twice within it gets one answer"
+  -- demand 3: "each request keeps its frame, and a question asked twice within it gets one answer". `Keeps` binds every answer that is lent, also
+  -- one that nobody asked for; where such a one differs from call to call, `CodeAsLent` speaks of the run.
   abbrev pub CodeDemand3 : Type 0
   CodeDemand3 =
       (frames : ℕ → Frame) (oracles : ℕ → Oracle) (state : State) (store : List ℕ) (ks : List Step) → Sound state store → CodeRun state store ks
       → EveryStep (λ k. Accepted k → Keeps (λ c. frames (c .request)) (λ c. oracles (c .request)) (asCall k)) ks
       → CodeAsOneAtATime (λ c. frames (c .request)) (λ c. oracles (c .request)) state store ks
 
-  -- "the one-at-a-time run gets the answers lent at the landing": of any run
+  -- "the one-at-a-time run gets the answers lent at the landing": of any run, whatever is lent
   abbrev pub CodeAsLent : Type 0
   CodeAsLent =
       (state : State) (store : List ℕ) (ks : List Step) → Sound state store → CodeRun state store ks
