@@ -248,7 +248,7 @@ def record(payload, clock, lent):
 
 
 def serve(gateway, payload, clock, check):
-    """Calls until the request lands; its reply by the rule, as a line of the oracle."""
+    """Calls until the request lands; its landing by the rule, as a line of the oracle."""
     gateway.advance(clock)
     lent, plan, told = dict(NOTHING), rule(gateway, payload), None
     while True:
@@ -256,9 +256,9 @@ def serve(gateway, payload, clock, check):
         try:
             question = plan.send(told)
         except StopIteration as landed:
-            line = 'close' if landed.value is CLOSE else 'reply ' + string(landed.value).hex()
-            lines.append(line.upper().replace('REPLY', 'reply').replace('CLOSE', 'close'))
-            return line
+            reply = None if landed.value is CLOSE else string(landed.value).hex()
+            lines.append('reply ' + reply.upper() if reply else 'close')
+            return 'reply ' + reply if reply else 'close'
         lines.append(' '.join(['ask', question[0], *map(str, question[1:])]))
         told, more = answer(gateway, payload, question, check)
         lent.update(more)

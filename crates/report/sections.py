@@ -32,19 +32,23 @@ def near(values, base, place):
 
 
 class Fault(Exception):
-    pass
+    """A fault at a place, where a reader says one."""
+
+    def __init__(self, place=None):
+        super().__init__(place)
+        self.place = place
 
 
-def need(test):
+def need(test, place=None):
     if not test:
-        raise Fault
+        raise Fault(place)
 
 
 def take_string(b, at):
-    """The contents of the string at a place, and the place behind it."""
-    need(at + 4 <= len(b))
+    """The contents of the string at a place, and the place behind it. A cut string is a fault at the start of its length."""
+    need(at + 4 <= len(b), at)
     end = at + 4 + int.from_bytes(b[at:at + 4], 'big')
-    need(end <= len(b))
+    need(end <= len(b), at)
     return b[at + 4:end], end
 
 

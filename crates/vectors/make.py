@@ -14,7 +14,8 @@ Where the expectations come from:
 - recorded requests: the blob is the one that ssh-agent listed and that the .pub file has; lifetime and confirm are the
   options of the ssh-add command.
 - made and damaged requests, and constraints: the reader below, written from document 01 and not from the Rattle code.
-Where a fault is expected, its place is not.
+A fault has its place: a string that is cut, and a field that is there and unfit, at the start of its length; a comment that is no UTF-8 where its longest
+part of UTF-8 ends; a second lifetime and an unknown byte at itself; cut seconds at their start (docs/DECISIONS.md).
 
 The input has the form that ../report/sections.py says, with these records:
   1 mpint             contents (string), positive and shortest (flag)
@@ -25,8 +26,9 @@ The input has the form that ../report/sections.py says, with these records:
   6 damaged fields    CHANGE, FIELDS
   7 damaged addition  CHANGE, constrained (flag), LIMITS
   8 constraints       bytes (string), place (number), LIMITS
-FIELDS: whole (flag), and if whole the end (number) and the blob (string). LIMITS: whole, limited (flags), seconds (number), confirm
-(flag), all 0 where a fault is expected.
+FIELDS: whole (flag), the end or the fault's place (number), and if whole the blob (string). LIMITS: how it ends (byte: 0 at the end, 1 a second lifetime, 2
+an unknown byte, 3 cut seconds; of an addition any fault is 1), limited (flag), seconds (number), confirm (flag), the fault's place (number); what has no
+meaning is 0.
 """
 import itertools
 import os
@@ -52,9 +54,15 @@ def is_positive_and_shortest(v):
     return value > 0 and v == mpint(value)
 
 
-def take_mpint(b, at):
+def take_fit(b, at, fits):
+    """The contents of a string that passes a test, and the place behind it."""
     v, end = take_string(b, at)
-    need(is_positive_and_shortest(v))
+    need(fits(v), at)
+    return v, end
+
+
+def take_mpint(b, at):
+    v, end = take_fit(b, at, is_positive_and_shortest)
     return int.from_bytes(v, 'big'), end
 
 
@@ -63,20 +71,16 @@ CURVES = {b'nistp256': (65, 32), b'nistp384': (97, 48), b'nistp521': (133, 66)}
 
 
 def read_ed25519(b, at):
-    a, at = take_string(b, at)
-    both, at = take_string(b, at)
-    need(len(a) == 32 and len(both) == 64 and both[32:] == a)
+    a, at = take_fit(b, at, lambda v: len(v) == 32)
+    _, at = take_fit(b, at, lambda v: len(v) == 64 and v[32:] == a)
     return at, string(ED25519) + string(a)
 
 
 def read_ecdsa(b, at, curve):
-    name, at = take_string(b, at)
-    need(name == curve)
-    most_q, most_d = CURVES[curve]
-    q, at = take_string(b, at)
-    need(len(q) == most_q and q[0] == 4)
-    d, at = take_mpint(b, at)
-    need((d.bit_length() + 7) // 8 <= most_d)
+    _, at = take_fit(b, at, lambda v: v == curve)
+    size_q, most_d = CURVES[curve]
+    q, at = take_fit(b, at, lambda v: len(v) == size_q and v[0] == 4)
+    _, at = take_fit(b, at, lambda v: is_positive_and_shortest(v) and len(v.lstrip(b'\0')) <= most_d)
     return at, string(b'ecdsa-sha2-' + curve) + string(curve) + string(q)
 
 
@@ -91,35 +95,45 @@ def read_rsa(b, at):
 
 def read_fields(b, at):
     """The end of the key fields, and their blob."""
-    kind, at = take_string(b, at)
+    kind, behind = take_string(b, at)
     if kind == ED25519:
-        return read_ed25519(b, at)
+        return read_ed25519(b, behind)
     if kind == RSA:
-        return read_rsa(b, at)
+        return read_rsa(b, behind)
     head, curve = kind[:11], kind[11:]
-    need(head == b'ecdsa-sha2-' and curve in CURVES)
-    return read_ecdsa(b, at, curve)
+    need(head == b'ecdsa-sha2-' and curve in CURVES, at)
+    return read_ecdsa(b, behind, curve)
 
 
-def read_constraints(b, at):
-    """Lifetime (or None) and confirm."""
+END, SECOND_LIFETIME, UNKNOWN, CUT_SECONDS = range(4)
+
+
+def walk(b, at):
+    """How a walk over constraints ends: lifetime (or None) and confirm, or the place of a fault."""
     lifetime, confirm = None, False
     while at < len(b):
-        kind, at = b[at], at + 1
-        need(kind in (1, 2))
-        if kind == 2:
-            confirm = True
+        if b[at] == 2:
+            confirm, at = True, at + 1
+        elif b[at] != 1:
+            return UNKNOWN, at
+        elif lifetime is not None:
+            return SECOND_LIFETIME, at
+        elif len(b) < at + 5:
+            return CUT_SECONDS, at + 1
         else:
-            need(lifetime is None and at + 4 <= len(b))
-            lifetime, at = int.from_bytes(b[at:at + 4], 'big'), at + 4
-    return lifetime, confirm
+            lifetime, at = int.from_bytes(b[at + 1:at + 5], 'big'), at + 5
+    return END, (lifetime, confirm)
 
 
 def read_addition(b, at, constrained):
     at, _ = read_fields(b, at)
-    comment, at = take_string(b, at)
-    need(utf8_end(comment) == len(comment))
-    return read_constraints(b, at) if constrained else (None, False)
+    comment, end = take_string(b, at)
+    need(utf8_end(comment) == len(comment), at + 4 + utf8_end(comment))
+    if not constrained:
+        return None, False
+    how, what = walk(b, end)
+    need(how == END, what)
+    return what
 
 
 def utf8_end(b):
@@ -136,21 +150,28 @@ def utf8_end(b):
 # ---- records
 
 def answer(read, *args):
+    """What a reader gives, or its fault."""
     try:
         return read(*args)
-    except Fault:
-        return None
+    except Fault as fault:
+        return fault
 
 
 def fields(want):
-    return flag(0) if want is None else flag(1) + number(want[0]) + string(want[1])
+    if isinstance(want, Fault):
+        return flag(0) + number(want.place)
+    return flag(1) + number(want[0]) + string(want[1])
 
 
-def limits(want):
-    if want is None:
-        return flag(0) + flag(0) + number(0) + flag(0)
+def limits(how, want):
+    if how != END:
+        return bytes([how]) + flag(0) + number(0) + flag(0) + number(want)
     lifetime, confirm = want
-    return flag(1) + flag(lifetime is not None) + number(lifetime or 0) + flag(confirm)
+    return bytes([how]) + flag(lifetime is not None) + number(lifetime or 0) + flag(confirm) + number(0)
+
+
+def added(want):
+    return limits(1, want.place) if isinstance(want, Fault) else limits(END, want)
 
 
 def key_record(payload):
@@ -158,7 +179,7 @@ def key_record(payload):
 
 
 def addition_record(payload, constrained):
-    return string(payload) + flag(constrained) + limits(answer(read_addition, payload, 1, constrained))
+    return string(payload) + flag(constrained) + added(answer(read_addition, payload, 1, constrained))
 
 
 def damaged_key_record(base, *how):
@@ -168,11 +189,11 @@ def damaged_key_record(base, *how):
 
 def damaged_addition_record(base, constrained, *how):
     c, payload = change(base, *how)
-    return c + flag(constrained) + limits(answer(read_addition, payload, 1, constrained))
+    return c + flag(constrained) + added(answer(read_addition, payload, 1, constrained))
 
 
 def constraints_record(b, at):
-    return string(b) + number(at) + limits(answer(read_constraints, b, at))
+    return string(b) + number(at) + limits(*walk(b, at))
 
 
 # ---- mpint
@@ -203,7 +224,7 @@ def mpint_strings():
 
 def mpint_string_record(b, at):
     want = answer(take_mpint, b, at)
-    return string(b) + number(at) + (number(0) + number(0) if want is None else number(at + 4) + number(want[1]))
+    return string(b) + number(at) + (number(0) + number(0) if isinstance(want, Fault) else number(at + 4) + number(want[1]))
 
 
 # ---- UTF-8
@@ -245,18 +266,20 @@ class Request:
         return take_string(self.payload, 1)[0].endswith(b'-cert-v01@openssh.com')
 
     def fields(self, blobs):
-        """A certificate's type is none of the five. The end is that of the reader."""
+        """A certificate's type is none of the five: a fault at its start. The end is that of the reader."""
         if self.is_certificate():
-            return None
+            return Fault(1)
         blob = blobs[self.key]
         assert set(self.listed) <= {blob}
         assert read_fields(self.payload, 1)[1] == blob
         return read_fields(self.payload, 1)[0], blob
 
     def limits(self):
-        """A destination (-h) is constraint 255, which document 01 refuses."""
-        if self.is_certificate() or '-h' in self.options:
-            return None
+        """A destination (-h) is constraint 255, which document 01 refuses, where its byte stands."""
+        if self.is_certificate():
+            return Fault(1)
+        if '-h' in self.options:
+            return Fault(answer(read_addition, self.payload, 1, True).place)
         lifetime = int(self.options[self.options.index('-t') + 1]) if '-t' in self.options else None
         return lifetime, '-c' in self.options
 
@@ -424,7 +447,7 @@ def sections(folder):
     yield 2, 'mpint string', b'', [mpint_string_record(*one) for one in mpint_strings()]
     yield 3, 'utf-8', b'', [string(b) + number(utf8_end(b)) for b in utf8_strings()]
     yield 4, 'recorded key', b'', [string(r.payload) + fields(r.fields(blobs)) for r in requests]
-    yield 5, 'recorded addition', b'', [string(r.payload) + flag(r.is_constrained()) + limits(r.limits()) for r in requests]
+    yield 5, 'recorded addition', b'', [string(r.payload) + flag(r.is_constrained()) + added(r.limits()) for r in requests]
     yield 4, 'made key', b'', [key_record(p) for p in made]
     yield 5, 'made addition', b'', [addition_record(*one) for one in made_additions(ed25519)]
     last = {key: files[key][-1].payload for key in KEYS}

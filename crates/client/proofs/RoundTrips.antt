@@ -1,29 +1,26 @@
--- The promises: the splitter finds what a writer wrote, refusals are told apart by number, and the gateway's rule reads from a request what was given.
+-- The promises: the splitter finds what a writer wrote, and the gateway's rule reads from a request what was given.
 use Prim.Native.Nat.{ℕ, _+_, _^_, _≤_, _<_}
-use mathlib.Core.Path.{_≡_, refl, sym, ap, _∙_}
+use mathlib.Core.Path.{_≡_, refl, ap, _∙_}
 use mathlib.Core.List.{List, [], _∷_, _++_, append-nil}
-use mathlib.Core.Bool.{Bool, true, false, cond}
+use mathlib.Core.Bool.{Bool, true, false}
 use native.Mathlib.Omega.{arith}
-use lib.Dec.{eqb}
 use lib.ListN.{length, take, drop, length-append}
 use lib.Seq.{take-at, drop-at}
 use Rattle.wire.specs.Numbers.{Bytes, be32}
-use Rattle.wire.specs.Steps.{so, number}
+use Rattle.wire.specs.Steps.{so}
 use Rattle.wire.specs.Values.{numberReads, partReads}
 use Rattle.wire.specs.Write.{write, string}
 use Rattle.wire.proofs.Format.{number-form, string-form}
 use Rattle.rule.specs.Order.{Begins, Carries}
 use Rattle.client.specs.declared.Refusal.{Refusal}
-use Rattle.client.specs.declared.Refusal.the-variants.{OutputTooShort, Malformed, UnfitType, AgentFailure, OtherReply, NoSuchItem, PayloadTooLong, TooManyConstraints}
 use Rattle.client.specs.declared.Wrote.{Wrote}
 use Rattle.client.specs.declared.Wrote.the-variants.{Refused}
-use Rattle.client.specs.Refusals.{refusalNumber}
 use Rattle.client.specs.Requests.{signRequest, removeSmartcardAnswer, removeSmartcardLeft, addSmartcardAnswer, addSmartcardLeft}
-use Rattle.client.specs.Promises.{Holds, Splits, Sent, Writes, WriterRule, RemoveSmartcardRule, AddSmartcardRule, placeless, RefusalsApart, ListRead, LockRead, UnlockRead, SignRead}
+use Rattle.client.specs.Promises.{Holds, Splits, Sent, Writes, WriterRule, RemoveSmartcardRule, AddSmartcardRule, SmartcardExample, ListRead, LockRead, UnlockRead, SignRead}
 use Rattle.client.proofs.ByteLaws.{bytes-cons, bytes-append, be32-bytes, string-bytes}
 use Rattle.client.proofs.WriteLaws.{Met, Stage, stage, untouched}
 use Rattle.client.proofs.SplitTables.{split-table}
-use Rattle.client.proofs.WriterTables.{not-granted, wrote-apart}
+use Rattle.client.proofs.WriterTables.{not-granted, wrote-written, wrote-refused}
 
 -- ## Frames
 
@@ -57,8 +54,8 @@ module _ (p out : List ℕ) (n : ℕ) (left : List ℕ) (s : Stage (length p) p 
 module _ (p out : List ℕ) (answer : Wrote) (left : List ℕ) (e : Met (length p) p out answer left) where
   writes : Writes p out answer left
   writes = record {
-    sent = λ n f. sent p out n left (stage (length p) p out answer left e n (wrote-apart .written answer n f));
-    untouched = λ n f. let (r, g, _) = wrote-apart .refused answer n f in untouched (length p) p out answer left e r g;
+    sent = λ n f. sent p out n left (stage (length p) p out answer left e n (wrote-written answer n f));
+    untouched = λ n w f. let (r, g, _) = wrote-refused answer n w f in untouched (length p) p out answer left e r g;
   }
 
 pub writer-rule : WriterRule
@@ -68,7 +65,7 @@ writer-rule p out = writes p out _ _ (refl, refl)
 tested : (p out : List ℕ) (r : Refusal) (b : Bool) (answer : Wrote) (left : List ℕ) → Writes p out answer left → Writes p out (so (Refused r) b answer) (so out b left)
 unfolding so
 tested p out r true answer left w = w
-tested p out r false answer left w = record { sent = λ n e. not-granted e; untouched = λ n e. refl }
+tested p out r false answer left w = record { sent = λ n e. not-granted e; untouched = λ n w e. refl }
 
 pub remove-smartcard-rule : RemoveSmartcardRule
 unfolding removeSmartcardAnswer removeSmartcardLeft
@@ -78,31 +75,8 @@ pub add-smartcard-rule : AddSmartcardRule
 unfolding addSmartcardAnswer addSmartcardLeft
 add-smartcard-rule id pin cs count out = tested _ out _ _ _ _ (tested _ out _ _ _ _ (writer-rule _ out))
 
--- ## Refusals
-
--- the refusal of a number
-abbrev refusalOf : ℕ → Refusal
-refusalOf n =
-    cond (eqb n 11) OutputTooShort
-    (cond (eqb n 12) (Malformed 0)
-    (cond (eqb n 13) UnfitType
-    (cond (eqb n 14) AgentFailure
-    (cond (eqb n 15) OtherReply
-    (cond (eqb n 16) NoSuchItem
-    (cond (eqb n 17) PayloadTooLong TooManyConstraints))))))
-
-numbered : (r : Refusal) → placeless r ≡ refusalOf (refusalNumber r)
-numbered OutputTooShort = refl
-numbered (Malformed at) = refl
-numbered UnfitType = refl
-numbered AgentFailure = refl
-numbered OtherReply = refl
-numbered NoSuchItem = refl
-numbered PayloadTooLong = refl
-numbered TooManyConstraints = refl
-
-pub refusals-apart : RefusalsApart
-refusals-apart a b e = numbered a ∙ ap refusalOf e ∙ sym (numbered b)
+pub smartcard-example : SmartcardExample
+smartcard-example = refl
 
 -- ## What the rule reads
 

@@ -1,26 +1,25 @@
--- What frames, writers and refusals promise, as statements; the proofs are in proofs/. That no second answer meets a contract is the wire's
--- `OneAnswer`.
+-- What frames, writers and refusals promise, as statements; the proofs are in proofs/.
 use Prim.Native.Nat.{ℕ, _+_, _^_, _≤_, _<_}
 use mathlib.Core.Path.{_≡_}
-use mathlib.Core.List.{List, [], _++_}
+use mathlib.Core.List.{List, [], _∷_, _++_}
 use lib.ListN.{length, take, drop}
 use Rattle.wire.specs.declared.Constraint.{Constraint}
+use Rattle.wire.specs.declared.Constraint.the-variants.{Confirm}
 use Rattle.wire.specs.declared.Split.{Split}
 use Rattle.wire.specs.Numbers.{Bytes, be32}
+use Rattle.wire.specs.Texts.{bytes}
 use Rattle.wire.specs.Abnf.{Octets}
 use Rattle.wire.specs.Read.{cutOf, numberAt, stringAt}
 use Rattle.wire.specs.Values.{read, numberReads, partReads}
 use Rattle.wire.specs.Write.{string}
 use Rattle.wire.specs.Frames.{splitOf, framePayload, payloadFrom}
-use Rattle.wire.specs.Promises.{OneToOne}
+use Rattle.wire.specs.Promises.{OneToOne, Longest}
 use Rattle.rule.specs.Order.{Begins, Carries}
 use Rattle.rule.specs.Content.{SignRequest}
 use Rattle.client.specs.declared.Refusal.{Refusal}
-use Rattle.client.specs.declared.Refusal.the-variants.{OutputTooShort, Malformed, UnfitType, AgentFailure, OtherReply, NoSuchItem, PayloadTooLong, TooManyConstraints}
 use Rattle.client.specs.declared.Wrote.{Wrote}
-use Rattle.client.specs.declared.Wrote.the-variants.{Written, Refused}
-use Rattle.client.specs.Refusals.{refusalNumber}
-use Rattle.client.specs.Values.{splitNumber, grants, refuses, wroteSays}
+use Rattle.client.specs.Refusals.{Where, no-place, at-place, refusalNumber, refusalPlace}
+use Rattle.client.specs.Values.{splitNumber, Says, grants, refuses, wroteSays}
 use Rattle.client.specs.Requests.{requestIdentities, signRequest, lockRequest, unlockRequest, plainSmartcard, constrainedSmartcard, removeSmartcard, addSmartcard, answered, filled, removeSmartcardAnswer, removeSmartcardLeft, addSmartcardAnswer, addSmartcardLeft}
 
 -- ## Frames
@@ -67,7 +66,7 @@ pub record Sent (payload out left : List ℕ) (n : ℕ) : Type 0 where
 -- a writer sends its payload, or leaves the output as it was
 pub record Writes (payload out : List ℕ) (answer : Wrote) (left : List ℕ) : Type 0 where
   pub sent : (n : ℕ) → wroteSays answer ≡ grants n → Sent payload out left n
-  pub untouched : (n : ℕ) → wroteSays answer ≡ refuses n → left ≡ out
+  pub untouched : (n : ℕ) (place : Where) → wroteSays answer ≡ refuses n place → left ≡ out
 
 abbrev pub WriterRule : Type 0
 WriterRule = (payload out : List ℕ) → Writes payload out (answered payload out) (filled payload out)
@@ -84,16 +83,16 @@ AddSmartcardRule =
 
 -- a payload's own writer
 pub record Framed (payload out : List ℕ) (answer : Wrote) : Type 0 where
-  pub too-long : 262144 < length payload → wroteSays answer ≡ refuses 17
-  pub too-short : length payload ≤ 262144 → length out < 4 + length payload → wroteSays answer ≡ refuses 11
+  pub too-long : 262144 < length payload → wroteSays answer ≡ refuses 17 no-place
+  pub too-short : length payload ≤ 262144 → length out < 4 + length payload → wroteSays answer ≡ refuses 11 no-place
   pub written : length payload ≤ 262144 → 4 + length payload ≤ length out → wroteSays answer ≡ grants (4 + length payload)
 
 abbrev pub WriterTable : Type 0
 WriterTable = (payload out : List ℕ) → Framed payload out (answered payload out)
 
--- before it, an id that is not UTF-8
+-- before it, an id that is not UTF-8: the fault is where its longest part of UTF-8 ends
 pub record CardRemoved (id pin out : List ℕ) : Type 0 where
-  pub no-text : (Octets id → ⊥) → wroteSays (removeSmartcardAnswer id pin out) ≡ refuses 12
+  pub no-text : (n : ℕ) → (Octets id → ⊥) → Longest id n → wroteSays (removeSmartcardAnswer id pin out) ≡ refuses 12 (at-place n)
   pub framed : Octets id → Framed (removeSmartcard id pin) out (removeSmartcardAnswer id pin out)
 
 abbrev pub RemoveSmartcardTable : Type 0
@@ -103,8 +102,8 @@ RemoveSmartcardTable = (id pin out : List ℕ) → CardRemoved id pin out
 pub record CardAdded (id pin : List ℕ) (cs : List Constraint) (count : ℕ) (out : List ℕ) : Type 0 where
   pub none-given : count ≡ 0 → addSmartcard id pin cs count ≡ plainSmartcard id pin
   pub some-given : 1 ≤ count → addSmartcard id pin cs count ≡ constrainedSmartcard id pin (take count cs)
-  pub too-many : 4 < count → wroteSays (addSmartcardAnswer id pin cs count out) ≡ refuses 18
-  pub no-text : count ≤ 4 → (Octets id → ⊥) → wroteSays (addSmartcardAnswer id pin cs count out) ≡ refuses 12
+  pub too-many : 4 < count → wroteSays (addSmartcardAnswer id pin cs count out) ≡ refuses 18 no-place
+  pub no-text : (n : ℕ) → count ≤ 4 → (Octets id → ⊥) → Longest id n → wroteSays (addSmartcardAnswer id pin cs count out) ≡ refuses 12 (at-place n)
   pub plain : count ≡ 0 → Octets id → Framed (plainSmartcard id pin) out (addSmartcardAnswer id pin cs count out)
   pub constrained : 1 ≤ count → count ≤ 4 → Octets id
       → Framed (constrainedSmartcard id pin (take count cs)) out (addSmartcardAnswer id pin cs count out)
@@ -112,27 +111,20 @@ pub record CardAdded (id pin : List ℕ) (cs : List Constraint) (count : ℕ) (o
 abbrev pub AddSmartcardTable : Type 0
 AddSmartcardTable = (id pin : List ℕ) (cs : List Constraint) (count : ℕ) (out : List ℕ) → CardAdded id pin cs count out
 
+-- 01's example: "Id "a", empty PIN, Confirm"
+abbrev pub SmartcardExample : Type 0
+SmartcardExample =
+    string (constrainedSmartcard (bytes "a") [] (Confirm ∷ []))
+    ≡ (0x00 ∷ 0x00 ∷ 0x00 ∷ 0x0F ∷ 0x1A ∷ 0x00 ∷ 0x00 ∷ 0x00 ∷ 0x01 ∷ 0x61 ∷ 0x00 ∷ 0x00 ∷ 0x00 ∷ 0x00 ∷ 0x00 ∷ 0x00 ∷ 0x00 ∷ 0x01 ∷ 0x02 ∷ [])
+
 -- ## Refusals
 
--- the values of a writer's answer tell whether it is a refusal, and which number it has
-pub record WroteApart : Type 0 where
-  pub written : (a : Wrote) (n : ℕ) → wroteSays a ≡ grants n → a ≡ Written n
-  pub refused : (a : Wrote) (n : ℕ) → wroteSays a ≡ refuses n → (r : Refusal) × (a ≡ Refused r) × (refusalNumber r ≡ n)
-
--- a refusal without the place of its fault
-abbrev pub placeless : Refusal → Refusal
-placeless OutputTooShort = OutputTooShort
-placeless (Malformed at) = Malformed 0
-placeless UnfitType = UnfitType
-placeless AgentFailure = AgentFailure
-placeless OtherReply = OtherReply
-placeless NoSuchItem = NoSuchItem
-placeless PayloadTooLong = PayloadTooLong
-placeless TooManyConstraints = TooManyConstraints
-
--- a number tells its refusal from every other, up to the place of a fault
+-- the number and the place of a refusal tell it from every other, and a writer's values its answer
 abbrev pub RefusalsApart : Type 0
-RefusalsApart = (a b : Refusal) → refusalNumber a ≡ refusalNumber b → placeless a ≡ placeless b
+RefusalsApart = (a b : Refusal) → refusalNumber a ≡ refusalNumber b → refusalPlace a ≡ refusalPlace b → a ≡ b
+
+abbrev pub WroteApart : Type 0
+WroteApart = OneToOne Wrote (Says ℕ) wroteSays
 
 -- ## What the gateway's rule reads from a request is what was given
 

@@ -3,7 +3,7 @@ use Prim.Native.Nat.{ℕ}
 use Rattle.wire.specs.declared.Split.{Split}
 use Rattle.wire.specs.declared.Split.the-variants.{MoreNeeded, TooLong, Frame}
 use Rattle.client.specs.declared.Wrote.{Wrote}
-use Rattle.client.specs.Refusals.{refusalNumber}
+use Rattle.client.specs.Refusals.{Where, refusalNumber, refusalPlace}
 
 -- the splitter's answers in the order of 01's words: 0 more needed, 1 too long, 2 a whole frame
 abbrev pub splitNumber : Split → ℕ
@@ -13,9 +13,9 @@ splitNumber Frame = 2
 
 pub data Says (A : Type 0) : Type 0 where
   grants : A → Says A
-  refuses : ℕ → Says A  -- 01's number of the refusal
+  refuses : ℕ → Where → Says A  -- 01's number of the refusal, and the place of the fault
 
 -- the length of what was written
 abbrev pub wroteSays : Wrote → Says ℕ
 wroteSays (Wrote.Written n) = grants n
-wroteSays (Wrote.Refused r) = refuses (refusalNumber r)
+wroteSays (Wrote.Refused r) = refuses (refusalNumber r) (refusalPlace r)

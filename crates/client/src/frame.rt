@@ -7,6 +7,9 @@ ghost use mathlib.Core.Path.{_≡_};
 ghost use Rattle.wire.specs.Parts.{PartOf};
 ghost use Rattle.wire.specs.Frames.{splitOf, framePayload, payloadFrom};
 
+// The greatest length of a payload.
+const LIMIT: u32 = 262144;
+
 pub fn read_frame(s: &[u8]) -> Split
     ensures { λ r. ⌜ r ≡ splitOf (now (s .entry)) ⌝ }
 {
@@ -14,7 +17,7 @@ pub fn read_frame(s: &[u8]) -> Split
     let Number::Value(n, next) = start.number(s) else {
         return Split::MoreNeeded;
     };
-    if 262144 < n {
+    if LIMIT < n {
         return Split::TooLong;
     }
     let from = next.at;
@@ -33,7 +36,7 @@ pub fn frame_payload(s: &[u8]) -> &[u8]
     let Number::Value(n, next) = start.number(s) else {
         return cut(s, 0, 0);
     };
-    if 262144 < n {
+    if LIMIT < n {
         return cut(s, 0, 0);
     }
     let from = next.at;

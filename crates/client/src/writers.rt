@@ -209,9 +209,9 @@ pub fn add_smartcard_key(
     if 4 < count {
         return Wrote::Refused(Refusal::TooManyConstraints);
     }
-    let end = utf8_end(id);
-    if end != id.len() {
-        return Wrote::Refused(Refusal::Malformed(end));
+    let valid = utf8_end(id);
+    if valid != id.len() {
+        return Wrote::Refused(Refusal::Malformed(valid));
     }
     if count == 0 {
         return two_strings(out, msg::ADD_SMARTCARD_KEY, id, pin, 0);

@@ -1,4 +1,4 @@
--- What the round trips rest on: a text at a place, and how a list starts and ends.
+-- What the round trips rest on: a text at a place, what does not stand at one, and how a list starts and ends.
 use Prim.Native.Nat.{ℕ, _+_, _-_, _^_, _≤_, _<_}
 use mathlib.Core.Path.{_≡_, refl, sym, ap, _∙_}
 use mathlib.Core.List.{List, _++_, append-nil}
@@ -17,14 +17,17 @@ use Rattle.wire.specs.Abnf.{Octets}
 use Rattle.wire.specs.Read.{cutOf, same, stringAt, textAt}
 use Rattle.wire.specs.Steps.{so}
 use Rattle.wire.specs.Write.{string}
-use Rattle.wire.specs.Values.{partReads}
+use Rattle.wire.specs.Values.{fault, partReads}
+use Rattle.wire.specs.Promises.{Longest}
 use Rattle.wire.proofs.Reading.{le-or-lt, cut-there, cut-past, string-read, same-rule}
 use Rattle.wire.proofs.Format.{be-small, part-shape}
-use Rattle.wire.proofs.Laws.{whole-of, text-rule}
-use Rattle.keys.proofs.FieldLaws.{Lies, lies-at, lies-join, lies-cut, behind, found, Reads, inside, string-reads}
+use Rattle.wire.proofs.Longest.{longest-one}
+use Rattle.wire.proofs.Laws.{answers-apart, whole-of, string-cut-rule, text-rule, text-fault}
+use Rattle.keys.proofs.FieldLaws.{Lies, lies-at, lies-join, lies-cut, behind, found, At, Reads, inside, string-reads}
 use Rattle.rule.proofs.Cases.{so-cases}
 use Rattle.readers.specs.Identities.{endsIn}
 use Rattle.readers.specs.Signatures.{startsIn}
+use Rattle.readers.specs.Promises.{NoString}
 
 -- ## Strings and texts at a place
 
@@ -78,6 +81,21 @@ module _ {s : List ℕ} (small : Bytes s) {at : ℕ} where
         lies = lies-to (a .lies) g;
         place = ap (λ (x : Cursor). x .at) c ∙ sym g;
       }
+
+-- ## What does not stand at a place
+
+module _ (s : List ℕ) (small : Bytes s) (at : ℕ) where
+  pub string-missing : NoString (drop at s) → stringAt s at ≡ Part.Fault at
+  string-missing never = answers-apart .parts (stringAt s at) (Part.Fault at) (string-cut-rule s at small .1 never)
+
+  pub text-missing : NoString (drop at s) → textAt s at ≡ Part.Fault at
+  text-missing never = answers-apart .parts (textAt s at) (Part.Fault at) (text-fault s at .cut (string-cut-rule s at small .1 never))
+
+pub no-text : {s v : List ℕ} {at n : ℕ} → At s at v → (Octets v → ⊥) → Longest v n → textAt s at ≡ Part.Fault (at + 4 + n)
+no-text {s} {v} {at} {n} a never l =
+    let (m, k, e) = text-fault s at .other (record { from = at + 4; to = behind at v }) (behind at v) (ap partReads (a .read)) (rw (lies-cut (inside a)) never) in
+    let z : m ≡ n = longest-one v m n (rw (lies-cut (inside a)) at k) l in
+    answers-apart .parts (textAt s at) (Part.Fault (at + 4 + n)) (e ∙ ap (λ (i : ℕ). fault (at + 4 + i)) z)
 
 -- ## How a list starts and ends
 

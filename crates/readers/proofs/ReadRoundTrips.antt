@@ -1,35 +1,36 @@
 -- The promises of the identities reader: what is read has the draft's form and what has the form is read, string by string from a place on.
-use Prim.Native.Nat.{ℕ, zero, suc, _+_, _^_, _≤_, _<_}
-use mathlib.Core.Path.{_≡_, refl, ap, ap₂, _∙_}
+use Prim.Native.Nat.{ℕ, zero, suc, _+_, _-_, _^_, _≤_, _<_}
+use mathlib.Core.Path.{_≡_, refl, sym, ap, ap₂, _∙_}
 use mathlib.Core.List.{List, [], _∷_, _++_, append-assoc, append-nil}
 use mathlib.Core.Bool.{Bool, true}
 use native.Mathlib.Omega.{arith}
 use borrow.Author.Tests.{lt-ltb}
 use lib.Dec.{ltb}
-use lib.ListN.{length, getD, drop, length-append, length-map}
+use lib.ListN.{length, getD, take, drop, length-append, length-map}
 use Rattle.wire.specs.Numbers.{Bytes, be32, beAt}
 use Rattle.wire.specs.Abnf.{Octets}
 use Rattle.wire.specs.Read.{numberAt, stringAt, textAt}
 use Rattle.wire.specs.Steps.{so, number, part}
 use Rattle.wire.specs.Write.{string}
-use Rattle.wire.proofs.Reading.{number-read}
+use Rattle.wire.proofs.Reading.{number-read, number-cut}
 use Rattle.wire.proofs.Format.{be-small, be-shape, number-form}
-use Rattle.keys.proofs.FieldLaws.{Lies, lies-none, lies-cut, behind, found, At, inside, string-stands, string-reads}
+use Rattle.keys.proofs.FieldLaws.{Lies, lies-at, lies-none, lies-cut, behind, found, At, inside, string-stands, string-reads}
 use Rattle.rule.specs.Gateway.{Entry}
 use Rattle.rule.specs.Rule.{items, listed}
 use Rattle.rule.proofs.Cases.{part-cases, number-cases}
+use Rattle.client.specs.declared.Refusal.the-variants.{Malformed}
 use Rattle.client.specs.Values.{grants}
 use Rattle.client.proofs.ByteLaws.{bytes-cons, bytes-append, be32-bytes, string-bytes}
 use Rattle.client.proofs.WriterTables.{not-granted}
 use Rattle.readers.specs.declared.Reach.{Reach}
-use Rattle.readers.specs.declared.Reach.the-variants.{End}
+use Rattle.readers.specs.declared.Reach.the-variants.{End, Fault}
 use Rattle.readers.specs.declared.identities.Listing.{Listing}
 use Rattle.readers.specs.Reaches.{reach}
 use Rattle.readers.specs.Values.{listingSays}
 use Rattle.readers.specs.Identities.{itemsAt, countOf, counted, itemAt, itemOf, blobOfItem, certificate, certificateEnd}
-use Rattle.readers.specs.Promises.{ItemForms, item, ListForm, CountRule, ItemRule, blobsOf, ListedIs, ListReplyRead, Marked, MarkRule}
+use Rattle.readers.specs.Promises.{ItemForms, item, ListForm, ItemFault, blob-cut, comment-cut, comment-no-text, ListFault, count-cut, item-cut, CountRule, ItemRule, blobsOf, ListedIs, ListReplyRead, Marked, MarkRule}
 use Rattle.readers.proofs.ReadSteps.{reach-cases, fault}
-use Rattle.readers.proofs.FormLaws.{lies-next, ends-rule, text-reads, took}
+use Rattle.readers.proofs.FormLaws.{lies-next, ends-rule, text-reads, took, string-missing, text-missing, no-text}
 
 -- ## Items
 
@@ -38,6 +39,18 @@ record First (s : List ℕ) (at : ℕ) (blob comment rest : List ℕ) : Type 0 w
   here : At s at blob
   passed : (n : ℕ) → itemsAt (suc n) s at ≡ itemsAt n s (behind (behind at blob) comment)
   next : drop (behind (behind at blob) comment) s ≡ rest
+
+-- item i of items that stand at a place: what stands before it, and behind its blob
+pub record Standing (s : List ℕ) (at : ℕ) (blobs : List (List ℕ)) (all : List ℕ) (i : ℕ) : Type 0 where
+  pub before : List ℕ
+  pub after : List ℕ
+  pub items : ItemForms (take i blobs) before
+  pub split : all ≡ before ++ (string (getD blobs i []) ++ after)
+  pub passed : itemsAt i s at ≡ End (at + length before)
+  pub here : At s (at + length before) (getD blobs i [])
+
+join : (a b c d e : List ℕ) → b ++ c ≡ d ++ e → (a ++ b) ++ c ≡ (a ++ d) ++ e
+join a b c d e h = append-assoc a b c ∙ ap (λ (t : List ℕ). a ++ t) h ∙ sym (append-assoc a d e)
 
 module _ (s : List ℕ) (small : Bytes s) where
   first : (at : ℕ) (blob comment forms rest : List ℕ) → length blob < 2 ^ 32 → length comment < 2 ^ 32 → Octets comment
@@ -50,25 +63,70 @@ module _ (s : List ℕ) (small : Bytes s) where
       record { here = a; passed = λ n. rw (a .read, c); next = q }
 
   -- what has the form is gone over
-  forms-passed : {blobs : List (List ℕ)} {forms : List ℕ} (at : ℕ) (rest : List ℕ) → ItemForms blobs forms → drop at s ≡ forms ++ rest
-      → itemsAt (length blobs) s at ≡ End (at + length forms)
-  unfolding itemsAt
-  forms-passed at rest ItemForms.none e = ap End (omega arith)
-  forms-passed at rest (item {blobs} {forms} blob comment h k o r) e =
+  pub forms-passed : {blobs : List (List ℕ)} {forms : List ℕ} (at m n : ℕ) (rest : List ℕ) → m ≡ length blobs + n → ItemForms blobs forms
+      → drop at s ≡ forms ++ rest → itemsAt m s at ≡ itemsAt n s (at + length forms)
+  forms-passed at m n rest z ItemForms.none e = let q : m ≡ n = omega arith in rw q (ap (itemsAt n s) (omega arith))
+  forms-passed at m n rest z (item {blobs} {forms} blob comment h k o r) e =
       let x = first at blob comment forms rest h k o e in
-      let n : behind (behind at blob) comment + length forms ≡ at + length (string blob ++ (string comment ++ forms)) = simp length-append (omega arith) in
-      x .passed (length blobs) ∙ forms-passed (behind (behind at blob) comment) rest r (x .next) ∙ ap End n
+      let q : m ≡ suc (length blobs + n) = omega arith in
+      let place : behind (behind at blob) comment + length forms ≡ at + length (string blob ++ (string comment ++ forms)) = simp length-append (omega arith) in
+      rw q
+      (x .passed (length blobs + n)
+      ∙ forms-passed (behind (behind at blob) comment) (length blobs + n) n rest refl r (x .next)
+      ∙ ap (itemsAt n s) place)
 
   -- and each blob stands where the items before it end
+  module _ (at : ℕ) (blob comment forms rest : List ℕ) (h : length blob < 2 ^ 32) (k : length comment < 2 ^ 32) (o : Octets comment)
+      (x : First s at blob comment (forms ++ rest)) (blobs : List (List ℕ)) where
+    stands-first : Standing s at (blob ∷ blobs) ((string blob ++ (string comment ++ forms)) ++ rest) 0
+    unfolding itemsAt
+    stands-first =
+        let start : at + 0 ≡ at = omega arith in
+        record {
+          before = [];
+          after = (string comment ++ forms) ++ rest;
+          items = ItemForms.none;
+          split = append-assoc (string blob) (string comment ++ forms) rest;
+          passed = ap End (sym start);
+          here = rw start (x .here);
+        }
+
+    stands-next : (i : ℕ) → Standing s (behind (behind at blob) comment) blobs (forms ++ rest) i
+        → Standing s at (blob ∷ blobs) ((string blob ++ (string comment ++ forms)) ++ rest) (suc i)
+    stands-next i y =
+        let front = y .before in
+        let tail = string (getD blobs i []) ++ y .after in
+        let place : behind (behind at blob) comment + length front ≡ at + length (string blob ++ (string comment ++ front)) = simp length-append (omega arith) in
+        record {
+          before = string blob ++ (string comment ++ front);
+          after = y .after;
+          items = item blob comment h k o (y .items);
+          split = join (string blob) (string comment ++ forms) rest (string comment ++ front) tail (join (string comment) forms rest front tail (y .split));
+          passed = x .passed i ∙ y .passed ∙ ap End place;
+          here = rw (← place) (y .here);
+        }
+
   pub forms-at : {blobs : List (List ℕ)} {forms : List ℕ} (at : ℕ) (rest : List ℕ) → ItemForms blobs forms → drop at s ≡ forms ++ rest
-      → (i : ℕ) → i < length blobs → (place : ℕ) × (itemsAt i s at ≡ End place) × At s place (getD blobs i [])
-  unfolding itemsAt
+      → (i : ℕ) → i < length blobs → Standing s at blobs (forms ++ rest) i
   forms-at at rest ItemForms.none e i h = absurd (omega arith)
-  forms-at at rest (item {blobs} {forms} blob comment h k o r) e zero l = (at, refl, first at blob comment forms rest h k o e .here)
+  forms-at at rest (item {blobs} {forms} blob comment h k o r) e zero l = stands-first at blob comment forms rest h k o (first at blob comment forms rest h k o e) blobs
   forms-at at rest (item {blobs} {forms} blob comment h k o r) e (suc i) l =
       let x = first at blob comment forms rest h k o e in
-      let (place, p, a) = forms-at (behind (behind at blob) comment) rest r (x .next) i (omega arith) in
-      (place, x .passed i ∙ p, a)
+      stands-next at blob comment forms rest h k o x blobs i (forms-at (behind (behind at blob) comment) rest r (x .next) i (omega arith))
+
+  -- where no item stands, going over items stops
+  item-fault : {rest : List ℕ} {place : ℕ} (at n : ℕ) → ItemFault at rest place → drop at s ≡ rest → itemsAt (suc n) s at ≡ Fault place
+  unfolding itemsAt part
+  item-fault at n (blob-cut rest never) e = rw (string-missing s small at (rw e never))
+  item-fault at n (comment-cut blob rest h never) e =
+      let (a, r) = string-stands small {at = at} blob rest h e in
+      let place : behind at blob ≡ at + 4 + length blob = omega arith in
+      rw (a .read, text-missing s small (behind at blob) (rw r never)) (ap Fault place)
+  item-fault at n (comment-no-text blob comment rest m h k never l) e =
+      let (a, r) = string-stands small {at = at} blob (string comment ++ rest) h e in
+      let b = string-stands small {at = behind at blob} comment rest k r .0 in
+      let place : behind at blob + 4 + m ≡ at + 4 + length blob + 4 + m = omega arith in
+      rw (a .read, no-text b never l) (ap Fault place)
 
 -- items lie in s from a place up to another
 record Walked (s : List ℕ) (n at end : ℕ) : Type 0 where
@@ -129,11 +187,24 @@ counted-lists p n small =
     ))
 
 pub lists-counted : (p : List ℕ) (blobs : List (List ℕ)) → Bytes p → ListForm p blobs → countOf (12 ∷ p) ≡ Listing.Count (length blobs)
-unfolding countOf so number reach
+unfolding countOf itemsAt so number reach
 lists-counted p blobs small l =
     let s : List ℕ = 12 ∷ p in
     let (e, r) = number-form s 1 (length blobs) (l .forms ++ l .rest) (twelve p small) (l .few) .0 (l .shape) in
-    rw (some-there 12 p, e, forms-passed s (twelve p small) 5 (l .rest) (l .whole) r)
+    rw (some-there 12 p, e, forms-passed s (twelve p small) 5 (length blobs) 0 (l .rest) (omega arith) (l .whole) r)
+
+-- a list that is malformed, by where
+pub lists-fault : (p : List ℕ) (place : ℕ) → Bytes p → ListFault p place → countOf (12 ∷ p) ≡ Listing.Refused (Malformed place)
+unfolding countOf so number reach
+lists-fault p place small (count-cut q h) = rw (some-there 12 q, ← number-cut (12 ∷ q) 1 (omega arith))
+lists-fault p place small (item-cut {blobs} {forms} {rest} n at l few whole f) =
+    let q : List ℕ = be32 n ++ (forms ++ rest) in
+    let s : List ℕ = 12 ∷ q in
+    let (e, r) = number-form s 1 n (forms ++ rest) (twelve q small) l .0 refl in
+    let left : ℕ = n - length blobs - 1 in
+    let passed = forms-passed s (twelve q small) 5 n (suc left) rest (omega arith) whole r in
+    let behind = lies-at s 5 forms rest (omega arith) r .1 in
+    rw (some-there 12 q, e, passed, item-fault s (twelve q small) (5 + length forms) left f behind)
 
 pub count-rule : CountRule
 count-rule p n small = (counted-lists p n small, λ (blobs, l, e). rw (← e) (ap listingSays (lists-counted p blobs small l)))
@@ -143,8 +214,8 @@ unfolding blobOfItem itemOf counted so reach itemAt part
 item-rule p blobs small l i h =
     let s : List ℕ = 12 ∷ p in
     let (e, r) = number-form s 1 (length blobs) (l .forms ++ l .rest) (twelve p small) (l .few) .0 (l .shape) in
-    let (place, q, a) = forms-at s (twelve p small) 5 (l .rest) (l .whole) r i h in
-    rw (lists-counted p blobs small l, lt-ltb i (length blobs) h, q, a .read) (lies-cut (inside a))
+    let x = forms-at s (twelve p small) 5 (l .rest) (l .whole) r i h in
+    rw (lists-counted p blobs small l, lt-ltb i (length blobs) h, x .passed, x .here .read) (lies-cut (inside (x .here)))
 
 -- ## The gateway's list reply
 

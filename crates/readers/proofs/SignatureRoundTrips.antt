@@ -62,14 +62,16 @@ not-started t start other = go (startsIn t start) refl
     go true e = let (w, is) = starts-rule t start .0 e in absurd (other w is)
     go false e = refl
 
+pub octet-at : (s : List ℕ) (at b : ℕ) (rest : List ℕ) → drop at s ≡ b ∷ rest → byteAt s at ≡ Octet.Value b (record { at = at + 1 })
+octet-at s at b rest e = answers-apart .octets (byteAt s at) (Octet.Value b (record { at = at + 1 })) (byte-rule s at b rest .0 e .0)
+
 module _ (s : List ℕ) (small : Bytes s) where
   -- flags and a counter
   touched-read : (at flags counter : ℕ) (rest : List ℕ) → counter < 2 ^ 32 → drop at s ≡ (flags ∷ be32 counter) ++ rest → touchedEnd s at ≡ End (at + 1 + 4)
   unfolding touchedEnd byte number
   touched-read at flags counter rest h e =
-      let (b, r) = byte-rule s at flags (be32 counter ++ rest) .0 e in
-      let c : byteAt s at ≡ Octet.Value flags (record { at = at + 1 }) = answers-apart .octets (byteAt s at) (Octet.Value flags (record { at = at + 1 })) b in
-      rw (c, number-form s (at + 1) counter rest small h .0 r .0)
+      let r = byte-rule s at flags (be32 counter ++ rest) .0 e .1 in
+      rw (octet-at s at flags (be32 counter ++ rest) e, number-form s (at + 1) counter rest small h .0 r .0)
 
   signature-read : {t x : List ℕ} (at hash : ℕ) (rest : List ℕ) → SignatureForm t x → Fitting hash t → length x < 2 ^ 32 → drop at s ≡ x ++ rest
       → signatureAt s at hash ≡ Whole at (at + length x)

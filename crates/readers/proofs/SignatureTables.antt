@@ -1,7 +1,7 @@
 -- When each answer of the signature reader comes: what was read up to a test has the draft's form, and the test then decides; bytes are below 256.
-use Prim.Native.Nat.{ℕ, _^_, _≤_, _<_}
-use mathlib.Core.Path.{_≡_, refl, ap, _∙_}
-use mathlib.Core.List.{List, [], _∷_, _++_}
+use Prim.Native.Nat.{ℕ, _+_, _^_, _≤_, _<_}
+use mathlib.Core.Path.{_≡_, refl, sym, ap, _∙_}
+use mathlib.Core.List.{List, [], _∷_, _++_, append-nil}
 use mathlib.Core.Bool.{Bool, true, false}
 use mathlib.Core.Logic.{⊎-elim}
 use native.Mathlib.Omega.{arith}
@@ -11,24 +11,26 @@ use Rattle.wire.specs.Numbers.{Bytes}
 use Rattle.wire.specs.Texts.{bytes}
 use Rattle.wire.specs.Abnf.{Octets}
 use Rattle.wire.specs.Read.{cutOf, stringAt, textAt}
-use Rattle.wire.specs.Steps.{so, part}
+use Rattle.wire.specs.Steps.{so, byte, number, part}
 use Rattle.wire.specs.Write.{string}
-use Rattle.wire.proofs.Reading.{le-or-lt}
-use Rattle.keys.proofs.FieldLaws.{Lies, lies-cut, lies-bytes, behind, found, At, inside, string-stands, string-reads}
+use Rattle.wire.proofs.Reading.{le-or-lt, byte-cut, number-cut}
+use Rattle.keys.proofs.FieldLaws.{Lies, lies-cut, lies-bytes, behind, At, inside, string-stands, string-reads}
 use Rattle.rule.specs.Order.{Begins}
 use Rattle.rule.proofs.Cases.{part-cases}
 use Rattle.client.specs.declared.Refusal.the-variants.{OutputTooShort, Malformed, UnfitType}
 use Rattle.client.specs.declared.Wrote.{Wrote}
+use Rattle.client.specs.Refusals.{Where, no-place, at-place}
 use Rattle.client.specs.Values.{refuses, wroteSays}
 use Rattle.client.proofs.WriterTables.{granted}
+use Rattle.readers.specs.declared.Reach.the-variants.{Fault}
 use Rattle.readers.specs.declared.signature.Signature.{Signature}
 use Rattle.readers.specs.declared.signature.Signature.the-variants.{Whole}
 use Rattle.readers.specs.Reaches.{reach}
-use Rattle.readers.specs.Signatures.{fits, startsIn, signatureEnd, signatureAt, replyAt, stringAnswer, stringLeft, wroteOf, leftOf, signatureAnswer, signatureLeft}
-use Rattle.readers.specs.Promises.{Fitting, CarriesSignature, Typed, SignatureTable}
+use Rattle.readers.specs.Signatures.{fits, startsIn, touchedEnd, signatureEnd, signatureAt, replyAt, stringAnswer, stringLeft, wroteOf, leftOf, signatureAnswer, signatureLeft}
+use Rattle.readers.specs.Promises.{NoString, Fitting, CarriesSignature, Typed, SignatureFault, string-cut, type-cut, type-no-text, signature-cut, flags-cut, counter-cut, SignatureTable}
 use Rattle.readers.proofs.ReadSteps.{reach-cases}
-use Rattle.readers.proofs.FormLaws.{text-reads, took}
-use Rattle.readers.proofs.SignatureRoundTrips.{fit-rule, signature-rule, end-taken}
+use Rattle.readers.proofs.FormLaws.{starts-rule, text-reads, took, string-missing, text-missing, no-text}
+use Rattle.readers.proofs.SignatureRoundTrips.{fit-rule, octet-at, signature-rule, end-taken}
 
 not-fit : (hash : ℕ) (t : List ℕ) → (Fitting hash t → ⊥) → fits hash t ≡ false
 not-fit hash t never = go (fits hash t) refl
@@ -40,11 +42,11 @@ not-fit hash t never = go (fits hash t) refl
 module _ (hash : ℕ) (out : List ℕ) where
   -- ## The first byte
 
-  failed : (payload : List ℕ) → Begins 5 payload → wroteSays (signatureAnswer payload hash out) ≡ refuses 14
+  failed : (payload : List ℕ) → Begins 5 payload → wroteSays (signatureAnswer payload hash out) ≡ refuses 14 no-place
   unfolding signatureAnswer replyAt so
   failed payload b = rw (lt-ltb 0 (length payload) (b .some-byte), b .first)
 
-  other-reply : (payload : List ℕ) → (Begins 5 payload → ⊥) → (Begins 14 payload → ⊥) → wroteSays (signatureAnswer payload hash out) ≡ refuses 15
+  other-reply : (payload : List ℕ) → (Begins 5 payload → ⊥) → (Begins 14 payload → ⊥) → wroteSays (signatureAnswer payload hash out) ≡ refuses 15 no-place
   unfolding signatureAnswer replyAt so
   other-reply payload p q =
       ⊎-elim
@@ -57,12 +59,12 @@ module _ (hash : ℕ) (out : List ℕ) where
 
   -- inside the reply's string
   no-text-there : (payload y tail whole : List ℕ) (at : ℕ) → whole ≡ 14 ∷ string y → at ≡ 5 → Bytes (14 ∷ string y) → length y < 2 ^ 32
-      → payload ≡ 14 ∷ (string y ++ tail) → ((t : List ℕ) → Typed payload t → ⊥) → wroteSays (wroteOf payload out (signatureAt whole at hash)) ≡ refuses 12
+      → payload ≡ 14 ∷ (string y ++ tail) → ((t : List ℕ) → Typed payload t → ⊥) → (place : ℕ) × (wroteSays (wroteOf payload out (signatureAt whole at hash)) ≡ refuses 12 (at-place place))
   unfolding signatureAt
   no-text-there payload y tail whole at cut from small l is never =
       let s : List ℕ = 14 ∷ string y in
       rw (cut, from)
-      (part-cases (λ (r : Signature). wroteSays (wroteOf payload out r) ≡ refuses 12) (textAt s 5) (λ _ _. refl) λ f t k e.
+      (part-cases (λ (r : Signature). (place : ℕ) × (wroteSays (wroteOf payload out r) ≡ refuses 12 (at-place place))) (textAt s 5) (λ at _. (at, refl)) λ f t k e.
       let x = took small {at = 5} (text-reads small) f t k e in
       let split : y ≡ string (x .v) ++ drop t s = x .lies .shape in
       absurd (never (x .v)
@@ -74,18 +76,18 @@ module _ (hash : ℕ) (out : List ℕ) where
         shape = is ∙ ap (λ (v : List ℕ). 14 ∷ (string v ++ tail)) split;
       })))
 
-  fourteen : (p : List ℕ) → Bytes (14 ∷ p) → ((t : List ℕ) → Typed (14 ∷ p) t → ⊥) → wroteSays (signatureAnswer (14 ∷ p) hash out) ≡ refuses 12
+  fourteen : (p : List ℕ) → Bytes (14 ∷ p) → ((t : List ℕ) → Typed (14 ∷ p) t → ⊥) → (place : ℕ) × (wroteSays (signatureAnswer (14 ∷ p) hash out) ≡ refuses 12 (at-place place))
   unfolding signatureAnswer replyAt so
   fourteen p small never =
       let payload : List ℕ = 14 ∷ p in
       rw (lt-ltb 0 (length payload) (omega arith))
-      (part-cases (λ (r : Signature). wroteSays (wroteOf payload out r) ≡ refuses 12) (stringAt payload 1) (λ _ _. refl) λ g u k e.
+      (part-cases (λ (r : Signature). (place : ℕ) × (wroteSays (wroteOf payload out r) ≡ refuses 12 (at-place place))) (stringAt payload 1) (λ _ _. (1, refl)) λ g u k e.
       let y = took small {at = 1} (string-reads small) g u k e in
       let is : payload ≡ 14 ∷ (string (y .v) ++ drop u payload) = ap (λ (l : List ℕ). 14 ∷ l) (y .lies .shape) in
       let front : Lies payload 0 (14 ∷ string (y .v)) u = record { end = omega (arith, y .lies .end); within = y .lies .within; shape = is } in
       no-text-there payload (y .v) (drop u payload) (cutOf payload 0 u) g (lies-cut front) (y .from) (lies-bytes front small) (y .small) is never)
 
-  no-type-there : (payload : List ℕ) → Bytes payload → Begins 14 payload → ((t : List ℕ) → Typed payload t → ⊥) → wroteSays (signatureAnswer payload hash out) ≡ refuses 12
+  no-type-there : (payload : List ℕ) → Bytes payload → Begins 14 payload → ((t : List ℕ) → Typed payload t → ⊥) → (place : ℕ) × (wroteSays (signatureAnswer payload hash out) ≡ refuses 12 (at-place place))
   no-type-there [] small b never = absurd (omega (arith, b .some-byte))
   no-type-there (b ∷ p) small begins never =
       let is : b ≡ 14 = begins .first in
@@ -93,44 +95,54 @@ module _ (hash : ℕ) (out : List ℕ) where
 
 -- ## Behind the type
 
+-- a string was read: what is left is read inside it
+record Enters (payload : List ℕ) (hash : ℕ) (y : List ℕ) : Type 0 where
+  small : Bytes (14 ∷ string y)
+  goes-in : replyAt payload hash ≡ signatureAt (14 ∷ string y) 5 hash
+
+enters : (hash : ℕ) (y tail : List ℕ) → length y < 2 ^ 32 → Bytes (14 ∷ (string y ++ tail)) → Enters (14 ∷ (string y ++ tail)) hash y
+unfolding replyAt so part
+enters hash y tail l small =
+    let payload : List ℕ = 14 ∷ (string y ++ tail) in
+    let a : At payload 1 y = string-stands small y tail l refl .0 in
+    let front : Lies payload 0 (14 ∷ string y) (behind 1 y) =
+    record { end = omega arith; within = a .lies .within; shape = ap (λ (x : List ℕ). 14 ∷ x) (a .lies .shape) } in
+    record { small = lies-bytes front small; goes-in = rw (lt-ltb 0 (length payload) (omega arith), a .read, lies-cut front) }
+
 -- a type was read: what is left to be tested, inside the reply's string
 record Continues (payload : List ℕ) (hash : ℕ) (t rest : List ℕ) : Type 0 where
   small : Bytes (14 ∷ string (string t ++ rest))
   lies : Lies (14 ∷ string (string t ++ rest)) 5 (string t) (behind 5 t)
+  next : drop (behind 5 t) (14 ∷ string (string t ++ rest)) ≡ rest
   goes-on : replyAt payload hash
       ≡ so (Signature.Refused UnfitType) (fits hash t)
       (reach (λ place. Signature.Refused (Malformed place)) (signatureEnd (14 ∷ string (string t ++ rest)) (behind 5 t) (startsIn t (bytes "sk-"))) (λ end. Whole 5 end))
 
 continues : (hash : ℕ) (t rest tail : List ℕ) → Octets t → length (string t ++ rest) < 2 ^ 32 → Bytes (14 ∷ (string (string t ++ rest) ++ tail))
     → Continues (14 ∷ (string (string t ++ rest) ++ tail)) hash t rest
-unfolding replyAt signatureAt so part
+unfolding signatureAt part
 continues hash t rest tail o l small =
-    let y : List ℕ = string t ++ rest in
-    let s : List ℕ = 14 ∷ string y in
-    let payload : List ℕ = 14 ∷ (string y ++ tail) in
+    let x = enters hash (string t ++ rest) tail l small in
     let n = simp length-append at l in
-    let a : At payload 1 y = string-stands small y tail l refl .0 in
-    let front : Lies payload 0 s (behind 1 y) = record { end = omega arith; within = a .lies .within; shape = ap (λ (x : List ℕ). 14 ∷ x) (a .lies .shape) } in
-    let inner : Bytes s = lies-bytes front small in
-    let b : At s 5 t = string-stands inner {at = 5} t rest (omega arith) refl .0 in
-    let c : textAt s 5 ≡ found 5 t = text-reads inner .takes b o in
-    record { small = inner; lies = b .lies; goes-on = rw (lt-ltb 0 (length payload) (omega arith), a .read, lies-cut front, c, lies-cut (inside b)) }
+    let (b, r) = string-stands (x .small) {at = 5} t rest (omega arith) refl in
+    let c = text-reads (x .small) .takes b o in
+    record { small = x .small; lies = b .lies; next = r; goes-on = x .goes-in ∙ rw (c, lies-cut (inside b)) }
 
 module _ (payload : List ℕ) (hash : ℕ) (out : List ℕ) (small : Bytes payload) (t : List ℕ) (typed : Typed payload t) where
   typed-continues : Continues payload hash t (typed .rest)
   typed-continues = rw (typed .shape) (continues hash t (typed .rest) (typed .behind) (typed .text) (typed .small) (rw (typed .shape) at small))
 
-  unfit-there : (Fitting hash t → ⊥) → wroteSays (signatureAnswer payload hash out) ≡ refuses 13
+  unfit-there : (Fitting hash t → ⊥) → wroteSays (signatureAnswer payload hash out) ≡ refuses 13 no-place
   unfolding signatureAnswer so
   unfit-there never = rw (typed-continues .goes-on, not-fit hash t never)
 
-  none-there : Fitting hash t → ((signature : List ℕ) → CarriesSignature payload t signature → ⊥) → wroteSays (signatureAnswer payload hash out) ≡ refuses 12
+  none-there : Fitting hash t → ((signature : List ℕ) → CarriesSignature payload t signature → ⊥) → (place : ℕ) × (wroteSays (signatureAnswer payload hash out) ≡ refuses 12 (at-place place))
   unfolding signatureAnswer so
   none-there fit never =
       let s : List ℕ = 14 ∷ string (string t ++ typed .rest) in
       let c = typed-continues in
       rw (c .goes-on, fit-rule hash t .1 fit)
-      (reach-cases (λ (r : Signature). wroteSays (wroteOf payload out r) ≡ refuses 12) (signatureEnd s (behind 5 t) (startsIn t (bytes "sk-"))) (λ _. refl) λ end e.
+      (reach-cases (λ (r : Signature). (place : ℕ) × (wroteSays (wroteOf payload out r) ≡ refuses 12 (at-place place))) (signatureEnd s (behind 5 t) (startsIn t (bytes "sk-"))) (λ place. (place, refl)) λ end e.
       let y = end-taken s (c .small) 5 (behind 5 t) t end (typed .text) (c .lies) e in
       let split : string t ++ typed .rest ≡ y .signature ++ drop end s = y .lies .shape in
       absurd (never (y .signature)
@@ -142,21 +154,100 @@ module _ (payload : List ℕ) (hash : ℕ) (out : List ℕ) (small : Bytes paylo
         shape = typed .shape ∙ ap (λ (v : List ℕ). 14 ∷ (string v ++ typed .behind)) split;
       })))
 
+-- ## Where a reply is malformed
+
+-- behind a type that fits the hash
+module _ (hash : ℕ) (t rest tail : List ℕ) (o : Octets t) (l : length (string t ++ rest) < 2 ^ 32) (small : Bytes (14 ∷ (string (string t ++ rest) ++ tail)))
+    (fit : Fitting hash t) where
+  stops : (touched : Bool) (place : ℕ) → startsIn t (bytes "sk-") ≡ touched → signatureEnd (14 ∷ string (string t ++ rest)) (behind 5 t) touched ≡ Fault place
+      → replyAt (14 ∷ (string (string t ++ rest) ++ tail)) hash ≡ Signature.Refused (Malformed place)
+  unfolding so reach
+  stops touched place is e = continues hash t rest tail o l small .goes-on ∙ rw (fit-rule hash t .1 fit, is, e)
+
+  no-signature-there : NoString rest → replyAt (14 ∷ (string (string t ++ rest) ++ tail)) hash ≡ Signature.Refused (Malformed (9 + length t))
+  unfolding signatureEnd part
+  no-signature-there never =
+      let c = continues hash t rest tail o l small in
+      let place : behind 5 t ≡ 9 + length t = omega arith in
+      stops (startsIn t (bytes "sk-")) (9 + length t) refl
+      (rw (string-missing (14 ∷ string (string t ++ rest)) (c .small) (behind 5 t) (rw (c .next) never)) (ap Fault place))
+
+-- behind the signature of a touch key
+abbrev touch : List ℕ → List ℕ
+touch w = bytes "sk-" ++ w
+
+module _ (hash : ℕ) (w sig rest more tail : List ℕ) (is : rest ≡ string sig ++ more) (o : Octets (touch w)) (l : length (string (touch w) ++ rest) < 2 ^ 32)
+    (small : Bytes (14 ∷ (string (string (touch w) ++ rest) ++ tail))) (fit : Fitting hash (touch w)) where
+  -- where it ends
+  record Ends : Type 0 where
+    next : drop (behind (behind 5 (touch w)) sig) (14 ∷ string (string (touch w) ++ rest)) ≡ more
+    stops-at : (place : ℕ) → touchedEnd (14 ∷ string (string (touch w) ++ rest)) (behind (behind 5 (touch w)) sig) ≡ Fault place
+        → replyAt (14 ∷ (string (string (touch w) ++ rest) ++ tail)) hash ≡ Signature.Refused (Malformed place)
+
+  ends : Ends
+  unfolding signatureEnd part so
+  ends =
+      let c = continues hash (touch w) rest tail o l small in
+      let n = simp length-append at l in
+      let m = simp length-append at (ap length is) in
+      let (b, r) = string-stands (c .small) {at = behind 5 (touch w)} sig more (omega arith) (c .next ∙ is) in
+      record { next = r; stops-at = λ place e. stops hash (touch w) rest tail o l small fit true place (starts-rule (touch w) (bytes "sk-") .1 (w, refl)) (rw (b .read) e) }
+
+touch-none : (s : List ℕ) (at : ℕ) → length s ≤ at → touchedEnd s at ≡ Fault at
+unfolding touchedEnd byte
+touch-none s at h = rw (← byte-cut s at h)
+
+touch-short : (s : List ℕ) (at flags : ℕ) (rest : List ℕ) → drop at s ≡ flags ∷ rest → length s < at + 1 + 4 → touchedEnd s at ≡ Fault (at + 1)
+unfolding touchedEnd byte number
+touch-short s at flags rest e h = rw (octet-at s at flags rest e, ← number-cut s (at + 1) h)
+
+pub fault-there : (hash : ℕ) (p : List ℕ) (place : ℕ) → Bytes (14 ∷ p) → SignatureFault hash p place → replyAt (14 ∷ p) hash ≡ Signature.Refused (Malformed place)
+unfolding replyAt signatureAt so part
+fault-there hash p place small (string-cut q never) = rw (lt-ltb 0 (length (14 ∷ q)) (omega arith), string-missing (14 ∷ q) small 1 never)
+fault-there hash p place small (type-cut v tail l never) =
+    let x = enters hash v tail l small in x .goes-in ∙ rw (text-missing (14 ∷ string v) (x .small) 5 never)
+fault-there hash p place small (type-no-text t rest tail n l never long) =
+    let x = enters hash (string t ++ rest) tail l small in
+    let m = simp length-append at l in
+    let b : At (14 ∷ string (string t ++ rest)) 5 t = string-stands (x .small) {at = 5} t rest (omega arith) refl .0 in
+    x .goes-in ∙ rw (no-text b never long)
+fault-there hash p place small (signature-cut t rest tail l o fit never) = no-signature-there hash t rest tail o l small fit never
+fault-there hash p place small (flags-cut w sig tail l o fit) =
+    let t = touch w in
+    let at = behind (behind 5 t) sig in
+    let s : List ℕ = 14 ∷ string (string t ++ string sig) in
+    let n : length (string t ++ string sig) ≡ 4 + length t + 4 + length sig = simp length-append (omega arith) in
+    let end : at ≡ 9 + length t + 4 + length sig = omega arith in
+    ends hash w sig (string sig) [] tail (sym (append-nil (string sig))) o l small fit .stops-at _ (touch-none s at (omega arith) ∙ ap Fault end)
+fault-there hash p place small (counter-cut w sig rest tail flags l o fit h) =
+    let t = touch w in
+    let at = behind (behind 5 t) sig in
+    let s : List ℕ = 14 ∷ string (string t ++ (string sig ++ (flags ∷ rest))) in
+    let x = ends hash w sig (string sig ++ (flags ∷ rest)) (flags ∷ rest) tail refl o l small fit in
+    let n : length (string t ++ (string sig ++ (flags ∷ rest))) ≡ 4 + length t + 4 + length sig + 1 + length rest = simp length-append (omega arith) in
+    let end : at + 1 ≡ 9 + length t + 4 + length sig + 1 = omega arith in
+    x .stops-at _ (touch-short s at flags rest (x .next) (omega arith) ∙ ap Fault end)
+
 -- ## Refusals
 
-module _ (payload : List ℕ) (hash : ℕ) (out : List ℕ) (n : ℕ) where
-  short-left : (b : Bool) (m : ℕ) (left : List ℕ) → wroteSays (so (Wrote.Refused OutputTooShort) b (Wrote.Written m)) ≡ refuses n → so out b left ≡ out
+module _ (payload : List ℕ) (hash : ℕ) (out : List ℕ) (n : ℕ) (w : Where) where
+  short-left : (b : Bool) (m : ℕ) (left : List ℕ) → wroteSays (so (Wrote.Refused OutputTooShort) b (Wrote.Written m)) ≡ refuses n w → so out b left ≡ out
   unfolding so
   short-left true m left e = granted e
   short-left false m left e = refl
 
-  refused-left : wroteSays (signatureAnswer payload hash out) ≡ refuses n → signatureLeft payload hash out ≡ out
+  refused-left : wroteSays (signatureAnswer payload hash out) ≡ refuses n w → signatureLeft payload hash out ≡ out
   unfolding signatureAnswer signatureLeft stringAnswer stringLeft
   refused-left = go (replyAt payload hash)
     where
-      go : (r : Signature) → wroteSays (wroteOf payload out r) ≡ refuses n → leftOf payload out r ≡ out
+      go : (r : Signature) → wroteSays (wroteOf payload out r) ≡ refuses n w → leftOf payload out r ≡ out
       go (Whole f t) e = short-left _ _ _ e
       go (Signature.Refused why) e = refl
+
+fault-answered : (hash : ℕ) (out p : List ℕ) (place : ℕ) → Bytes (14 ∷ p) → SignatureFault hash p place
+    → wroteSays (signatureAnswer (14 ∷ p) hash out) ≡ refuses 12 (at-place place)
+unfolding signatureAnswer
+fault-answered hash out p place small f = rw (fault-there hash p place small f)
 
 pub signature-table : SignatureTable
 signature-table payload hash out small = record {
@@ -165,6 +256,7 @@ signature-table payload hash out small = record {
   no-type = no-type-there hash out payload small;
   unfit = unfit-there payload hash out small;
   no-signature = none-there payload hash out small;
+  fault-at = λ p place e f. rw e (fault-answered hash out p place (rw e at small) f);
   short = λ t signature fit c h. signature-rule payload hash t signature out small fit c .short h;
   written = λ t signature fit c h. signature-rule payload hash t signature out small fit c .written h;
   untouched = refused-left payload hash out;

@@ -1,25 +1,24 @@
 -- What the readers of the two replies promise, as statements; the proofs are in proofs/.
-use Prim.Native.Nat.{ℕ, _^_, _≤_, _<_}
+use Prim.Native.Nat.{ℕ, _+_, _^_, _≤_, _<_}
 use mathlib.Core.Path.{_≡_}
 use mathlib.Core.List.{List, [], _∷_, _++_, map}
 use mathlib.Core.Bool.{true}
 use mathlib.Core.Logic.{_↔_}
-use lib.ListN.{length, getD}
+use lib.ListN.{length, getD, take}
 use Rattle.wire.specs.Numbers.{Bytes, be32}
 use Rattle.wire.specs.Texts.{bytes}
 use Rattle.wire.specs.Abnf.{Octets}
-use Rattle.wire.specs.Read.{cutOf}
 use Rattle.wire.specs.Write.{write, string}
+use Rattle.wire.specs.Promises.{OneToOne, Longest}
 use Rattle.rule.specs.Gateway.{Entry, Place}
 use Rattle.rule.specs.Order.{Begins}
 use Rattle.rule.specs.Rule.{live, items, listed, signatureReply}
-use Rattle.client.specs.declared.Refusal.{Refusal}
-use Rattle.client.specs.Refusals.{refusalNumber}
-use Rattle.client.specs.Values.{grants, refuses, wroteSays}
+use Rattle.client.specs.Refusals.{Where, no-place, at-place}
+use Rattle.client.specs.Values.{Says, grants, refuses, wroteSays}
 use Rattle.readers.specs.declared.identities.Listing.{Listing}
 use Rattle.readers.specs.declared.identities.Item.{Item}
 use Rattle.readers.specs.Values.{listingSays, Identity, itemSays}
-use Rattle.readers.specs.Identities.{countOf, certificateEnd, certificate, itemOf, blobOfItem}
+use Rattle.readers.specs.Identities.{countOf, certificateEnd, certificate, itemOf, blobOfItem, blobFrom}
 use Rattle.readers.specs.Signatures.{fits, signatureAnswer, signatureLeft}
 
 -- ## The list of keys
@@ -46,33 +45,64 @@ CountRule = (p : List ℕ) (n : ℕ) → Bytes p → (listingSays (countOf (12 �
 abbrev pub ItemRule : Type 0
 ItemRule = (p : List ℕ) (blobs : List (List ℕ)) → Bytes p → ListForm p blobs → (i : ℕ) → i < length blobs → blobOfItem (12 ∷ p) i ≡ getD blobs i []
 
+-- no string stands at the front of the bytes
+abbrev pub NoString : List ℕ → Type 0
+NoString s = (v rest : List ℕ) → length v < 2 ^ 32 → s ≡ string v ++ rest → ⊥
+
+-- no item stands in bytes that begin at a place, and where the fault is: at a length, or where a comment's longest part of UTF-8 ends
+pub data ItemFault (at : ℕ) : List ℕ → ℕ → Type 0 where
+  blob-cut : (s : List ℕ) → NoString s → ItemFault at s at
+  comment-cut : (blob s : List ℕ) → length blob < 2 ^ 32 → NoString s → ItemFault at (string blob ++ s) (at + 4 + length blob)
+  comment-no-text : (blob comment rest : List ℕ) (n : ℕ) → length blob < 2 ^ 32 → length comment < 2 ^ 32 → (Octets comment → ⊥) → Longest comment n
+      → ItemFault at (string blob ++ (string comment ++ rest)) (at + 4 + length blob + 4 + n)
+
+-- behind the 12 stands no count, or behind whole items, fewer than the count says, no item
+pub data ListFault : List ℕ → ℕ → Type 0 where
+  count-cut : (p : List ℕ) → length p < 4 → ListFault p 1
+  item-cut : {blobs : List (List ℕ)} {forms rest : List ℕ} (n place : ℕ) → n < 2 ^ 32 → length blobs < n → ItemForms blobs forms
+      → ItemFault (5 + length forms) rest place → ListFault (be32 n ++ (forms ++ rest)) place
+
 -- when each answer comes: "payload empty or not type 12: count 0"; "identities 12, 16"
 pub record ListSays (payload : List ℕ) : Type 0 where
   pub other : ((p : List ℕ) → payload ≡ 12 ∷ p → ⊥) → listingSays (countOf payload) ≡ grants 0
-  pub faulty : (p : List ℕ) → payload ≡ 12 ∷ p → ((blobs : List (List ℕ)) → ListForm p blobs → ⊥) → listingSays (countOf payload) ≡ refuses 12
+  pub faulty : (p : List ℕ) → payload ≡ 12 ∷ p → ((blobs : List (List ℕ)) → ListForm p blobs → ⊥)
+      → (place : ℕ) × (listingSays (countOf payload) ≡ refuses 12 (at-place place))
+  pub fault-at : (p : List ℕ) (place : ℕ) → payload ≡ 12 ∷ p → ListFault p place → listingSays (countOf payload) ≡ refuses 12 (at-place place)
   pub counts : (p : List ℕ) (blobs : List (List ℕ)) → payload ≡ 12 ∷ p → ListForm p blobs → listingSays (countOf payload) ≡ grants (length blobs)
 
 abbrev pub ListTable : Type 0
 ListTable = (payload : List ℕ) → Bytes payload → ListSays payload
 
--- and of each item; its blob is "empty unless granted"
+-- item i of a list: behind as many whole items stands its blob's length, and then its blob
+pub record ItemLies (p : List ℕ) (blobs : List (List ℕ)) (i from : ℕ) : Type 0 where
+  pub forms : List ℕ
+  pub rest : List ℕ
+  pub before : ItemForms (take i blobs) forms
+  pub shape : p ≡ be32 (length blobs) ++ (forms ++ (string (getD blobs i []) ++ rest))
+  pub behind : from ≡ 5 + length forms + 4
+
+-- an item is handed out: its blob, where it lies
+pub record HandsOut (payload : List ℕ) (i : ℕ) (blob : List ℕ) (from : ℕ) : Type 0 where
+  pub says : itemSays (itemOf payload i) ≡ grants (record { from = from; to = from + length blob; marked = certificate blob })
+  pub bytes : blobOfItem payload i ≡ blob
+  pub place : blobFrom payload i ≡ from
+
+-- and of each item; its blob is "empty unless granted", and then lies at the start
 pub record ItemSays (payload : List ℕ) (i : ℕ) : Type 0 where
-  pub faulty : listingSays (countOf payload) ≡ refuses 12 → itemSays payload (itemOf payload i) ≡ refuses 12
-  pub beyond : (n : ℕ) → listingSays (countOf payload) ≡ grants n → n ≤ i → itemSays payload (itemOf payload i) ≡ refuses 16
+  pub faulty : (place : ℕ) → listingSays (countOf payload) ≡ refuses 12 (at-place place) → itemSays (itemOf payload i) ≡ refuses 12 (at-place place)
+  pub beyond : (n : ℕ) → listingSays (countOf payload) ≡ grants n → n ≤ i → itemSays (itemOf payload i) ≡ refuses 16 no-place
   pub item : (p : List ℕ) (blobs : List (List ℕ)) → payload ≡ 12 ∷ p → ListForm p blobs → i < length blobs
-      → itemSays payload (itemOf payload i) ≡ grants (record { blob = getD blobs i []; marked = certificate (getD blobs i []) })
-  pub else-empty : (n : ℕ) → itemSays payload (itemOf payload i) ≡ refuses n → blobOfItem payload i ≡ []
+      → (from : ℕ) × ItemLies p blobs i from × HandsOut payload i (getD blobs i []) from
+  pub else-empty : (n : ℕ) (w : Where) → itemSays (itemOf payload i) ≡ refuses n w → blobOfItem payload i ≡ []
+  pub else-start : (n : ℕ) (w : Where) → itemSays (itemOf payload i) ≡ refuses n w → blobFrom payload i ≡ 0
 
 abbrev pub ItemTable : Type 0
 ItemTable = (payload : List ℕ) (i : ℕ) → Bytes payload → ItemSays payload i
 
--- the values of a count and of an item tell whether it is a refusal, and which number it has; else the count, or the item's blob and mark
+-- the values of a count and of an item tell it from every other
 pub record ListingsApart : Type 0 where
-  pub counted : (a : Listing) (n : ℕ) → listingSays a ≡ grants n → a ≡ Listing.Count n
-  pub list-refused : (a : Listing) (n : ℕ) → listingSays a ≡ refuses n → (r : Refusal) × (a ≡ Listing.Refused r) × (refusalNumber r ≡ n)
-  pub item : (payload : List ℕ) (a : Item) (x : Identity) → itemSays payload a ≡ grants x
-      → (f : ℕ) × (t : ℕ) × (a ≡ Item.Blob f t (x .marked)) × (cutOf payload f t ≡ x .blob)
-  pub item-refused : (payload : List ℕ) (a : Item) (n : ℕ) → itemSays payload a ≡ refuses n → (r : Refusal) × (a ≡ Item.Refused r) × (refusalNumber r ≡ n)
+  pub listings : OneToOne Listing (Says ℕ) listingSays
+  pub items : OneToOne Item (Says Identity) itemSays
 
 -- the payload of the gateway's list reply
 abbrev pub listReply : List Entry → List ℕ
@@ -136,7 +166,7 @@ pub record CarriesSignature (payload : List ℕ) (t signature : List ℕ) : Type
 pub record WritesSignature (payload : List ℕ) (hash : ℕ) (signature out : List ℕ) : Type 0 where
   pub written : length (string signature) ≤ length out → wroteSays (signatureAnswer payload hash out) ≡ grants (length (string signature))
   pub left : length (string signature) ≤ length out → signatureLeft payload hash out ≡ write out 0 (string signature)
-  pub short : length out < length (string signature) → wroteSays (signatureAnswer payload hash out) ≡ refuses 11
+  pub short : length out < length (string signature) → wroteSays (signatureAnswer payload hash out) ≡ refuses 11 no-place
   pub untouched : length out < length (string signature) → signatureLeft payload hash out ≡ out
 
 abbrev pub SignatureRule : Type 0
@@ -159,19 +189,37 @@ pub record Typed (payload t : List ℕ) : Type 0 where
   pub small : length (string t ++ rest) < 2 ^ 32
   pub shape : payload ≡ 14 ∷ (string (string t ++ rest) ++ behind)
 
+-- what stands behind the 14 is malformed, and where, as a place in the payload: no string; inside it no type, or a type that is not UTF-8; behind a
+-- type that fits, no signature; behind that of a touch key no flags, or no counter
+pub data SignatureFault (hash : ℕ) : List ℕ → ℕ → Type 0 where
+  string-cut : (p : List ℕ) → NoString p → SignatureFault hash p 1
+  type-cut : (v behind : List ℕ) → length v < 2 ^ 32 → NoString v → SignatureFault hash (string v ++ behind) 5
+  type-no-text : (t rest behind : List ℕ) (n : ℕ) → length (string t ++ rest) < 2 ^ 32 → (Octets t → ⊥) → Longest t n
+      → SignatureFault hash (string (string t ++ rest) ++ behind) (9 + n)
+  signature-cut : (t rest behind : List ℕ) → length (string t ++ rest) < 2 ^ 32 → Octets t → Fitting hash t → NoString rest
+      → SignatureFault hash (string (string t ++ rest) ++ behind) (9 + length t)
+  flags-cut : (w sig behind : List ℕ) → length (string (bytes "sk-" ++ w) ++ string sig) < 2 ^ 32 → Octets (bytes "sk-" ++ w) → Fitting hash (bytes "sk-" ++ w)
+      → SignatureFault hash (string (string (bytes "sk-" ++ w) ++ string sig) ++ behind) (9 + length (bytes "sk-" ++ w) + 4 + length sig)
+  counter-cut : (w sig rest behind : List ℕ) (flags : ℕ) → length (string (bytes "sk-" ++ w) ++ (string sig ++ (flags ∷ rest))) < 2 ^ 32
+      → Octets (bytes "sk-" ++ w) → Fitting hash (bytes "sk-" ++ w) → length rest < 4
+      → SignatureFault hash (string (string (bytes "sk-" ++ w) ++ (string sig ++ (flags ∷ rest))) ++ behind) (9 + length (bytes "sk-" ++ w) + 4 + length sig + 1)
+
 -- when each answer comes: "signature 14, 15, 12 (up to t), 13, 12, 11"; and no refusal touches the output
 pub record SignatureSays (payload : List ℕ) (hash : ℕ) (out : List ℕ) : Type 0 where
-  pub failure : Begins 5 payload → wroteSays (signatureAnswer payload hash out) ≡ refuses 14
-  pub other : (Begins 5 payload → ⊥) → (Begins 14 payload → ⊥) → wroteSays (signatureAnswer payload hash out) ≡ refuses 15
-  pub no-type : Begins 14 payload → ((t : List ℕ) → Typed payload t → ⊥) → wroteSays (signatureAnswer payload hash out) ≡ refuses 12
-  pub unfit : (t : List ℕ) → Typed payload t → (Fitting hash t → ⊥) → wroteSays (signatureAnswer payload hash out) ≡ refuses 13
+  pub failure : Begins 5 payload → wroteSays (signatureAnswer payload hash out) ≡ refuses 14 no-place
+  pub other : (Begins 5 payload → ⊥) → (Begins 14 payload → ⊥) → wroteSays (signatureAnswer payload hash out) ≡ refuses 15 no-place
+  pub no-type : Begins 14 payload → ((t : List ℕ) → Typed payload t → ⊥)
+      → (place : ℕ) × (wroteSays (signatureAnswer payload hash out) ≡ refuses 12 (at-place place))
+  pub unfit : (t : List ℕ) → Typed payload t → (Fitting hash t → ⊥) → wroteSays (signatureAnswer payload hash out) ≡ refuses 13 no-place
   pub no-signature : (t : List ℕ) → Typed payload t → Fitting hash t → ((signature : List ℕ) → CarriesSignature payload t signature → ⊥)
-      → wroteSays (signatureAnswer payload hash out) ≡ refuses 12
+      → (place : ℕ) × (wroteSays (signatureAnswer payload hash out) ≡ refuses 12 (at-place place))
+  pub fault-at : (p : List ℕ) (place : ℕ) → payload ≡ 14 ∷ p → SignatureFault hash p place
+      → wroteSays (signatureAnswer payload hash out) ≡ refuses 12 (at-place place)
   pub short : (t signature : List ℕ) → Fitting hash t → CarriesSignature payload t signature → length out < length (string signature)
-      → wroteSays (signatureAnswer payload hash out) ≡ refuses 11
+      → wroteSays (signatureAnswer payload hash out) ≡ refuses 11 no-place
   pub written : (t signature : List ℕ) → Fitting hash t → CarriesSignature payload t signature → length (string signature) ≤ length out
       → wroteSays (signatureAnswer payload hash out) ≡ grants (length (string signature))
-  pub untouched : (n : ℕ) → wroteSays (signatureAnswer payload hash out) ≡ refuses n → signatureLeft payload hash out ≡ out
+  pub untouched : (n : ℕ) (w : Where) → wroteSays (signatureAnswer payload hash out) ≡ refuses n w → signatureLeft payload hash out ≡ out
 
 abbrev pub SignatureTable : Type 0
 SignatureTable = (payload : List ℕ) (hash : ℕ) (out : List ℕ) → Bytes payload → SignatureSays payload hash out

@@ -24,6 +24,7 @@ use Rattle.keys.specs.Kinds.{blobOf, blobAnswer, blobLeft}
 use Rattle.rule.specs.declared.Found.{Found}
 use Rattle.rule.specs.declared.Found.the-variants.{At}
 use Rattle.rule.specs.Gateway.{Gateway, placeFor, newEntry}
+use Rattle.rule.specs.Searches.{foundPlace}
 use Rattle.rule.specs.Soundness.{lastNumber}
 use Rattle.rule.specs.Rule.{Question, Answer, Plan, ask, check, storing}
 use Rattle.rule.specs.Calls as rule
@@ -68,7 +69,7 @@ module _ (s : State) (x : List ℕ) where
   -- the place for a blob within the limits may take it
   pub may-put : PlaceForPut → (i : ℕ) (blob fields : List ℕ) (w : Found) → Sound s x → w ≡ At i → w ≡ placeFor blob (gatewayOf s x .places) → 1 ≤ length blob → length blob ≤ 1024
       → 1 ≤ length fields → length fields ≤ 3072 → (s .next ≡ lastNumber → ⊥) → MayPut s x i blob fields
-  may-put place-for-put i blob fields w S e f a b c d h = place-for-put s x i blob fields S (sym f ∙ e) a b c d (last-or-less S h)
+  may-put place-for-put i blob fields w S e f a b c d h = place-for-put s x i blob fields S (ap foundPlace (sym f ∙ e)) a b c d (last-or-less S h)
 
 -- ## The key check
 

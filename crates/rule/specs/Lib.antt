@@ -1,5 +1,6 @@
 -- The definitions that contracts cite, and the statements of what is promised.
 pub mod Gateway
+pub mod Searches
 pub mod Soundness
 pub mod Rule
 pub mod Calls

@@ -11,7 +11,6 @@ use lib.ListN.{length, getD, take, drop}
 use lib.Seq.{drop-at}
 use Rattle.wire.specs.Steps.{so}
 use Rattle.wire.specs.Write.{write}
-use Rattle.wire.proofs.Laws.{one-answer}
 use Rattle.wire.proofs.Writing.{length-write}
 use Rattle.rule.specs.Gateway.{Gateway, advance}
 use Rattle.rule.specs.Soundness as rule
@@ -58,7 +57,7 @@ call-gives state store k m =
     λ j. record { ended = values j; state = m .meets .state-is j; store = m .meets .store-is j; reply = m .meets .reply-is j }
 
 pub no-second-answer : NoSecondAnswer ByCall
-no-second-answer state store k other m n = one-answer Gave _ _ _ (call-gives state store k m) (call-gives state store (giving k other) n)
+no-second-answer state store k other m n = call-gives state store k m ∙ sym (call-gives state store (giving k other) n)
 
 -- a call that is served is not refused
 served-not-refused : (buffer : List ℕ) (gave : Gave) (g : Gateway) (frame : Frame) (answers : calls.Answers) (n : ℕ)

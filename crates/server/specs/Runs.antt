@@ -316,14 +316,15 @@ module _ (Met : State → List ℕ → Step → Type 0) where
   abbrev pub CodeIsARun : Type 0
   CodeIsARun = (state : State) (store : List ℕ) (ks : List Step) → Sound state store → CodeRun state store ks → IsARun state store ks
 
-  -- demand 3: "each request keeps its frame, and a question asked twice within it gets one answer"; `Keeps` binds every answer that is lent
+  -- demand 3: "each request keeps its frame, and a question asked twice within it gets one answer". `Keeps` binds every answer that is lent, also
+  -- one that nobody asked for; where such a one differs from call to call, `CodeAsLent` speaks of the run.
   abbrev pub CodeDemand3 : Type 0
   CodeDemand3 =
       (frames : ℕ → Frame) (oracles : ℕ → Oracle) (state : State) (store : List ℕ) (ks : List Step) → Sound state store → CodeRun state store ks
       → EveryStep (λ k. Accepted k → Keeps (λ c. frames (c .request)) (λ c. oracles (c .request)) (asCall k)) ks
       → CodeAsOneAtATime (λ c. frames (c .request)) (λ c. oracles (c .request)) state store ks
 
-  -- "the one-at-a-time run gets the answers lent at the landing": of any run, with answers that nobody asked for too
+  -- "the one-at-a-time run gets the answers lent at the landing": of any run, whatever is lent
   abbrev pub CodeAsLent : Type 0
   CodeAsLent =
       (state : State) (store : List ℕ) (ks : List Step) → Sound state store → CodeRun state store ks

@@ -28,6 +28,7 @@ use Rattle.table.specs.Meaning.{lifetimeOf, placeOf, view, gatewayOf, he
 use Rattle.table.specs.Soundness.{Sound, Means}
 use Rattle.table.specs.Changes.{Standing, NoOther, MayPut}
 use Rattle.table.specs.Promises.{PlaceForPut}
+use Rattle.table.proofs.FoundLaws.{at-place}
 use Rattle.table.proofs.LayoutLaws.{Fits, free-size, key-size, laid-size, laid-at, laid-set, entries-set, laid-free, entries-free}
 use Rattle.table.proofs.WritingLaws.{Writing, sound-writing, sound-meaning, key-fits, key-back, free-back, lock-written, means-of}
 
@@ -82,7 +83,7 @@ pub place-for-put : PlaceForPut
 unfolding gatewayOf
 place-for-put s x i blob fields S for blob-some blob-fits fields-some fields-fit left =
     let G = sound-meaning s x S in
-    let at = placed blob (gatewayOf s x .places) i for in
+    let at = placed blob (gatewayOf s x .places) i (at-place _ i for) in
     let eight = G .eight-places in
     let inside = place-inside blob (gatewayOf s x .places) i at in
     record {

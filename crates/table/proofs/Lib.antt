@@ -5,6 +5,7 @@ pub mod EachLaws
 pub mod LayoutLaws
 pub mod TestLaws
 pub mod WritingLaws
+pub mod FoundLaws
 pub mod ChangeLaws
 pub mod ReadLaws
 pub mod SeekLaws

@@ -16,7 +16,7 @@ use Rattle.rule.proofs.Cases.{so-cases}
 use Rattle.table.specs.declared.Entry.{Entry}
 use Rattle.table.specs.declared.State.{State}
 use Rattle.table.specs.Each.{Each, offset}
-use Rattle.table.specs.Meaning.{size, isSet, keyOf, placeOf, blobIn, view, freeEntry, entryFor}
+use Rattle.table.specs.Meaning.{size, isSet, keyOf, placeOf, blobIn, view, gatewayOf, freeEntry, entryFor}
 use Rattle.table.specs.Soundness.{soundPlace, soundPlaces, SoundPlace, free, held, Housed, Sound}
 use Rattle.table.proofs.EachLaws.{offset-even, each-length, each-at, every-at, each-says}
 use Rattle.table.proofs.TestLaws.{place-says}
@@ -72,7 +72,7 @@ module _ (clock next : ℕ) (e : Entry) (p : List ℕ) (whole : length p ≡ 409
       by-seen (seen-free is entry _) = ap (λ (x : Entry). isSet (x .confirm)) entry ∙ rw is
       by-seen (seen-held is _ _ _) = rw is
 
-  pub sound-blob : SoundPlace clock next e p → take (e .«blob_len») p ≡ blobIn (placeOf e p)
+  sound-blob : SoundPlace clock next e p → take (e .«blob_len») p ≡ blobIn (placeOf e p)
   unfolding entryFor
   sound-blob S = by-seen (seen clock next e p whole S)
     where
@@ -97,6 +97,10 @@ housed-by clock next es x eight size-x t =
 module _ (s : State) (x : List ℕ) (S : Sound s x) (i : ℕ) (h : i < 8) where
   pub state-sound-at : SoundPlace (s .clock .count) (s .next) (getD (s .entries) i freeEntry) (partAt x i)
   state-sound-at = sound-at (s .entries) x (S .eight-entries) (s .clock .count) (s .next) i h (S .places)
+
+  pub state-blob : take (getD (s .entries) i freeEntry .«blob_len») (partAt x i) ≡ blobIn (getD (gatewayOf s x .places) i none)
+  unfolding gatewayOf
+  state-blob = rw (view-at (s .entries) x (S .eight-entries) i h) (sound-blob _ _ _ _ (part-size x i (S .store-size) h) state-sound-at)
 
   pub state-blob-fits : getD (s .entries) i freeEntry .«blob_len» ≤ 1024
   state-blob-fits = sound-blob-fits _ _ _ _ state-sound-at

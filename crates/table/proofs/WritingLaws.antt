@@ -25,12 +25,16 @@ use Rattle.table.specs.Bytes.{padded}
 use Rattle.table.specs.Each.{each, Each}
 use Rattle.table.specs.Meaning.{size, isSet, lifetimeOf, keyOf, placeOf, view, passphrase, gatewayOf, flagOf, limitedFlag, keptSeconds, heldEntry, heldBytes, entryFor, bytesFor, laid, lockOf, stateOf, layout}
 use Rattle.table.specs.Soundness.{Flag, SoundPlace, free, held, SoundLock, Sound, Means}
-use Rattle.table.specs.Promises.{SoundMeaning, SoundCanonical, OneWriting, EveryGateway, FreshMeans}
+use Rattle.table.specs.Promises.{FlagRule, SoundMeaning, SoundCanonical, OneWriting, EveryGateway, FreshMeans}
 use Rattle.table.proofs.ByteLaws.{padded-size, padded-front, padded-rest, zeros-padded}
 use Rattle.table.proofs.EachLaws.{each-length}
 use Rattle.table.proofs.LayoutLaws.{Fits, free-size, key-size, laid-size, laid-free}
 
 -- ## One place
+
+pub flag-rule : FlagRule
+unfolding so
+flag-rule e p = record { confirm = λ h. rw h; no-confirm = λ h. rw h; lifetime = λ h. rw h; no-lifetime = λ h. rw h }
 
 -- a sound flag is written as what it says
 flag-kept : (flag : ℕ) → Flag flag → flag ≡ flagOf (isSet flag)

@@ -1,22 +1,37 @@
 -- What the table promises, as statements; the proofs are in proofs/.
 use Prim.Native.Nat.{ℕ, _≤_, _<_}
 use mathlib.Core.Path.{_≡_}
-use mathlib.Core.Bool.{true}
+use mathlib.Core.Bool.{true, false}
 use mathlib.Core.List.{List}
-use mathlib.Core.Logic.{_↔_}
-use lib.ListN.{length, replicate}
-use Rattle.rule.specs.declared.Found.the-variants.{At}
-use Rattle.rule.specs.Gateway.{Gateway, fresh, placeFor}
+use mathlib.Core.Logic.{_↔_, _⊎_, _≢_}
+use mathlib.Core.Option.{Option, none, some}
+use lib.ListN.{length, getD, replicate}
+use Rattle.wire.specs.Promises.{OneToOne}
+use Rattle.keys.specs.declared.constraints.Lifetime.the-variants.{Forever, For}
+use Rattle.rule.specs.declared.Found.{Found}
+use Rattle.rule.specs.Gateway.{Entry as Key, Place, Gateway, fresh, seek, holds, placeFor}
+use Rattle.rule.specs.Searches.{foundPlace}
 use Rattle.rule.specs.Soundness as rule
 use Rattle.rule.specs.Soundness.{lastNumber}
+use Rattle.table.specs.declared.Entry.{Entry}
 use Rattle.table.specs.declared.State.{State}
-use Rattle.table.specs.Meaning.{gatewayOf, stateOf, layout}
+use Rattle.table.specs.Meaning.{keyOf, gatewayOf, stateOf, layout}
 use Rattle.table.specs.Soundness.{soundState, Sound, Means}
 use Rattle.table.specs.Changes.{MayPut}
 
 -- the test says the facts; the two lengths are the arrays'
 abbrev pub SoundStateRule : Type 0
 SoundStateRule = (s : State) (x : List ℕ) → length (s .entries) ≡ 8 → length (s .lock .bytes) ≡ 1024 → (soundState s x ≡ true) ↔ Sound s x
+
+-- what an entry's flags say: 1 is yes, 0 is no
+pub record FlagsSay (e : Entry) (p : List ℕ) : Type 0 where
+  pub confirm : e .confirm ≡ 1 → keyOf e p .confirm ≡ true
+  pub no-confirm : e .confirm ≡ 0 → keyOf e p .confirm ≡ false
+  pub lifetime : e .limited ≡ 1 → keyOf e p .lifetime ≡ For (e .seconds)
+  pub no-lifetime : e .limited ≡ 0 → keyOf e p .lifetime ≡ Forever
+
+abbrev pub FlagRule : Type 0
+FlagRule = (e : Entry) (p : List ℕ) → FlagsSay e p
 
 -- what is sound here means what is sound in the rule
 abbrev pub SoundMeaning : Type 0
@@ -42,9 +57,31 @@ EveryGateway = (g : Gateway) → rule.Sound g → Means (stateOf g) (layout g) g
 abbrev pub FreshMeans : Type 0
 FreshMeans = Means (stateOf fresh) (replicate 32768 0) fresh
 
--- the place for a blob may take it
+-- ## Searches
+
+-- an answer says whether there is a place, and which
+abbrev pub FoundsApart : Type 0
+FoundsApart = OneToOne Found (Option ℕ) foundPlace
+
+abbrev pub HoldsBlob : List Place → List ℕ → ℕ → Type 0
+HoldsBlob ps blob i = (k : Key) × (getD ps i none ≡ some k) × (k .blob ≡ blob)
+
+abbrev pub LowestFree : List Place → ℕ → Type 0
+LowestFree ps i = (i < 8) × (getD ps i none ≡ none) × ((j : ℕ) → j < i → getD ps j none ≢ none)
+
+-- the search for a blob ends at the place that holds it
+abbrev pub FindRule : Type 0
+FindRule = (s : State) (x blob : List ℕ) (i : ℕ) → Sound s x → (foundPlace (seek (holds blob) 0 (gatewayOf s x .places)) ≡ some i) ↔ HoldsBlob (gatewayOf s x .places) blob i
+
+-- "A held blob is replaced in its place ..; a new one takes the lowest free place."
+abbrev pub PlaceForRule : Type 0
+PlaceForRule =
+    (s : State) (x blob : List ℕ) (i : ℕ) → Sound s x → let ps = gatewayOf s x .places in
+    (foundPlace (placeFor blob ps) ≡ some i) ↔ (HoldsBlob ps blob i ⊎ (((j : ℕ) → HoldsBlob ps blob j → ⊥) × LowestFree ps i))
+
+-- that place may take it
 abbrev pub PlaceForPut : Type 0
 PlaceForPut =
-    (s : State) (x : List ℕ) (i : ℕ) (blob fields : List ℕ) → Sound s x → placeFor blob (gatewayOf s x .places) ≡ At i
+    (s : State) (x : List ℕ) (i : ℕ) (blob fields : List ℕ) → Sound s x → foundPlace (placeFor blob (gatewayOf s x .places)) ≡ some i
     → 1 ≤ length blob → length blob ≤ 1024 → 1 ≤ length fields → length fields ≤ 3072 → gatewayOf s x .next < lastNumber
     → MayPut s x i blob fields

@@ -11,6 +11,7 @@ ghost use mathlib.Core.Option.{none};
 ghost use mathlib.Core.List.{List};
 ghost use Prim.Native.Nat.{ℕ, _*_, _≤_, _<_};
 ghost use lib.ListN.{length, getD, take, drop};
+ghost use Rattle.wire.specs.Parts.{PartOf};
 ghost use Rattle.rule.specs.Gateway.{seek, holds, isFree, placeFor};
 ghost use Rattle.rule.specs.Rule.{numberIn, confirmIn};
 ghost use Rattle.table.specs.Meaning.{isSet, gatewayOf, placeOf, blobIn, freeEntry};
@@ -27,7 +28,7 @@ pub(crate) fn start_of(i: usize) -> usize
 // The bytes of place i.
 pub fn bytes_at(store: &[u8], i: usize) -> &[u8]
     requires { ⌜ (i < 8) × (length (now store) ≡ 32768) ⌝ }
-    ensures { λ r. ⌜ now r ≡ take 4096 (drop (i * 4096) (now (store .entry))) ⌝ }
+    ensures { λ r. ⌜ PartOf (store .entry) (i * 4096) (take 4096 (drop (i * 4096) (now (store .entry)))) r ⌝ }
 {
     let from = start_of(i);
     let to = start_of(i + 1);
@@ -64,10 +65,10 @@ pub fn confirm_at(state: State, i: usize) -> bool
     is_set(e.confirm)
 }
 
-// The blob of a place's key, empty where the place is free.
+// The blob of a place's key, empty where the place is free; it begins where the place does.
 pub fn blob_at(state: State, store: &[u8], i: usize) -> &[u8]
     requires { ⌜ (i < 8) × Sound state (now store) ⌝ }
-    ensures { λ r. ⌜ now r ≡ blobIn (getD (gatewayOf state (now (store .entry)) .places) i none) ⌝ }
+    ensures { λ r. ⌜ PartOf (store .entry) (i * 4096) (blobIn (getD (gatewayOf state (now (store .entry)) .places) i none)) r ⌝ }
 {
     let es = state.entries;
     let e = es[i];

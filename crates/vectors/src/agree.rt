@@ -1,4 +1,4 @@
-// Whether the libraries answer what is expected, each over plain bytes. Where a fault is expected, any place of it will do.
+// Whether the libraries answer what is expected, each over plain bytes; a fault with its place.
 use keys::addition::Addition;
 use keys::addition::addition_at;
 use keys::constraints::Lifetime;
@@ -14,12 +14,14 @@ use wire::read::Part;
 use wire::read::cut;
 use wire::read::is_same;
 
-// What constraints say; all else is nothing where they are not whole.
+// How constraints end: 0 at the end, 1 a second lifetime, 2 an unknown byte, 3 cut seconds; of an addition any fault is 1. What they say, or
+// where the fault is; what has no meaning is 0.
 pub struct Limits {
-    pub whole: bool,
+    pub ending: u8,
     pub limited: bool,
     pub seconds: u32,
     pub confirm: bool,
+    pub place: usize,
 }
 
 // The mpint at a place has its contents from `from` up to `to`; both are 0 where a fault is expected.
@@ -31,7 +33,7 @@ pub(crate) fn has_mpint(s: &[u8], at: usize, from: usize, to: usize) -> bool {
             to: t,
             next,
         } => f == from && t == to && next.at == to,
-        Part::Fault(_) => to == 0,
+        Part::Fault(place) => to == 0 && place == at,
     }
 }
 
@@ -58,16 +60,16 @@ pub(crate) fn has_fields(payload: &[u8], end: usize, blob: &[u8]) -> bool {
     }
 }
 
-pub(crate) fn has_no_fields(payload: &[u8]) -> bool {
+pub(crate) fn has_fault(payload: &[u8], want: usize) -> bool {
     let key = key_at(payload, 1);
     match key {
         Key::Whole(_) => false,
-        Key::Fault(_) => true,
+        Key::Fault(place) => place == want,
     }
 }
 
 fn is_same_limits(a: Limits, b: Limits) -> bool {
-    if a.whole != b.whole {
+    if a.ending != b.ending {
         return false;
     }
     if a.limited != b.limited {
@@ -76,31 +78,37 @@ fn is_same_limits(a: Limits, b: Limits) -> bool {
     if a.seconds != b.seconds {
         return false;
     }
-    a.confirm == b.confirm
+    if a.confirm != b.confirm {
+        return false;
+    }
+    a.place == b.place
 }
 
-fn faulty() -> Limits {
+fn faulty(ending: u8, place: usize) -> Limits {
     Limits {
-        whole: false,
+        ending,
         limited: false,
         seconds: 0,
         confirm: false,
+        place,
     }
 }
 
 fn limits_of(lifetime: Lifetime, confirm: bool) -> Limits {
     match lifetime {
         Lifetime::Forever => Limits {
-            whole: true,
+            ending: 0,
             limited: false,
             seconds: 0,
             confirm,
+            place: 0,
         },
         Lifetime::For(seconds) => Limits {
-            whole: true,
+            ending: 0,
             limited: true,
             seconds: seconds.count,
             confirm,
+            place: 0,
         },
     }
 }
@@ -113,7 +121,7 @@ pub(crate) fn has_addition(payload: &[u8], constrained: bool, want: Limits) -> b
             lifetime,
             confirm,
         } => is_same_limits(limits_of(lifetime, confirm), want),
-        Addition::Fault(_) => is_same_limits(faulty(), want),
+        Addition::Fault(place) => is_same_limits(faulty(1, place), want),
     }
 }
 
@@ -121,8 +129,8 @@ pub(crate) fn has_constraints(s: &[u8], from: usize, want: Limits) -> bool {
     let walk = constraints(s, from);
     match walk {
         Walk::Done { lifetime, confirm } => is_same_limits(limits_of(lifetime, confirm), want),
-        Walk::Duplicate(_) => is_same_limits(faulty(), want),
-        Walk::Unknown(_) => is_same_limits(faulty(), want),
-        Walk::Cut(_) => is_same_limits(faulty(), want),
+        Walk::Duplicate(place) => is_same_limits(faulty(1, place), want),
+        Walk::Unknown(place) => is_same_limits(faulty(2, place), want),
+        Walk::Cut(place) => is_same_limits(faulty(3, place), want),
     }
 }

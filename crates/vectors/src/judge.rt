@@ -1,9 +1,9 @@
 // Each kind of record: reads it, and compares.
 use crate::agree::has_addition;
 use crate::agree::has_constraints;
+use crate::agree::has_fault;
 use crate::agree::has_fields;
 use crate::agree::has_mpint;
-use crate::agree::has_no_fields;
 use crate::parts::Fields;
 use crate::parts::Limited;
 use crate::parts::read_fields;
@@ -69,7 +69,7 @@ fn utf8(s: &[u8], c: Cursor) -> Ran {
 fn key(s: &[u8], c: Cursor, payload: &[u8]) -> Ran {
     let want = read_fields(s, c);
     match want {
-        Fields::Fault(next) => ran_as(has_no_fields(payload), next),
+        Fields::Fault { place, next } => ran_as(has_fault(payload, place), next),
         Fields::Whole { end, blob, next } => {
             let from = blob.from;
             let to = blob.to;

@@ -17,6 +17,15 @@ use Rattle.wire.specs.Read.{cutOf, numberAt, stringAt}
 use Rattle.wire.specs.Write.{string}
 use Rattle.wire.proofs.Reading.{le-or-lt, cut-there, number-there, number-cut, number-read, number-short, string-there, string-cut, string-read}
 
+-- four bytes are those of the number that they spell
+pub be32-of-be : (a b c d : ℕ) → a < 256 → b < 256 → c < 256 → d < 256 → be32 (be a b c d) ≡ a ∷ b ∷ c ∷ d ∷ []
+be32-of-be a b c d ha hb hc hd =
+    let e₁ : be a b c d / 16777216 % 256 ≡ a = omega arith in
+    let e₂ : be a b c d / 65536 % 256 ≡ b = omega arith in
+    let e₃ : be a b c d / 256 % 256 ≡ c = omega arith in
+    let e₄ : be a b c d % 256 ≡ d = omega arith in
+    cc
+
 nested : (n : ℕ) → n < 2 ^ 32 → be (n / 256 / 256 / 256) (n / 256 / 256 % 256) (n / 256 % 256) (n % 256) ≡ n
 nested n h = omega arith
 
@@ -26,15 +35,6 @@ be-of-be32 n h =
     let e₂ : n / 65536 ≡ n / 256 / 256 = sym (div-div-eq-div-mul n 256 256) in
     let e₃ : n / 16777216 % 256 ≡ n / 256 / 256 / 256 = (let e₁ : n / 16777216 ≡ n / 65536 / 256 = sym (div-div-eq-div-mul n 65536 256) in omega arith) in
     rw (e₃, e₂) (nested n h)
-
--- four bytes are those of the number that they spell
-pub be32-of-be : (a b c d : ℕ) → a < 256 → b < 256 → c < 256 → d < 256 → be32 (be a b c d) ≡ a ∷ b ∷ c ∷ d ∷ []
-be32-of-be a b c d ha hb hc hd =
-    let e₁ : be a b c d / 16777216 % 256 ≡ a = omega arith in
-    let e₂ : be a b c d / 65536 % 256 ≡ b = omega arith in
-    let e₃ : be a b c d / 256 % 256 ≡ c = omega arith in
-    let e₄ : be a b c d % 256 ≡ d = omega arith in
-    cc
 
 module _ (s : List ℕ) (at : ℕ) where
   -- four bytes, and what is behind them

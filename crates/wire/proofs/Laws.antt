@@ -21,15 +21,12 @@ use Rattle.wire.specs.Abnf.{Octets}
 use Rattle.wire.specs.Mpint.{mpint}
 use Rattle.wire.specs.Steps.{so, part}
 use Rattle.wire.specs.Read.{cutOf, numberAt, stringAt, textAt, mpintAt}
-use Rattle.wire.specs.Promises.{OneAnswer, AnswersApart, ByteRule, ByteCut, NumberRule, NumberCut, StringRule, StringCut, TextRule, TextFault, MpintAtRule, MpintFault, WriteRule}
-use Rattle.wire.proofs.Reading.{le-or-lt, byte-there, byte-cut, string-read, string-short, string-cut}
+use Rattle.wire.specs.Promises.{AnswersApart, ByteRule, ByteCut, NumberRule, NumberCut, StringRule, StringCut, CutRule, TextRule, TextFault, MpintAtRule, MpintFault, WriteRule}
+use Rattle.wire.proofs.Reading.{le-or-lt, byte-there, byte-cut, string-read, string-short, string-cut, cut-there, cut-past, cut-back, from-there, from-past, from-back}
 use Rattle.wire.proofs.Format.{number-form, number-none, string-form, string-none, part-length}
 use Rattle.wire.proofs.Abnf.{utf8-rule}
 use Rattle.wire.proofs.Longest.{utf8-end, utf8-end-whole}
 use Rattle.wire.proofs.Writing.{length-write, write-in, write-out}
-
-pub one-answer : OneAnswer
-one-answer A given answer other e f = e ∙ sym f
 
 -- ## Values
 
@@ -130,6 +127,16 @@ string-cut-rule s at bytes =
     let r = string-none s at bytes in
     ((λ e. r .0 (fault-of (stringAt s at) at e)), (λ x. ap partReads (r .1 x)))
 
+-- ## Parts
+
+pub cut-rule : CutRule
+cut-rule s f t = record {
+  there = λ h k. sym (cut-there s f t h k);
+  from = from-there s f t;
+  none = λ gone. ⊎-elim (λ h. sym (cut-past s f t h (gone h))) (λ h. sym (cut-back s f t h)) (le-or-lt f t);
+  start = λ gone. ⊎-elim (λ h. from-past s f t h (gone h)) (from-back s f t) (le-or-lt f t);
+}
+
 -- ## Strings that pass a test
 
 -- a string that passed a test was there; one that did not is a fault at the place that is given for it
@@ -142,14 +149,6 @@ tested (Whole f′ t′ k′) test z f t k = ((λ e. there (test f′ t′) refl
     there : (b : Bool) → test f′ t′ ≡ b → so (Part.Fault (z f′ t′)) b (Whole f′ t′ k′) ≡ Whole f t k → (Whole f′ t′ k′ ≡ Whole f t k) × (test f t ≡ true)
     there true q e = (e, (let x : f ≡ f′ = cc in let y : t ≡ t′ = cc in rw (x, y) q))
     there false q e = let x : _≡_ {A = ℕ} 0 1 = cc in absurd (omega arith)
-
-pub mpint-at-rule : MpintAtRule
-unfolding mpintAt
-mpint-at-rule s at v next =
-    let r = tested (stringAt s at) (λ f t. mpint (cutOf s f t)) (λ f t. at) (v .from) (v .to) (record { at = next }) in (
-      (λ e. let x = r .0 (whole-of (mpintAt s at) v next e) in (ap partReads (x .0), x .1)),
-      (λ x. ap partReads (r .1 (whole-of (stringAt s at) v next (x .0), x .1))),
-    )
 
 -- a string that is not there is a fault at its own place
 string-fault-place : (s : List ℕ) (at place : ℕ) → stringAt s at ≡ Part.Fault place → place ≡ at
@@ -167,6 +166,14 @@ mpint-fault s at place e = go (stringAt s at) refl (fault-of (mpintAt s at) plac
     go (Whole f t k) q h = test f t k (mpint (cutOf s f t)) h
     go (Part.Fault x) q h = let y = string-fault-place s at x q in let w : x ≡ place = cc in sym w ∙ y
 
+pub mpint-at-rule : MpintAtRule
+unfolding mpintAt
+mpint-at-rule s at v next =
+    let r = tested (stringAt s at) (λ f t. mpint (cutOf s f t)) (λ f t. at) (v .from) (v .to) (record { at = next }) in (
+      (λ e. let x = r .0 (whole-of (mpintAt s at) v next e) in (ap partReads (x .0), x .1)),
+      (λ x. ap partReads (r .1 (whole-of (stringAt s at) v next (x .0), x .1))),
+    )
+
 -- ## Texts
 
 -- a string is UTF-8 exactly where its longest part of UTF-8 is all of it
@@ -176,14 +183,6 @@ text-test s at f t k e =
     let l = part-length s f t (omega arith) (w .within) in (
       (λ h. utf8-rule (cutOf s f t) .0 (utf8-end-whole (cutOf s f t) .0 (h ∙ sym l))),
       (λ o. utf8-end-whole (cutOf s f t) .1 (utf8-rule (cutOf s f t) .1 o) ∙ l),
-    )
-
-pub text-rule : TextRule
-unfolding textAt
-text-rule s at v next =
-    let r = tested (stringAt s at) (λ f t. eqb (utf8End (cutOf s f t)) (t - f)) (λ f t. f + utf8End (cutOf s f t)) (v .from) (v .to) (record { at = next }) in (
-      (λ e. let x = r .0 (whole-of (textAt s at) v next e) in (ap partReads (x .0), text-test s at _ _ _ (x .0) .0 (eqb-true _ _ (x .1)))),
-      (λ x. let y = whole-of (stringAt s at) v next (x .0) in ap partReads (r .1 (y, eq-eqb _ _ (text-test s at _ _ _ y .1 (x .1))))),
     )
 
 pub text-fault : TextFault
@@ -196,6 +195,14 @@ text-fault s at =
           let t = text-test s at _ _ _ y in
           (utf8End (cutOf s (v .from) (v .to)), utf8-end (cutOf s (v .from) (v .to)), rw (y, ne-eqb _ _ (λ h. no (t .0 h))));
     }
+
+pub text-rule : TextRule
+unfolding textAt
+text-rule s at v next =
+    let r = tested (stringAt s at) (λ f t. eqb (utf8End (cutOf s f t)) (t - f)) (λ f t. f + utf8End (cutOf s f t)) (v .from) (v .to) (record { at = next }) in (
+      (λ e. let x = r .0 (whole-of (textAt s at) v next e) in (ap partReads (x .0), text-test s at _ _ _ (x .0) .0 (eqb-true _ _ (x .1)))),
+      (λ x. let y = whole-of (stringAt s at) v next (x .0) in ap partReads (r .1 (y, eq-eqb _ _ (text-test s at _ _ _ y .1 (x .1))))),
+    )
 
 -- ## Writing
 

@@ -14,8 +14,8 @@ use Rattle.wire.specs.declared.read.Part.the-variants.{Whole}
 use Rattle.wire.specs.declared.utf8.Utf.{Utf}
 use Rattle.wire.specs.Utf8.{stepOf, stepsOf, ended, start, utf8, longest, utf8End}
 use Rattle.wire.specs.Read.{cutOf, stringAt}
-use Rattle.wire.specs.Promises.{Utf8End}
-use Rattle.wire.proofs.Reading.{string-read}
+use Rattle.wire.specs.Promises.{Longest, Utf8End}
+use Rattle.wire.proofs.Reading.{le-or-lt, string-read}
 use Rattle.wire.proofs.Format.{part-length}
 use Rattle.wire.proofs.Abnf.{utf8-rule}
 
@@ -92,6 +92,14 @@ utf8-end s = record {
   derived = utf8-rule (take (utf8End s) s) .0 (end-greatest s .valid);
   no-longer = λ m h l o. let k = end-greatest s .most m l (utf8-rule (take m s) .1 o) in omega arith;
 }
+
+-- there is one such length
+pub longest-one : (s : List ℕ) (m n : ℕ) → Longest s m → Longest s n → m ≡ n
+longest-one s m n x y =
+    ⊎-elim
+    (λ (h : m ≤ n). ⊎-elim (λ (k : n ≤ m). omega arith) (λ (k : m < n). absurd (x .no-longer n k (y .within) (y .derived))) (le-or-lt n m))
+    (λ (h : n < m). absurd (y .no-longer m h (x .within) (x .derived)))
+    (le-or-lt m n)
 
 -- the end of a string's UTF-8 is a place in the slice
 pub text-room : (s : List ℕ) (at f t : ℕ) (k : Cursor) (v : List ℕ) (n : ℕ) → stringAt s at ≡ Whole f t k → v ≡ cutOf s f t → n ≡ utf8End v → f + n ≤ length s

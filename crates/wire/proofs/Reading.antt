@@ -10,7 +10,7 @@ use native.Mathlib.Omega.{arith}
 use native.Mathlib.Numerals.{add-one}
 use borrow.Author.Tests.{le-leb, lt-leb, lt-ltb, le-ltb, eq-eqb, ne-eqb, eqb-true}
 use denote.Ref.{RefT, ptr}
-use lib.Dec.{leb, eqb}
+use lib.Dec.{eqb}
 use lib.ListN.{length, getD, take, drop, drop-of-length-le, List·getD-eq-default}
 use lib.Seq.{drop-cons}
 use Rattle.wire.specs.declared.read.Cursor.{Cursor}
@@ -158,18 +158,6 @@ module _ (v : List ℕ) where
   pub mpint-single : length v ≡ 1 → getD v 0 0 ≤ 0 → false ≡ mpint v
   unfolding mpint
   mpint-single h k = let e : getD v 0 0 ≡ 0 = omega arith in rw (e, past v 1 (omega arith))
-
-  pub mpint-high : 128 ≤ getD v 0 0 → false ≡ mpint v
-  unfolding mpint
-  mpint-high h = rw (le-ltb _ _ h)
-
-  pub mpint-low : getD v 0 0 < 128 → 0 < getD v 0 0 → true ≡ mpint v
-  unfolding mpint
-  mpint-low h k = rw (lt-ltb _ _ h, lt-ltb _ _ k)
-
-  pub mpint-zero : getD v 0 0 ≤ 0 → leb 128 (getD v 1 0) ≡ mpint v
-  unfolding mpint
-  mpint-zero h = let e : getD v 0 0 ≡ 0 = omega arith in rw e
 
 -- ## Comparison
 

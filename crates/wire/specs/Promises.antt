@@ -13,14 +13,10 @@ use Rattle.wire.specs.Numbers.{Bytes, be32}
 use Rattle.wire.specs.Utf8.{utf8, utf8End}
 use Rattle.wire.specs.Abnf.{Octets}
 use Rattle.wire.specs.Mpint.{mpint, Shortest}
-use Rattle.wire.specs.Read.{cutOf, same, byteAt, numberAt, stringAt, textAt, mpintAt}
+use Rattle.wire.specs.Read.{cutOf, cutFrom, same, byteAt, numberAt, stringAt, textAt, mpintAt}
 use Rattle.wire.specs.Write.{string, write}
 
--- ## Input decides
-
--- no second answer meets an equation
-abbrev pub OneAnswer : Type 1
-OneAnswer = (A : Type 0) (given answer other : A) → answer ≡ given → other ≡ given → answer ≡ other
+-- ## Answers
 
 -- an answer's values tell it from every other answer
 abbrev pub OneToOne : (A B : Type 0) → (A → B) → Type 0
@@ -69,6 +65,18 @@ abbrev pub StringCut : Type 0
 StringCut =
     (s : List ℕ) (at : ℕ) → Bytes s
     → (partReads (stringAt s at) ≡ fault at) ↔ ((v rest : List ℕ) → length v < 2 ^ 32 → drop at s ≡ string v ++ rest → ⊥)
+
+-- ## Parts
+
+-- the bytes from f up to t lie at f, also where there are none; those that are not all there are none, at the start
+pub record Cuts (s : List ℕ) (f t : ℕ) : Type 0 where
+  pub there : f ≤ t → t ≤ length s → cutOf s f t ≡ take (t - f) (drop f s)
+  pub from : f ≤ t → t ≤ length s → cutFrom s f t ≡ f
+  pub none : (f ≤ t → length s < t) → cutOf s f t ≡ []
+  pub start : (f ≤ t → length s < t) → cutFrom s f t ≡ 0
+
+abbrev pub CutRule : Type 0
+CutRule = (s : List ℕ) (f t : ℕ) → Cuts s f t
 
 -- ## Texts
 

@@ -114,14 +114,14 @@ impl Cursor {
     pub fn string(self, s: &[u8]) -> Part
         ensures { λ r. ⌜ r ≡ stringAt (now (s .entry)) (self .at) ⌝ }
     {
-        let at = self.at;
+        let start = self.at;
         let Number::Value(n, next) = self.number(s) else {
-            return Part::Fault(at);
+            return Part::Fault(start);
         };
         let from = next.at;
         let len = n as usize;
         if s.len() - from < len {
-            return Part::Fault(at);
+            return Part::Fault(start);
         }
         let to = from + len;
         Part::Whole {

@@ -1,6 +1,7 @@
 -- The place for a blob within the limits may take it. Assumes nothing.
 use borrow.Author.Needs.{needs}
-use mathlib.Core.Path.{sym, _∙_}
+use mathlib.Core.Path.{sym, ap, _∙_}
+use Rattle.rule.specs.Searches.{foundPlace}
 use Rattle.table.specs.Meaning.{gatewayOf}
 use Rattle.table.proofs.ChangeLaws.{place-for-put}
 use Rattle.keeping.proofs.acts.put.Statement.{statement}
@@ -16,7 +17,7 @@ put-requires c κs =
     let blob-short = blob-long .before in
     let st = blob-short .before .before .before .before in
     let a = st .args in
-    let at = sym (c .before .before .before .before .place-for .ensures) ∙ c .before .before .i .given .1 in
+    let at = ap foundPlace (sym (c .before .before .before .before .place-for .ensures) ∙ c .before .before .i .given .1) in
     place-for-put (a .state) (a .store .now) _ (a .blob .now) (a .fields .now) (st .pre) at
     (blob-short .if1 .left) (blob-long .if2 .left) (fields-short .if3 .left) (fields-long .if4 .left) (numbers .if5 .left)
 

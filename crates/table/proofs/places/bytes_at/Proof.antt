@@ -11,7 +11,7 @@ returns c =
     let to = c .before .start-of2 in
     let from = c .before .before .start-of in
     let span : to .result - from .result ≡ 4096 = omega (arith, to .ensures, from .ensures) in
-    rw (span, from .ensures)
+    record { bytes = rw (span, from .ensures); block = search needs; place = rw (from .ensures) (search needs) }
 
 pub bytes-at-spec : {M : Type 1} → statement M
 bytes-at-spec =

@@ -22,7 +22,7 @@ is-holding-requires c κs =
     let loop = c .before .before .before .loop in
     let st = c .before .before .before .before .before .before .before in
     let x = st .args .store .now in
-    let whole : length (c .bytes-at .result .now) ≡ 4096 = ap length (c .bytes-at .ensures) ∙ part-size x (loop .i) (st .pre .store-size) (omega arith) in
+    let whole : length (c .bytes-at .result .now) ≡ 4096 = ap length (c .bytes-at .ensures .bytes) ∙ part-size x (loop .i) (st .pre .store-size) (omega arith) in
     let fits = state-blob-fits (st .args .state) x (st .pre) (loop .i) (omega arith) in
     omega arith
 
@@ -36,7 +36,7 @@ returns c =
     let S = st .pre in
     let long = view-length (s .entries) x (S .eight-entries) in
     let test = holds (st .args .blob .now) in
-    let here = ap test (view-at (s .entries) x (S .eight-entries) (loop .i) (omega arith)) ∙ rw (← c .before .before .bytes-at .ensures) (sym (c .before .is-holding .ensures)) ∙ c .if1 .taken in
+    let here = ap test (view-at (s .entries) x (S .eight-entries) (loop .i) (omega arith)) ∙ rw (← c .before .before .bytes-at .ensures .bytes) (sym (c .before .is-holding .ensures)) ∙ c .if1 .taken in
     sym (loop .inv .1 ∙ seek-stop test (view (s .entries) x) (loop .i) (omega arith) here)
 
 loop-again : tie.Need-loop-again Inv-loop μ-loop
@@ -48,7 +48,7 @@ loop-again c =
     let S = st .pre in
     let long = view-length (s .entries) x (S .eight-entries) in
     let test = holds (st .args .blob .now) in
-    let here = ap test (view-at (s .entries) x (S .eight-entries) (loop .i) (omega arith)) ∙ rw (← c .before .before .bytes-at .ensures) (sym (c .before .is-holding .ensures)) ∙ c .if1 .left in
+    let here = ap test (view-at (s .entries) x (S .eight-entries) (loop .i) (omega arith)) ∙ rw (← c .before .before .bytes-at .ensures .bytes) (sym (c .before .is-holding .ensures)) ∙ c .if1 .left in
     (omega arith, loop .inv .1 ∙ seek-step test (view (s .entries) x) (loop .i) (omega arith) here)
 
 returns-2 : tie.Need-returns-2 Inv-loop μ-loop

@@ -16,17 +16,17 @@ abbrev μ-loop : tie.MeasureT-loop
 μ-loop store clock next es i₀ i = 8 - i
 
 is-place-sound-requires : tie.Need-is-place-sound-requires Inv-loop μ-loop
-is-place-sound-requires c κs = rw (c .bytes-at .ensures) (part-size _ (c .before .before .before .loop .i) (c .before .before .before .before .before .pre) (omega arith))
+is-place-sound-requires c κs = rw (c .bytes-at .ensures .bytes) (part-size _ (c .before .before .before .loop .i) (c .before .before .before .before .before .pre) (omega arith))
 
 returns : tie.Need-returns Inv-loop μ-loop
 returns c =
     let l = c .before .before .before .before .before .loop in
-    place-out _ _ _ _ (l .inv .1) (l .i) _ _ (omega arith) (c .before .before .bytes-at .ensures) (c .before .is-place-sound .ensures) (c .if1 .taken) (l .inv .2)
+    place-out _ _ _ _ (l .inv .1) (l .i) _ _ (omega arith) (c .before .before .bytes-at .ensures .bytes) (c .before .is-place-sound .ensures) (c .if1 .taken) (l .inv .2)
 
 loop-again : tie.Need-loop-again Inv-loop μ-loop
 loop-again c =
     let l = c .before .before .before .before .before .loop in
-    (omega arith, l .inv .1, place-on _ _ _ _ (l .inv .1) (l .i) _ _ (omega arith) (c .before .before .bytes-at .ensures) (c .before .is-place-sound .ensures) (c .if1 .left) (l .inv .2))
+    (omega arith, l .inv .1, place-on _ _ _ _ (l .inv .1) (l .i) _ _ (omega arith) (c .before .before .bytes-at .ensures .bytes) (c .before .is-place-sound .ensures) (c .if1 .left) (l .inv .2))
 
 returns-2 : tie.Need-returns-2 Inv-loop μ-loop
 returns-2 c = let l = c .before .loop in places-end _ _ _ _ (l .inv .1) (l .i) (omega arith) (l .inv .2)
