@@ -19,8 +19,9 @@ abbrev μ-loop : tie.MeasureT-loop
 
 is-holding-requires : tie.Need-is-holding-requires Inv-loop μ-loop
 is-holding-requires c κs =
-    let loop = c .before .before .before .loop in
-    let st = c .before .before .before .before .before .before .before in
+    let turn = c .before .before .before in
+    let loop = turn .loop in
+    let st = turn .before .before .before .before in
     let x = st .args .store .now in
     let whole : length (c .bytes-at .result .now) ≡ 4096 = ap length (c .bytes-at .ensures .bytes) ∙ part-size x (loop .i) (st .pre .store-size) (omega arith) in
     let fits = state-blob-fits (st .args .state) x (st .pre) (loop .i) (omega arith) in
@@ -29,8 +30,9 @@ is-holding-requires c κs =
 returns : tie.Need-returns Inv-loop μ-loop
 unfolding gatewayOf
 returns c =
-    let loop = c .before .before .before .before .before .loop in
-    let st = c .before .before .before .before .before .before .before .before .before in
+    let turn = c .before .before .before .before .before in
+    let loop = turn .loop in
+    let st = turn .before .before .before .before in
     let s = st .args .state in
     let x = st .args .store .now in
     let S = st .pre in
@@ -41,8 +43,9 @@ returns c =
 
 loop-again : tie.Need-loop-again Inv-loop μ-loop
 loop-again c =
-    let loop = c .before .before .before .before .before .loop in
-    let st = c .before .before .before .before .before .before .before .before .before in
+    let turn = c .before .before .before .before .before in
+    let loop = turn .loop in
+    let st = turn .before .before .before .before in
     let s = st .args .state in
     let x = st .args .store .now in
     let S = st .pre in
