@@ -13,20 +13,19 @@ Where the expectations come from:
 - UTF-8: the longest part from the start that Python's decoder takes.
 - recorded requests: the blob is the one that ssh-agent listed and that the .pub file has; lifetime and confirm are the
   options of the ssh-add command.
-- made and damaged requests, and constraints: the reader below, written from document 01 and not from the Rattle code.
-Where a fault is expected, its place is not.
+- made and damaged requests, constraints, and the place of every fault: the reader below, written from document 01 and not from the Rattle code.
 
 The input has the form that ../report/sections.py says, with these records:
   1 mpint             contents (string), positive and shortest (flag)
-  2 mpint string      bytes (string), place, from, to (numbers; from and to are 0 where a fault is expected)
+  2 mpint string      bytes (string), place, from, to (numbers; where a fault is expected, from is its place and to is 0)
   3 UTF-8             bytes (string), end (number)
   4 key fields        payload (string), FIELDS
   5 addition          payload (string), constrained (flag), LIMITS
   6 damaged fields    CHANGE, FIELDS
   7 damaged addition  CHANGE, constrained (flag), LIMITS
   8 constraints       bytes (string), place (number), LIMITS
-FIELDS: whole (flag), and if whole the end (number) and the blob (string). LIMITS: whole, limited (flags), seconds (number), confirm
-(flag), all 0 where a fault is expected.
+FIELDS: whole (flag), and if whole the end (number) and the blob (string), else the place of the fault (number). LIMITS: whole, limited (flags),
+seconds (number), confirm (flag), all 0 where a fault is expected, and the place of the fault (number, else 0).
 """
 import itertools
 import os
@@ -34,7 +33,7 @@ import sys
 
 sys.path.insert(0, os.path.join(os.path.dirname(os.path.abspath(__file__)), '../report'))
 from recorded import KEYS, public_blobs
-from sections import Fault, change, flag, near, need, number, string, take_string, write
+from sections import Fault, change, flag, near, number, string, take_string, write
 
 ED25519 = b'ssh-ed25519'
 RSA = b'ssh-rsa'
@@ -52,9 +51,23 @@ def is_positive_and_shortest(v):
     return value > 0 and v == mpint(value)
 
 
+# A fault is at the length of the first string that is cut or unfit.
+
+def need_at(test, place):
+    if not test:
+        raise Fault(place)
+
+
+def string_at(b, at):
+    try:
+        return take_string(b, at)
+    except Fault:
+        raise Fault(at)
+
+
 def take_mpint(b, at):
-    v, end = take_string(b, at)
-    need(is_positive_and_shortest(v))
+    v, end = string_at(b, at)
+    need_at(is_positive_and_shortest(v), at)
     return int.from_bytes(v, 'big'), end
 
 
@@ -63,21 +76,22 @@ CURVES = {b'nistp256': (65, 32), b'nistp384': (97, 48), b'nistp521': (133, 66)}
 
 
 def read_ed25519(b, at):
-    a, at = take_string(b, at)
-    both, at = take_string(b, at)
-    need(len(a) == 32 and len(both) == 64 and both[32:] == a)
-    return at, string(ED25519) + string(a)
+    a, second = string_at(b, at)
+    need_at(len(a) == 32, at)
+    both, end = string_at(b, second)
+    need_at(len(both) == 64 and both[32:] == a, second)
+    return end, string(ED25519) + string(a)
 
 
 def read_ecdsa(b, at, curve):
-    name, at = take_string(b, at)
-    need(name == curve)
+    name, second = string_at(b, at)
+    need_at(name == curve, at)
     most_q, most_d = CURVES[curve]
-    q, at = take_string(b, at)
-    need(len(q) == most_q and q[0] == 4)
-    d, at = take_mpint(b, at)
-    need((d.bit_length() + 7) // 8 <= most_d)
-    return at, string(b'ecdsa-sha2-' + curve) + string(curve) + string(q)
+    q, third = string_at(b, second)
+    need_at(len(q) == most_q and q[0] == 4, second)
+    d, end = take_mpint(b, third)
+    need_at((d.bit_length() + 7) // 8 <= most_d, third)
+    return end, string(b'ecdsa-sha2-' + curve) + string(curve) + string(q)
 
 
 def read_rsa(b, at):
@@ -91,35 +105,36 @@ def read_rsa(b, at):
 
 def read_fields(b, at):
     """The end of the key fields, and their blob."""
-    kind, at = take_string(b, at)
+    kind, behind = string_at(b, at)
     if kind == ED25519:
-        return read_ed25519(b, at)
+        return read_ed25519(b, behind)
     if kind == RSA:
-        return read_rsa(b, at)
+        return read_rsa(b, behind)
     head, curve = kind[:11], kind[11:]
-    need(head == b'ecdsa-sha2-' and curve in CURVES)
-    return read_ecdsa(b, at, curve)
+    need_at(head == b'ecdsa-sha2-' and curve in CURVES, at)
+    return read_ecdsa(b, behind, curve)
 
 
 def read_constraints(b, at):
-    """Lifetime (or None) and confirm."""
+    """Lifetime (or None) and confirm. An unknown byte and a second lifetime are faults at their byte, cut seconds where they start."""
     lifetime, confirm = None, False
     while at < len(b):
         kind, at = b[at], at + 1
-        need(kind in (1, 2))
+        need_at(kind in (1, 2), at - 1)
         if kind == 2:
             confirm = True
         else:
-            need(lifetime is None and at + 4 <= len(b))
+            need_at(lifetime is None, at - 1)
+            need_at(at + 4 <= len(b), at)
             lifetime, at = int.from_bytes(b[at:at + 4], 'big'), at + 4
     return lifetime, confirm
 
 
 def read_addition(b, at, constrained):
     at, _ = read_fields(b, at)
-    comment, at = take_string(b, at)
-    need(utf8_end(comment) == len(comment))
-    return read_constraints(b, at) if constrained else (None, False)
+    comment, end = string_at(b, at)
+    need_at(utf8_end(comment) == len(comment), at + 4 + utf8_end(comment))
+    return read_constraints(b, end) if constrained else (None, False)
 
 
 def utf8_end(b):
@@ -136,43 +151,42 @@ def utf8_end(b):
 # ---- records
 
 def answer(read, *args):
+    """What is read, and 0; or None, and the place of the fault."""
     try:
-        return read(*args)
-    except Fault:
-        return None
+        return read(*args), 0
+    except Fault as fault:
+        return None, fault.args[0]
 
 
-def fields(want):
-    return flag(0) if want is None else flag(1) + number(want[0]) + string(want[1])
+def fields(want, place=0):
+    return flag(0) + number(place) if want is None else flag(1) + number(want[0]) + string(want[1])
 
 
-def limits(want):
-    if want is None:
-        return flag(0) + flag(0) + number(0) + flag(0)
-    lifetime, confirm = want
-    return flag(1) + flag(lifetime is not None) + number(lifetime or 0) + flag(confirm)
+def limits(want, place=0):
+    lifetime, confirm = want or (None, False)
+    return flag(want is not None) + flag(lifetime is not None) + number(lifetime or 0) + flag(confirm) + number(place)
 
 
 def key_record(payload):
-    return string(payload) + fields(answer(read_fields, payload, 1))
+    return string(payload) + fields(*answer(read_fields, payload, 1))
 
 
 def addition_record(payload, constrained):
-    return string(payload) + flag(constrained) + limits(answer(read_addition, payload, 1, constrained))
+    return string(payload) + flag(constrained) + limits(*answer(read_addition, payload, 1, constrained))
 
 
 def damaged_key_record(base, *how):
     c, payload = change(base, *how)
-    return c + fields(answer(read_fields, payload, 1))
+    return c + fields(*answer(read_fields, payload, 1))
 
 
 def damaged_addition_record(base, constrained, *how):
     c, payload = change(base, *how)
-    return c + flag(constrained) + limits(answer(read_addition, payload, 1, constrained))
+    return c + flag(constrained) + limits(*answer(read_addition, payload, 1, constrained))
 
 
 def constraints_record(b, at):
-    return string(b) + number(at) + limits(answer(read_constraints, b, at))
+    return string(b) + number(at) + limits(*answer(read_constraints, b, at))
 
 
 # ---- mpint
@@ -202,8 +216,8 @@ def mpint_strings():
 
 
 def mpint_string_record(b, at):
-    want = answer(take_mpint, b, at)
-    return string(b) + number(at) + (number(0) + number(0) if want is None else number(at + 4) + number(want[1]))
+    want, place = answer(take_mpint, b, at)
+    return string(b) + number(at) + (number(place) + number(0) if want is None else number(at + 4) + number(want[1]))
 
 
 # ---- UTF-8
@@ -423,8 +437,9 @@ def sections(folder):
     yield 1, 'mpint', b'', [string(v) + flag(yes) for v, yes in mpint_contents()]
     yield 2, 'mpint string', b'', [mpint_string_record(*one) for one in mpint_strings()]
     yield 3, 'utf-8', b'', [string(b) + number(utf8_end(b)) for b in utf8_strings()]
-    yield 4, 'recorded key', b'', [string(r.payload) + fields(r.fields(blobs)) for r in requests]
-    yield 5, 'recorded addition', b'', [string(r.payload) + flag(r.is_constrained()) + limits(r.limits()) for r in requests]
+    yield 4, 'recorded key', b'', [string(r.payload) + fields(r.fields(blobs), answer(read_fields, r.payload, 1)[1]) for r in requests]
+    yield 5, 'recorded addition', b'', [
+        string(r.payload) + flag(r.is_constrained()) + limits(r.limits(), answer(read_addition, r.payload, 1, r.is_constrained())[1]) for r in requests]
     yield 4, 'made key', b'', [key_record(p) for p in made]
     yield 5, 'made addition', b'', [addition_record(*one) for one in made_additions(ed25519)]
     last = {key: files[key][-1].payload for key in KEYS}

@@ -1,4 +1,4 @@
-// Whether the libraries answer what is expected, each over plain bytes. Where a fault is expected, any place of it will do.
+// Whether the libraries answer what is expected, each over plain bytes.
 use keys::addition::Addition;
 use keys::addition::addition_at;
 use keys::constraints::Lifetime;
@@ -14,15 +14,16 @@ use wire::read::Part;
 use wire::read::cut;
 use wire::read::is_same;
 
-// What constraints say; all else is nothing where they are not whole.
+// What constraints say; all else is nothing where they are not whole, but the place of the fault.
 pub struct Limits {
     pub whole: bool,
     pub limited: bool,
     pub seconds: u32,
     pub confirm: bool,
+    pub place: usize,
 }
 
-// The mpint at a place has its contents from `from` up to `to`; both are 0 where a fault is expected.
+// The mpint at a place has its contents from `from` up to `to`; where a fault is expected, it is at `from`, and `to` is 0.
 pub(crate) fn has_mpint(s: &[u8], at: usize, from: usize, to: usize) -> bool {
     let found = Cursor { at }.mpint(s);
     match found {
@@ -31,7 +32,7 @@ pub(crate) fn has_mpint(s: &[u8], at: usize, from: usize, to: usize) -> bool {
             to: t,
             next,
         } => f == from && t == to && next.at == to,
-        Part::Fault(_) => to == 0,
+        Part::Fault(place) => to == 0 && place == from,
     }
 }
 
@@ -58,11 +59,11 @@ pub(crate) fn has_fields(payload: &[u8], end: usize, blob: &[u8]) -> bool {
     }
 }
 
-pub(crate) fn has_no_fields(payload: &[u8]) -> bool {
+pub(crate) fn has_no_fields(payload: &[u8], place: usize) -> bool {
     let key = key_at(payload, 1);
     match key {
         Key::Whole(_) => false,
-        Key::Fault(_) => true,
+        Key::Fault(at) => at == place,
     }
 }
 
@@ -76,15 +77,16 @@ fn is_same_limits(a: Limits, b: Limits) -> bool {
     if a.seconds != b.seconds {
         return false;
     }
-    a.confirm == b.confirm
+    a.confirm == b.confirm && a.place == b.place
 }
 
-fn faulty() -> Limits {
+fn faulty(place: usize) -> Limits {
     Limits {
         whole: false,
         limited: false,
         seconds: 0,
         confirm: false,
+        place,
     }
 }
 
@@ -95,12 +97,14 @@ fn limits_of(lifetime: Lifetime, confirm: bool) -> Limits {
             limited: false,
             seconds: 0,
             confirm,
+            place: 0,
         },
         Lifetime::For(seconds) => Limits {
             whole: true,
             limited: true,
             seconds: seconds.count,
             confirm,
+            place: 0,
         },
     }
 }
@@ -113,7 +117,7 @@ pub(crate) fn has_addition(payload: &[u8], constrained: bool, want: Limits) -> b
             lifetime,
             confirm,
         } => is_same_limits(limits_of(lifetime, confirm), want),
-        Addition::Fault(_) => is_same_limits(faulty(), want),
+        Addition::Fault(place) => is_same_limits(faulty(place), want),
     }
 }
 
@@ -121,8 +125,8 @@ pub(crate) fn has_constraints(s: &[u8], from: usize, want: Limits) -> bool {
     let walk = constraints(s, from);
     match walk {
         Walk::Done { lifetime, confirm } => is_same_limits(limits_of(lifetime, confirm), want),
-        Walk::Duplicate(_) => is_same_limits(faulty(), want),
-        Walk::Unknown(_) => is_same_limits(faulty(), want),
-        Walk::Cut(_) => is_same_limits(faulty(), want),
+        Walk::Duplicate(place) => is_same_limits(faulty(place), want),
+        Walk::Unknown(place) => is_same_limits(faulty(place), want),
+        Walk::Cut(place) => is_same_limits(faulty(place), want),
     }
 }

@@ -69,7 +69,7 @@ fn utf8(s: &[u8], c: Cursor) -> Ran {
 fn key(s: &[u8], c: Cursor, payload: &[u8]) -> Ran {
     let want = read_fields(s, c);
     match want {
-        Fields::Fault(next) => ran_as(has_no_fields(payload), next),
+        Fields::Fault { place, next } => ran_as(has_no_fields(payload, place), next),
         Fields::Whole { end, blob, next } => {
             let from = blob.from;
             let to = blob.to;

@@ -11,7 +11,10 @@ use wire::read::Part;
 
 // What is expected of key fields.
 pub enum Fields {
-    Fault(Cursor),
+    Fault {
+        place: usize,
+        next: Cursor,
+    },
     Whole {
         end: usize,
         blob: Span,
@@ -26,17 +29,20 @@ pub enum Limited {
     Malformed,
 }
 
-// A flag, and if it is set the end of the fields and their blob.
+// A flag, and if it is set the end of the fields and their blob, else the place of the fault.
 pub(crate) fn read_fields(s: &[u8], c: Cursor) -> Fields {
     let Flag::Value(whole, a) = read_flag(s, c) else {
         return Fields::Malformed;
     };
-    if !whole {
-        return Fields::Fault(a);
-    }
     let Place::Value(end, b) = read_place(s, a) else {
         return Fields::Malformed;
     };
+    if !whole {
+        return Fields::Fault {
+            place: end,
+            next: b,
+        };
+    }
     let Part::Whole { from, to, next } = b.string(s) else {
         return Fields::Malformed;
     };
@@ -57,7 +63,10 @@ pub(crate) fn read_limits(s: &[u8], c: Cursor) -> Limited {
     let Number::Value(seconds, d) = b.number(s) else {
         return Limited::Malformed;
     };
-    let Flag::Value(confirm, next) = read_flag(s, d) else {
+    let Flag::Value(confirm, e) = read_flag(s, d) else {
+        return Limited::Malformed;
+    };
+    let Place::Value(place, next) = read_place(s, e) else {
         return Limited::Malformed;
     };
     Limited::Value(
@@ -66,6 +75,7 @@ pub(crate) fn read_limits(s: &[u8], c: Cursor) -> Limited {
             limited,
             seconds,
             confirm,
+            place,
         },
         next,
     )
