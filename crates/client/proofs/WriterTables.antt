@@ -1,4 +1,4 @@
--- Answers told apart by their values, and when each answer of a writer comes: each test decides once those before it have passed. Nothing is assumed of the bytes.
+-- When each answer of a writer comes: each test decides once those before it have passed; and answers told apart by their values. Nothing is assumed of the bytes.
 use Prim.Native.Nat.{ℕ, _+_}
 use mathlib.Core.Path.{_≡_, refl, sym, ap, ap₂, _∙_}
 use mathlib.Core.List.{List}
@@ -21,6 +21,49 @@ use Rattle.client.specs.Refusals.{Where, no-place, at-place, refusalNumb
 use Rattle.client.specs.Values.{Says, grants, refuses, wroteSays}
 use Rattle.client.specs.Requests.{headAnswer, plainSmartcard, constrainedSmartcard, removeSmartcard, addSmartcard, removeSmartcardAnswer, addSmartcardAnswer}
 use Rattle.client.specs.Promises.{WriterTable, RemoveSmartcardTable, AddSmartcardTable, RefusalsApart, WroteApart}
+
+-- ## Frames
+
+pub writer-table : WriterTable
+unfolding headAnswer so
+writer-table p out = record {
+  too-long = λ h. rw (lt-leb (length p) 262144 h);
+  too-short = λ h k. rw (le-leb (length p) 262144 h, lt-leb (4 + length p) (length out) k);
+  written = λ h k. rw (le-leb (length p) 262144 h, le-leb (4 + length p) (length out) k);
+}
+
+-- ## Smartcards
+
+-- what the ABNF derives is UTF-8 up to its end, and nothing else is
+module _ (id : List ℕ) where
+  text-whole : Octets id → utf8End id ≡ length id
+  text-whole o = utf8-end-whole id .1 (utf8-rule id .1 o)
+
+  no-text-whole : (Octets id → ⊥) → utf8End id ≡ length id → ⊥
+  no-text-whole never e = never (utf8-rule id .0 (utf8-end-whole id .0 e))
+
+  -- there is one longest part
+  longest-end : (n : ℕ) → Longest id n → utf8End id ≡ n
+  longest-end n l = longest-one id (utf8End id) n (utf8-end id) l
+
+pub remove-smartcard-table : RemoveSmartcardTable
+unfolding removeSmartcardAnswer so
+remove-smartcard-table id pin out = record {
+  no-text = λ n never l. rw (ne-eqb (utf8End id) (length id) (no-text-whole id never), longest-end id n l);
+  framed = λ o. rw (eq-eqb (utf8End id) (length id) (text-whole id o)) (writer-table (removeSmartcard id pin) out);
+}
+
+pub add-smartcard-table : AddSmartcardTable
+unfolding addSmartcardAnswer addSmartcard so
+add-smartcard-table id pin cs count out = record {
+  none-given = λ z. rw (eq-eqb count 0 z);
+  some-given = λ s. rw (ne-eqb count 0 (λ z. omega arith));
+  too-many = λ h. rw (lt-leb count 4 h);
+  no-text = λ n h never l. rw (le-leb count 4 h, ne-eqb (utf8End id) (length id) (no-text-whole id never), longest-end id n l);
+  plain = λ z o. rw (le-leb count 4 (omega arith), eq-eqb (utf8End id) (length id) (text-whole id o), eq-eqb count 0 z) (writer-table (plainSmartcard id pin) out);
+  constrained = λ s h o.
+      rw (le-leb count 4 h, eq-eqb (utf8End id) (length id) (text-whole id o), ne-eqb count 0 (λ z. omega arith)) (writer-table (constrainedSmartcard id pin (take count cs)) out);
+}
 
 -- ## Values
 
@@ -80,46 +123,3 @@ wrote-apart (Written m) b e = sym (wrote-written b m (sym e))
 wrote-apart (Refused r) b e =
     let (q, is, y) = wrote-refused b (refusalNumber r) (refusalPlace r) (sym e) in
     ap Refused (refusals-apart r q (sym (y .number)) (sym (y .place))) ∙ sym is
-
--- ## Frames
-
-pub writer-table : WriterTable
-unfolding headAnswer so
-writer-table p out = record {
-  too-long = λ h. rw (lt-leb (length p) 262144 h);
-  too-short = λ h k. rw (le-leb (length p) 262144 h, lt-leb (4 + length p) (length out) k);
-  written = λ h k. rw (le-leb (length p) 262144 h, le-leb (4 + length p) (length out) k);
-}
-
--- ## Smartcards
-
--- what the ABNF derives is UTF-8 up to its end, and nothing else is
-module _ (id : List ℕ) where
-  text-whole : Octets id → utf8End id ≡ length id
-  text-whole o = utf8-end-whole id .1 (utf8-rule id .1 o)
-
-  no-text-whole : (Octets id → ⊥) → utf8End id ≡ length id → ⊥
-  no-text-whole never e = never (utf8-rule id .0 (utf8-end-whole id .0 e))
-
-  -- there is one longest part
-  longest-end : (n : ℕ) → Longest id n → utf8End id ≡ n
-  longest-end n l = longest-one id (utf8End id) n (utf8-end id) l
-
-pub remove-smartcard-table : RemoveSmartcardTable
-unfolding removeSmartcardAnswer so
-remove-smartcard-table id pin out = record {
-  no-text = λ n never l. rw (ne-eqb (utf8End id) (length id) (no-text-whole id never), longest-end id n l);
-  framed = λ o. rw (eq-eqb (utf8End id) (length id) (text-whole id o)) (writer-table (removeSmartcard id pin) out);
-}
-
-pub add-smartcard-table : AddSmartcardTable
-unfolding addSmartcardAnswer addSmartcard so
-add-smartcard-table id pin cs count out = record {
-  none-given = λ z. rw (eq-eqb count 0 z);
-  some-given = λ s. rw (ne-eqb count 0 (λ z. omega arith));
-  too-many = λ h. rw (lt-leb count 4 h);
-  no-text = λ n h never l. rw (le-leb count 4 h, ne-eqb (utf8End id) (length id) (no-text-whole id never), longest-end id n l);
-  plain = λ z o. rw (le-leb count 4 (omega arith), eq-eqb (utf8End id) (length id) (text-whole id o), eq-eqb count 0 z) (writer-table (plainSmartcard id pin) out);
-  constrained = λ s h o.
-      rw (le-leb count 4 h, eq-eqb (utf8End id) (length id) (text-whole id o), ne-eqb count 0 (λ z. omega arith)) (writer-table (constrainedSmartcard id pin (take count cs)) out);
-}
