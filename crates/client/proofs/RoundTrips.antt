@@ -1,22 +1,25 @@
 -- The promises: the splitter finds what a writer wrote, and the gateway's rule reads from a request what was given.
 use Prim.Native.Nat.{ℕ, _+_, _^_, _≤_, _<_}
-use mathlib.Core.Path.{_≡_, refl, ap, _∙_}
+use mathlib.Core.Path.{_≡_, refl, ap, subst, _∙_}
 use mathlib.Core.List.{List, [], _∷_, _++_, append-nil}
 use mathlib.Core.Bool.{Bool, true, false}
 use native.Mathlib.Omega.{arith}
 use lib.ListN.{length, take, drop, length-append}
 use lib.Seq.{take-at, drop-at}
+use Rattle.wire.specs.declared.Constraint.{Constraint}
+use Rattle.wire.specs.declared.Constraint.the-variants.{KeyLifetime, Confirm}
 use Rattle.wire.specs.Numbers.{Bytes, be32}
 use Rattle.wire.specs.Steps.{so}
 use Rattle.wire.specs.Values.{numberReads, partReads}
 use Rattle.wire.specs.Write.{write, string}
 use Rattle.wire.proofs.Format.{number-form, string-form}
+use Rattle.keys.specs.Forms.{constraintForm, constraintForms}
 use Rattle.rule.specs.Order.{Begins, Carries}
 use Rattle.client.specs.declared.Refusal.{Refusal}
 use Rattle.client.specs.declared.Wrote.{Wrote}
 use Rattle.client.specs.declared.Wrote.the-variants.{Refused}
 use Rattle.client.specs.Requests.{signRequest, removeSmartcardAnswer, removeSmartcardLeft, addSmartcardAnswer, addSmartcardLeft}
-use Rattle.client.specs.Promises.{Holds, Splits, Sent, Writes, WriterRule, RemoveSmartcardRule, AddSmartcardRule, SmartcardExample, ListRead, LockRead, UnlockRead, SignRead}
+use Rattle.client.specs.Promises.{Holds, Splits, Sent, Writes, WriterRule, RemoveSmartcardRule, AddSmartcardRule, SmartcardExample, ListRead, LockRead, UnlockRead, SignRead, CardReads, SmartcardRead}
 use Rattle.client.proofs.ByteLaws.{bytes-cons, bytes-append, be32-bytes, string-bytes}
 use Rattle.client.proofs.WriteLaws.{Met, Stage, stage, untouched}
 use Rattle.client.proofs.SplitTables.{split-table}
@@ -126,3 +129,45 @@ sign-read blob bytes flags hb hd lb ld lf =
       flags-read = ap numberReads (n .0);
       form = record { rest = []; short = lf; shape = refl };
     }
+
+-- ## Smartcards
+
+card-reads : (byte : ℕ) (id pin rest : List ℕ) → byte < 256 → Bytes id → Bytes pin → Bytes rest → length id < 2 ^ 32 → length pin < 2 ^ 32
+    → CardReads byte (byte ∷ (string id ++ (string pin ++ rest))) id pin rest
+card-reads byte id pin rest b hi hp hr li lp =
+    let payload = byte ∷ (string id ++ (string pin ++ rest)) in
+    let all : Bytes payload = bytes-cons byte (string id ++ (string pin ++ rest)) b (bytes-string id (string pin ++ rest) hi (bytes-string pin rest hp hr)) in
+    let r = string-form payload 1 id (string pin ++ rest) all li .0 refl in
+    let s = string-form payload (1 + 4 + length id) pin rest all lp .0 (r .2) in
+    record {
+      first = begins byte _;
+      id-read = record { from = _; to = _; next = record { at = 1 + 4 + length id }; read = r .0; is = r .1 };
+      from = _;
+      to = _;
+      next = 1 + 4 + length id + 4 + length pin;
+      pin-read = ap partReads (s .0);
+      pin-is = s .1;
+      behind = s .2;
+    }
+
+-- with nothing behind the PIN
+plain-reads : (byte : ℕ) (id pin : List ℕ) → byte < 256 → Bytes id → Bytes pin → length id < 2 ^ 32 → length pin < 2 ^ 32
+    → CardReads byte (byte ∷ (string id ++ string pin)) id pin []
+plain-reads byte id pin b hi hp li lp =
+    subst (λ (s : List ℕ). CardReads byte (byte ∷ (string id ++ s)) id pin []) (append-nil (string pin)) (card-reads byte id pin [] b hi hp bytes-none li lp)
+
+form-bytes : (c : Constraint) → Bytes (constraintForm c)
+form-bytes (KeyLifetime seconds) = bytes-cons 1 (be32 (seconds .count)) (omega arith) (be32-bytes (seconds .count))
+form-bytes Confirm = bytes-cons 2 [] (omega arith) bytes-none
+
+forms-bytes : (cs : List Constraint) → Bytes (constraintForms cs)
+forms-bytes [] = bytes-none
+forms-bytes (c ∷ cs) = bytes-append (constraintForm c) (constraintForms cs) (form-bytes c) (forms-bytes cs)
+
+pub smartcard-read : SmartcardRead
+smartcard-read id pin hi hp li lp = record {
+  add = plain-reads 20 id pin (omega arith) hi hp li lp;
+  remove = plain-reads 21 id pin (omega arith) hi hp li lp;
+  constrained = λ cs.
+      card-reads 26 id pin (be32 (length cs) ++ constraintForms cs) (omega arith) hi hp (bytes-append (be32 (length cs)) (constraintForms cs) (be32-bytes (length cs)) (forms-bytes cs)) li lp;
+}

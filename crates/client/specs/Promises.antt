@@ -14,6 +14,7 @@ use Rattle.wire.specs.Values.{read, numberReads, partReads}
 use Rattle.wire.specs.Write.{string}
 use Rattle.wire.specs.Frames.{splitOf, framePayload, payloadFrom}
 use Rattle.wire.specs.Promises.{OneToOne, Longest}
+use Rattle.keys.specs.Forms.{constraintForms}
 use Rattle.rule.specs.Order.{Begins, Carries}
 use Rattle.rule.specs.Content.{SignRequest}
 use Rattle.client.specs.declared.Refusal.{Refusal}
@@ -154,3 +155,25 @@ abbrev pub SignRead : Type 0
 SignRead =
     (blob bytes : List ℕ) (flags : ℕ) → Bytes blob → Bytes bytes → length blob < 2 ^ 32 → length bytes < 2 ^ 32 → flags < 2 ^ 32
     → SignReads (signRequest blob bytes flags) blob bytes flags
+
+-- ## Smartcards: what any reader of strings finds in a request
+
+-- the number, behind it the id and the PIN as strings, and behind them `rest`
+pub record CardReads (byte : ℕ) (payload id pin rest : List ℕ) : Type 0 where
+  pub first : Begins byte payload
+  pub id-read : Carries id payload
+  pub from : ℕ
+  pub to : ℕ
+  pub next : ℕ
+  pub pin-read : partReads (stringAt payload (id-read .next .at)) ≡ read (record { from = from; to = to }) next
+  pub pin-is : cutOf payload from to ≡ pin
+  pub behind : drop next payload ≡ rest
+
+-- "20 and 26 (id, PIN), 21"; "26 with a u32 count before them"
+pub record CardsRead (id pin : List ℕ) : Type 0 where
+  pub add : CardReads 20 (plainSmartcard id pin) id pin []
+  pub remove : CardReads 21 (removeSmartcard id pin) id pin []
+  pub constrained : (cs : List Constraint) → CardReads 26 (constrainedSmartcard id pin cs) id pin (be32 (length cs) ++ constraintForms cs)
+
+abbrev pub SmartcardRead : Type 0
+SmartcardRead = (id pin : List ℕ) → Bytes id → Bytes pin → length id < 2 ^ 32 → length pin < 2 ^ 32 → CardsRead id pin
