@@ -18,7 +18,7 @@ sys.path[:0] = [os.path.join(HERE, '../crates/exchanges'), os.path.join(HERE, '.
 import make
 from make import CERTIFICATE, CONFIRM, MOST, NO_TEXTS, answer, frame_of, list_of, piece, signature_of, split
 from recorded import public_blobs
-from sections import Fault, number, string, take_string
+from sections import Fault, need, number, string, take_string
 
 CONSTRAINTS, LONG, HASH = 'over four constraints', 'payload over 262,144 bytes', 'hash 2 or 4, key not RSA'
 NO_KEY, NO_CERTIFICATE, NESTS = 'blob is no key', 'type of a certificate in front of none', 'nine times -cert-v01@'
@@ -260,7 +260,7 @@ def reply_to(payload):
         if blob != HELD:
             return 'reply 0000000105'
         data, at = take_string(payload, at)
-        make.need(at + 4 <= len(payload))
+        need(at + 4 <= len(payload))
         return 'reply ' + string(make.reply(string(b'ssh-ed25519') + string(data))).hex()
     except Fault:
         return 'close'
