@@ -15,17 +15,17 @@ Where the expectations come from:
 - russh: what it wrote and answered. Its errors have fewer kinds than 01's refusals: a protocol error is 13 for a reply of type 14 and 15 for
   others. Where 01 decides otherwise, 01 is expected: these inputs stand in DIFFERS with both answers, and any other that differs ends this script.
 - made, short, long and damaged: the readers and writers below, written from document 01 and not from the Rattle code. They have to agree
-  with every expectation above too. Where a fault is expected, its place is not.
+  with every expectation above too. The place of a fault is theirs everywhere: nothing recorded has one.
 
 The input has the form that ../report/sections.py says, with these records:
   1 request              REQUEST, WRITING
   2 smartcard            REQUEST with the number of constraints as its flags, four constraints (each limited (flag), seconds (number)), WRITING
   3, 4 splitter          BYTES, kind (byte: 0 more needed, 1 too long, 2 a frame), payload (PIECE)
-  5, 6 list              BYTES, refusal (byte), count, index (numbers), and of the item refusal (byte), from, to (numbers), certificate (flag)
+  5, 6 list              BYTES, WHY, count, index (numbers), and of the item WHY, from, to (numbers), certificate (flag)
   7, 8 signature         BYTES, hash (number), WRITING
 BYTES: a PIECE in kinds 3, 5 and 7, a CHANGE in kinds 4, 6 and 8. PIECE: bytes (string) and how many letters `a` stand behind them (number).
-REQUEST: message (byte), two parts (PIECE), flags (number). WRITING: room of the output (number), refusal (byte, 0 where it is written), and
-what is written: its front (PIECE) and tail (string).
+REQUEST: message (byte), two parts (PIECE), flags (number). WRITING: room of the output (number), WHY, and
+what is written: its front (PIECE) and tail (string). WHY: refusal (byte, 0 where there is none), place of its fault (number, 0 where it has none).
 """
 import itertools
 import os
@@ -44,8 +44,9 @@ MANY = b'a' * 64
 # ---- the rules of document 01
 
 class Refusal(Exception):
-    def __init__(self, number):
-        self.number = number
+    """By its number, and the place of its fault, 0 where it has none."""
+    def __init__(self, number, place=0):
+        self.number, self.place = number, place
 
 
 def refuse_unless(test, number):
@@ -53,18 +54,45 @@ def refuse_unless(test, number):
         raise Refusal(number)
 
 
-def is_text(b):
+def text_end(b):
+    """Where the longest part from the start that is UTF-8 ends."""
     try:
         b.decode('utf-8')
-        return True
-    except UnicodeDecodeError:
-        return False
+        return len(b)
+    except UnicodeDecodeError as error:
+        return error.start
+
+
+def is_text(b):
+    return text_end(b) == len(b)
 
 
 def take_text(b, at):
     v, at = take_string(b, at)
     need(is_text(v))
     return v, at
+
+
+# Of a payload: a fault is 12, at the place of the length, of the text's first byte that is not UTF-8, or of the number.
+
+def string_in(payload, at):
+    try:
+        return take_string(payload, at)
+    except Fault:
+        raise Refusal(12, at)
+
+
+def text_in(payload, at):
+    v, end = string_in(payload, at)
+    if not is_text(v):
+        raise Refusal(12, at + 4 + text_end(v))
+    return v, end
+
+
+def bytes_in(payload, at, count):
+    if at + count > len(payload):
+        raise Refusal(12, at)
+    return payload[at:at + count], at + count
 
 
 def split(b):
@@ -92,7 +120,8 @@ def payload_of(message, first, second, flags, constraints):
     if message in (22, 23):
         return bytes([message]) + string(first)
     refuse_unless(len(constraints) <= 4, 18)
-    refuse_unless(is_text(first), 12)
+    if not is_text(first):
+        raise Refusal(12, text_end(first))
     if message == 20 and constraints:
         return b'\x1a' + string(first) + string(second) + number(len(constraints)) + b''.join(map(constraint, constraints))
     return bytes([message]) + string(first) + string(second)
@@ -109,16 +138,13 @@ def list_of(payload):
     """The items, each (from, to, certificate)."""
     if payload[:1] != b'\x0c':
         return []
-    try:
-        need(5 <= len(payload))
-        at, items = 5, []
-        for _ in range(int.from_bytes(payload[1:5], 'big')):
-            blob, end = take_string(payload, at)
-            items.append((at + 4, end, is_certificate(blob)))
-            _, at = take_text(payload, end)
-        return items
-    except Fault:
-        raise Refusal(12)
+    count, at = bytes_in(payload, 1, 4)
+    items = []
+    for _ in range(int.from_bytes(count, 'big')):
+        blob, end = string_in(payload, at)
+        items.append((at + 4, end, is_certificate(blob)))
+        _, at = text_in(payload, end)
+    return items
 
 
 def is_certificate(blob):
@@ -137,17 +163,16 @@ def item_of(payload, index):
 def signature_of(payload, hash, room):
     refuse_unless(payload[:1] != b'\x05', 14)
     refuse_unless(payload[:1] == b'\x0e', 15)
-    try:
-        inside, _ = take_string(payload, 1)
-        t, at = take_text(inside, 0)
-        refuse_unless(hash == 0 or (hash, t) in ((2, b'rsa-sha2-256'), (4, b'rsa-sha2-512')), 13)
-        sig, at = take_string(inside, at)
-        more = b''
-        if t.startswith(b'sk-'):
-            need(at + 5 <= len(inside))
-            more = inside[at:at + 5]
-    except Fault:
-        raise Refusal(12)
+    _, end = string_in(payload, 1)
+    inside = payload[:end]
+    t, at = text_in(inside, 5)
+    refuse_unless(hash == 0 or (hash, t) in ((2, b'rsa-sha2-256'), (4, b'rsa-sha2-512')), 13)
+    sig, at = string_in(inside, at)
+    more = b''
+    if t.startswith(b'sk-'):
+        flags, at = bytes_in(inside, at, 1)
+        counter, at = bytes_in(inside, at, 4)
+        more = flags + counter
     written = number(len(t) + len(sig) + 8 + len(more)) + string(t) + string(sig) + more
     refuse_unless(len(written) <= room, 11)
     return written
@@ -163,27 +188,38 @@ def answer(rule, *args):
         return refusal.number, None
 
 
+def reason(rule, *args):
+    """Its refusal in a record."""
+    try:
+        rule(*args)
+        return bytes([0]) + number(0)
+    except Refusal as refusal:
+        return bytes([refusal.number]) + number(refusal.place)
+
+
 def piece(b):
     """As bytes, and the letters behind them where there are many."""
     front = b.rstrip(b'a') if b.endswith(MANY) else b
     return string(front) + number(len(b) - len(front))
 
 
-def writing(room, refusal, written):
+def writing(room, why, written):
     """What is written has its tail behind the last of many letters."""
     written = written or b''
     end = written.rindex(MANY) + len(MANY) if MANY in written else len(written)
-    return number(room) + bytes([refusal]) + piece(written[:end]) + string(written[end:])
+    return number(room) + why + piece(written[:end]) + string(written[end:])
 
 
 def request_record(room, refusal, frame, message, first=b'', second=b'', flags=0, constraints=()):
-    assert (refusal, frame) == answer(frame_of, room, message, first, second, flags, constraints)
+    request = room, message, first, second, flags, constraints
+    assert (refusal, frame) == answer(frame_of, *request)
     parts = bytes([message]) + piece(first) + piece(second)
+    expected = writing(room, reason(frame_of, *request), frame)
     if message != 20:
-        return parts + number(flags) + writing(room, refusal, frame)
+        return parts + number(flags) + expected
     four = (*constraints, CONFIRM, CONFIRM, 7, CONFIRM)[:4]
     limits = b''.join(flag(c is not CONFIRM) + number(c or 0) for c in four)
-    return parts + number(len(constraints)) + limits + writing(room, refusal, frame)
+    return parts + number(len(constraints)) + limits + expected
 
 
 def made_request(room, *request):
@@ -202,15 +238,13 @@ def frame_expected(b):
 
 
 def list_expected(payload, index):
-    refusal, items = answer(list_of, payload)
-    refused, item = answer(item_of, payload, index)
-    start, end, certificate = item or (0, 0, False)
-    entry = bytes([refused]) + number(start) + number(end) + flag(certificate)
-    return bytes([refusal]) + number(len(items or [])) + number(index) + entry
+    start, end, certificate = answer(item_of, payload, index)[1] or (0, 0, False)
+    entry = reason(item_of, payload, index) + number(start) + number(end) + flag(certificate)
+    return reason(list_of, payload) + number(len(answer(list_of, payload)[1] or [])) + number(index) + entry
 
 
 def signature_expected(payload, hash, room):
-    return number(hash) + writing(room, *answer(signature_of, payload, hash, room))
+    return number(hash) + writing(room, reason(signature_of, payload, hash, room), answer(signature_of, payload, hash, room)[1])
 
 
 def list_records(payload):

@@ -2,6 +2,7 @@
 use crate::parts::Entry;
 use crate::parts::Piece;
 use crate::parts::Request;
+use crate::parts::Why;
 use crate::parts::Writing;
 use client::Refusal;
 use client::Wrote;
@@ -41,6 +42,18 @@ fn number_of(refusal: Refusal) -> u8
         Refusal::PayloadTooLong => 17,
         Refusal::TooManyConstraints => 18,
     }
+}
+
+// The place of a fault, 0 where there is none.
+fn place_of(refusal: Refusal) -> usize {
+    let Refusal::Malformed(at) = refusal else {
+        return 0;
+    };
+    at
+}
+
+fn is_why(refusal: Refusal, want: Why) -> bool {
+    number_of(refusal) == want.number && place_of(refusal) == want.place
 }
 
 // Room for a piece, longer than any frame: letters, which its bytes are put in front of.
@@ -103,15 +116,16 @@ fn is_piece(s: &[u8], p: Piece, v: &[u8]) -> bool {
 
 // The writer wrote what it is to write, or refused as it is to; all other bytes of the output are as they were.
 fn is_done(s: &[u8], want: Writing, wrote: Wrote, out: &[u8]) -> bool {
+    let why = want.refusal;
     match wrote {
         Wrote::Refused(refusal) => {
-            if number_of(refusal) != want.refusal {
+            if !is_why(refusal, why) {
                 return false;
             }
             is_all(out, 165)
         }
         Wrote::Written(n) => {
-            if want.refusal != 0 {
+            if why.number != 0 {
                 return false;
             }
             let tail = cut(s, want.tail.from, want.tail.to);
@@ -188,27 +202,25 @@ pub(crate) fn has_card(
     is_done(s, want, wrote, out)
 }
 
-pub(crate) fn has_count(payload: &[u8], refusal: u8, count: usize) -> bool {
+pub(crate) fn has_count(payload: &[u8], want: Why, count: usize) -> bool {
     let listing = identities(payload);
     match listing {
-        Listing::Count(n) => refusal == 0 && n == count,
-        Listing::Refused(why) => number_of(why) == refusal,
+        Listing::Count(n) => want.number == 0 && n == count,
+        Listing::Refused(refusal) => is_why(refusal, want),
     }
 }
 
 fn is_entry(item: Item, want: Entry) -> bool {
+    let why = want.refusal;
     match item {
         Item::Blob {
             from,
             to,
             certificate,
         } => {
-            want.refusal == 0
-                && from == want.from
-                && to == want.to
-                && certificate == want.certificate
+            why.number == 0 && from == want.from && to == want.to && certificate == want.certificate
         }
-        Item::Refused(why) => number_of(why) == want.refusal,
+        Item::Refused(refusal) => is_why(refusal, why),
     }
 }
 

@@ -25,9 +25,15 @@ pub struct Request {
     pub flags: u32,
 }
 
-// What a writer is to do: the number of its refusal, 0 where it writes, and what it writes.
+// The number of a refusal, 0 where there is none, and the place of its fault, 0 where it has none.
+pub struct Why {
+    pub number: u8,
+    pub place: usize,
+}
+
+// What a writer is to do: its refusal, and what it writes.
 pub struct Writing {
-    pub refusal: u8,
+    pub refusal: Why,
     pub front: Piece,
     pub tail: Span,
 }
@@ -57,10 +63,10 @@ pub enum Wanted {
     Malformed,
 }
 
-// What is expected of a list, and of the item with an index. A refusal is 0 where there is none.
+// What is expected of a list, and of the item with an index.
 pub enum Items {
     Of {
-        refusal: u8,
+        refusal: Why,
         count: usize,
         index: usize,
         item: Entry,
@@ -70,10 +76,15 @@ pub enum Items {
 }
 
 pub struct Entry {
-    pub refusal: u8,
+    pub refusal: Why,
     pub from: usize,
     pub to: usize,
     pub certificate: bool,
+}
+
+enum Reason {
+    Value(Why, Cursor),
+    Malformed,
 }
 
 enum Entered {
@@ -140,11 +151,21 @@ pub(crate) fn read_limit(s: &[u8], c: Cursor) -> Limit {
     Limit::Value(Constraint::Confirm, next)
 }
 
+fn read_reason(s: &[u8], c: Cursor) -> Reason {
+    let Octet::Value(number, a) = c.byte(s) else {
+        return Reason::Malformed;
+    };
+    let Place::Value(place, next) = read_place(s, a) else {
+        return Reason::Malformed;
+    };
+    Reason::Value(Why { number, place }, next)
+}
+
 pub(crate) fn read_wanted(s: &[u8], c: Cursor) -> Wanted {
     let Place::Value(room, a) = read_place(s, c) else {
         return Wanted::Malformed;
     };
-    let Octet::Value(refusal, b) = a.byte(s) else {
+    let Reason::Value(refusal, b) = read_reason(s, a) else {
         return Wanted::Malformed;
     };
     let Pieced::Value(front, d) = read_piece(s, b) else {
@@ -165,7 +186,7 @@ pub(crate) fn read_wanted(s: &[u8], c: Cursor) -> Wanted {
 }
 
 fn read_entry(s: &[u8], c: Cursor) -> Entered {
-    let Octet::Value(refusal, a) = c.byte(s) else {
+    let Reason::Value(refusal, a) = read_reason(s, c) else {
         return Entered::Malformed;
     };
     let Place::Value(from, b) = read_place(s, a) else {
@@ -189,7 +210,7 @@ fn read_entry(s: &[u8], c: Cursor) -> Entered {
 }
 
 pub(crate) fn read_items(s: &[u8], c: Cursor) -> Items {
-    let Octet::Value(refusal, a) = c.byte(s) else {
+    let Reason::Value(refusal, a) = read_reason(s, c) else {
         return Items::Malformed;
     };
     let Place::Value(count, b) = read_place(s, a) else {

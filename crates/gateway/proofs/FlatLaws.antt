@@ -110,7 +110,8 @@ module _ (s : List ℕ) where
   more e p = record {
     kind = rw e;
     payload = rw (e, p) nothing;
-    ordered = rw e (omega arith);
+    whole = rw e (λ never. absurd (omega (arith, never)));
+    not-whole = rw e (λ _. (refl, refl));
     within = rw e (omega arith);
   }
 
@@ -119,7 +120,8 @@ module _ (s : List ℕ) where
   long e p = record {
     kind = rw e;
     payload = rw (e, p) nothing;
-    ordered = rw e (omega arith);
+    whole = rw e (λ never. absurd (omega (arith, never)));
+    not-whole = rw e (λ _. (refl, refl));
     within = rw e (omega arith);
   }
 
@@ -130,7 +132,8 @@ module _ (s : List ℕ) where
       record {
         kind = rw e;
         payload = rw (e, l) (sym p);
-        ordered = rw e (omega arith);
+        whole = rw e (λ _. (refl, refl));
+        not-whole = rw e (λ never. absurd (never refl));
         within = rw (e, l) h;
       }
 

@@ -1,7 +1,7 @@
 -- What the flat values and the exported call promise, as statements; the proofs are in proofs/FlatLaws.antt, WithinLaws.antt and ExportLaws.antt.
-use Prim.Native.Nat.{ℕ, _≤_}
+use Prim.Native.Nat.{ℕ, _+_, _≤_}
 use mathlib.Core.Path.{_≡_}
-use mathlib.Core.Logic.{_⊎_}
+use mathlib.Core.Logic.{_⊎_, _≢_}
 use mathlib.Core.Bool.{Bool, true, false}
 use mathlib.Core.List.{List, [], _∷_}
 use lib.ListN.{length}
@@ -157,11 +157,12 @@ pub record FlagsTold : Type 0 where
 
 -- ## The split
 
--- the split's number, and a part of s that is its payload and nothing else
+-- the split's number, and the part of s that is its payload: behind the four bytes of its length, and nothing where no frame is whole
 pub record SplitsAs (s : List ℕ) : Type 0 where
   pub kind : flatSplit s .kind ≡ splitNumber (splitOf s)
   pub payload : cutOf s (flatSplit s .from) (flatSplit s .to) ≡ framePayload s
-  pub ordered : flatSplit s .from ≤ flatSplit s .to
+  pub whole : flatSplit s .kind ≡ 2 → (flatSplit s .from ≡ 4) × (flatSplit s .to ≡ 4 + length (framePayload s))
+  pub not-whole : flatSplit s .kind ≢ 2 → (flatSplit s .from ≡ 0) × (flatSplit s .to ≡ 0)
   pub within : flatSplit s .to ≤ length s
 
 abbrev pub SplitRule : Type 0

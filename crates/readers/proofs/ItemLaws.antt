@@ -16,17 +16,17 @@ use Rattle.readers.specs.Identities.{itemsAt}
 -- one item, and the items behind it
 items-suc : (n : ℕ) (s : List ℕ) (at : ℕ) → itemsAt (suc n) s at ≡ reach Fault (itemsAt 1 s at) (itemsAt n s)
 unfolding itemsAt part reach
-items-suc n s at = go (stringAt s at)
+items-suc n s at = go _ (stringAt s at)
   where
     text : (q : Part) → part Fault q (λ g u l. itemsAt n s (l .at)) ≡ reach Fault (part Fault q (λ g u l. End (l .at))) (itemsAt n s)
     text (Whole g u l) = refl
     text (Part.Fault p) = refl
 
-    go : (p : Part)
-        → part (λ _. Fault at) p (λ f t k. part Fault (textAt s (k .at)) (λ g u l. itemsAt n s (l .at)))
-        ≡ reach Fault (part (λ _. Fault at) p (λ f t k. part Fault (textAt s (k .at)) (λ g u l. End (l .at)))) (itemsAt n s)
-    go (Whole f t k) = text (textAt s (k .at))
-    go (Part.Fault p) = refl
+    go : (z : ℕ → ℕ) (p : Part)
+        → part (λ x. Fault (z x)) p (λ f t k. part Fault (textAt s (k .at)) (λ g u l. itemsAt n s (l .at)))
+        ≡ reach Fault (part (λ x. Fault (z x)) p (λ f t k. part Fault (textAt s (k .at)) (λ g u l. End (l .at)))) (itemsAt n s)
+    go z (Whole f t k) = text (textAt s (k .at))
+    go z (Part.Fault p) = refl
 
 -- what is left to go over yields w: `search walk` closes each need of the loop
 module _ (s : List ℕ) (at left : ℕ) (w : Reach) (e : itemsAt left s at ≡ w) where

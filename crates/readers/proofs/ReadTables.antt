@@ -67,7 +67,7 @@ count-or-fault payload =
     let P : Listing → Type 0 = λ r. ((n : ℕ) × (listingSays r ≡ grants n)) ⊎ ((place : ℕ) × (listingSays r ≡ refuses 12 (at-place place))) in
     so-cases P (ltb 0 (length payload))
     (λ _. so-cases P (eqb (getD payload 0 0) 12)
-    (λ _. number-cases P (numberAt payload 1) (λ _ _. inr (1, refl)) λ n k _.
+    (λ _. number-cases P (numberAt payload 1) (λ _ _. inr (_, refl)) λ n k _.
     reach-cases P (itemsAt n payload (k .at)) (λ at. inr (at, refl)) λ _ _. inl (n, refl))
     (λ _. inl (0, refl)))
     (λ _. inl (0, refl))

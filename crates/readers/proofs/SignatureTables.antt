@@ -81,7 +81,7 @@ module _ (hash : ℕ) (out : List ℕ) where
   fourteen p small never =
       let payload : List ℕ = 14 ∷ p in
       rw (lt-ltb 0 (length payload) (omega arith))
-      (part-cases (λ (r : Signature). (place : ℕ) × (wroteSays (wroteOf payload out r) ≡ refuses 12 (at-place place))) (stringAt payload 1) (λ _ _. (1, refl)) λ g u k e.
+      (part-cases (λ (r : Signature). (place : ℕ) × (wroteSays (wroteOf payload out r) ≡ refuses 12 (at-place place))) (stringAt payload 1) (λ _ _. (_, refl)) λ g u k e.
       let y = took small {at = 1} (string-reads small) g u k e in
       let is : payload ≡ 14 ∷ (string (y .v) ++ drop u payload) = ap (λ (l : List ℕ). 14 ∷ l) (y .lies .shape) in
       let front : Lies payload 0 (14 ∷ string (y .v)) u = record { end = omega (arith, y .lies .end); within = y .lies .within; shape = is } in
