@@ -18,7 +18,7 @@ use Rattle.client.specs.Values.{Says, grants, refuses, wroteSays}
 use Rattle.readers.specs.declared.identities.Listing.{Listing}
 use Rattle.readers.specs.declared.identities.Item.{Item}
 use Rattle.readers.specs.Values.{listingSays, Identity, itemSays}
-use Rattle.readers.specs.Identities.{countOf, certificateEnd, certificate, itemOf, blobOfItem, blobFrom}
+use Rattle.readers.specs.Identities.{countOf, certificate, itemOf, blobOfItem, blobFrom}
 use Rattle.readers.specs.Signatures.{fits, signatureAnswer, signatureLeft}
 
 -- ## The list of keys
@@ -130,9 +130,9 @@ ListReplyRead =
 pub record Marked (blob : List ℕ) : Type 0 where
   pub front : List ℕ
   pub rest : List ℕ
-  pub small : length (front ++ certificateEnd) < 2 ^ 32
-  pub text : Octets (front ++ certificateEnd)
-  pub shape : blob ≡ string (front ++ certificateEnd) ++ rest
+  pub small : length (front ++ bytes "-cert-v01@openssh.com") < 2 ^ 32
+  pub text : Octets (front ++ bytes "-cert-v01@openssh.com")
+  pub shape : blob ≡ string (front ++ bytes "-cert-v01@openssh.com") ++ rest
 
 abbrev pub MarkRule : Type 0
 MarkRule = (blob : List ℕ) → Bytes blob → (certificate blob ≡ true) ↔ Marked blob
