@@ -19,7 +19,7 @@ use Rattle.client.specs.declared.Refusal.{Refusal}
 use Rattle.client.specs.declared.Wrote.{Wrote}
 use Rattle.client.specs.declared.Wrote.the-variants.{Refused}
 use Rattle.client.specs.Requests.{signRequest, removeSmartcardAnswer, removeSmartcardLeft, addSmartcardAnswer, addSmartcardLeft}
-use Rattle.client.specs.Promises.{Holds, Splits, Sent, Writes, WriterRule, RemoveSmartcardRule, AddSmartcardRule, SmartcardExample, ListRead, LockRead, UnlockRead, SignRead, CardReads, SmartcardRead}
+use Rattle.client.specs.Promises.{Holds, Splits, Sent, Writes, WriterRule, RemoveSmartcardRule, AddSmartcardRule, ListRead, LockRead, UnlockRead, SignRead, CardReads, SmartcardRead}
 use Rattle.client.proofs.ByteLaws.{bytes-cons, bytes-append, be32-bytes, string-bytes}
 use Rattle.client.proofs.WriteLaws.{Met, Stage, stage, untouched}
 use Rattle.client.proofs.SplitTables.{split-table}
@@ -77,9 +77,6 @@ remove-smartcard-rule id pin out = tested _ out _ _ _ _ (writer-rule _ out)
 pub add-smartcard-rule : AddSmartcardRule
 unfolding addSmartcardAnswer addSmartcardLeft
 add-smartcard-rule id pin cs count out = tested _ out _ _ _ _ (tested _ out _ _ _ _ (writer-rule _ out))
-
-pub smartcard-example : SmartcardExample
-smartcard-example = refl
 
 -- ## What the rule reads
 

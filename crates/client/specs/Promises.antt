@@ -1,13 +1,11 @@
 -- What frames, writers and refusals promise, as statements; the proofs are in proofs/.
 use Prim.Native.Nat.{ℕ, _+_, _^_, _≤_, _<_}
 use mathlib.Core.Path.{_≡_}
-use mathlib.Core.List.{List, [], _∷_, _++_}
+use mathlib.Core.List.{List, [], _++_}
 use lib.ListN.{length, take, drop}
 use Rattle.wire.specs.declared.Constraint.{Constraint}
-use Rattle.wire.specs.declared.Constraint.the-variants.{Confirm}
 use Rattle.wire.specs.declared.Split.{Split}
 use Rattle.wire.specs.Numbers.{Bytes, be32}
-use Rattle.wire.specs.Texts.{bytes}
 use Rattle.wire.specs.Abnf.{Octets}
 use Rattle.wire.specs.Read.{cutOf, numberAt, stringAt}
 use Rattle.wire.specs.Values.{read, numberReads, partReads}
@@ -111,12 +109,6 @@ pub record CardAdded (id pin : List ℕ) (cs : List Constraint) (count : ℕ) (o
 
 abbrev pub AddSmartcardTable : Type 0
 AddSmartcardTable = (id pin : List ℕ) (cs : List Constraint) (count : ℕ) (out : List ℕ) → CardAdded id pin cs count out
-
--- 01's example: "Id "a", empty PIN, Confirm"
-abbrev pub SmartcardExample : Type 0
-SmartcardExample =
-    string (constrainedSmartcard (bytes "a") [] (Confirm ∷ []))
-    ≡ (0x00 ∷ 0x00 ∷ 0x00 ∷ 0x0F ∷ 0x1A ∷ 0x00 ∷ 0x00 ∷ 0x00 ∷ 0x01 ∷ 0x61 ∷ 0x00 ∷ 0x00 ∷ 0x00 ∷ 0x00 ∷ 0x00 ∷ 0x00 ∷ 0x00 ∷ 0x01 ∷ 0x02 ∷ [])
 
 -- ## Refusals
 
