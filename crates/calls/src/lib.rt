@@ -25,6 +25,7 @@ use server::call::call;
 use table::State;
 use table::bytes::wipe;
 use table::fresh;
+use wire::limits;
 ghost use Rattle.io.specs.Counts.{Counts};
 
 // What a record leaves: whether to go on, and the state.
@@ -206,9 +207,9 @@ fn records(store: &mut [u8], payload: &mut [u8], signature: &mut [u8], reply: &m
 // Answers nothing and is lent nothing: what it writes is held to the stored output of the programs. One byte more than the limits has room, so that
 // refusals 4 and 5 can be seen.
 pub fn run() {
-    let mut store = [0u8; 32768];
+    let mut store = [0u8; limits::STORE_SIZE];
     let mut payload = [0u8; 262145];
     let mut signature = [0u8; 2049];
-    let mut reply = [0u8; 8265];
+    let mut reply = [0u8; limits::REPLY_ROOM];
     records(&mut store, &mut payload, &mut signature, &mut reply);
 }

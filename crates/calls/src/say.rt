@@ -1,6 +1,7 @@
 // What is written: one line for each outcome and text.
 use gateway::flat::FlatOutcome;
 use libc::STDOUT_FILENO;
+use wire::limits;
 use wire::read::cut;
 ghost use mathlib.Core.Path.{_≡_};
 ghost use Prim.Native.Nat.{_≤_, _+_};
@@ -59,7 +60,7 @@ fn line() -> [u8; 16530]
 
 // A reply is at most 8,265 bytes.
 fn say_reply(bytes: &[u8]) {
-    if 8265 < bytes.len() {
+    if limits::REPLY_ROOM < bytes.len() {
         return;
     }
     let mut text = line();

@@ -7,6 +7,7 @@ use native.Mathlib.Omega.{arith}
 use borrow.Author.Tests.{le-leb, lt-leb}
 use denote.Ref.{RefT, now}
 use lib.ListN.{length}
+use Rattle.wire.specs.Limits.{payloadLimit}
 use Rattle.wire.specs.declared.read.Cursor.{Cursor}
 use Rattle.wire.specs.declared.read.Number.{Number}
 use Rattle.wire.specs.Parts.{PartOf}
@@ -21,18 +22,18 @@ module _ {A : Type 0} (z : A) (s : List ℕ) (F : ℕ → Cursor → A) (r : Num
   frame-none place f = rw (← e, f)
 
   module _ (n : ℕ) (k : Cursor) (f : r ≡ Number.Value n k) where
-    frame-long : 262144 < n → z ≡ ofFrame z s F
+    frame-long : payloadLimit < n → z ≡ ofFrame z s F
     unfolding number so
-    frame-long h = rw (← e, f, lt-leb n 262144 h)
+    frame-long h = rw (← e, f, lt-leb n payloadLimit h)
 
-    module _ (h : n ≤ 262144) where
+    module _ (h : n ≤ payloadLimit) where
       frame-whole : k .at + n ≤ length s → F n k ≡ ofFrame z s F
       unfolding number so
-      frame-whole l = rw (← e, f, le-leb n 262144 h, le-leb (k .at + n) (length s) l)
+      frame-whole l = rw (← e, f, le-leb n payloadLimit h, le-leb (k .at + n) (length s) l)
 
       frame-short : length s < k .at + n → z ≡ ofFrame z s F
       unfolding number so
-      frame-short l = rw (← e, f, le-leb n 262144 h, lt-leb (k .at + n) (length s) l)
+      frame-short l = rw (← e, f, le-leb n payloadLimit h, lt-leb (k .at + n) (length s) l)
 
 module _ (s x : RefT (List ℕ)) (r : Number) (e : r ≡ numberAt (now s) 0) where
   -- nothing, at the start
@@ -46,11 +47,11 @@ module _ (s x : RefT (List ℕ)) (r : Number) (e : r ≡ numberAt (now s) 0) whe
   payload-none place f = empty (frame-none [] (now s) _ r e place f) (frame-none 0 (now s) _ r e place f)
 
   module _ (n : ℕ) (k : Cursor) (f : r ≡ Number.Value n k) where
-    pub payload-long : 262144 < n → PartOf s (cutFrom (now s) 0 0) (cutOf (now s) 0 0) x → PartOf s (payloadFrom (now s)) (framePayload (now s)) x
+    pub payload-long : payloadLimit < n → PartOf s (cutFrom (now s) 0 0) (cutOf (now s) 0 0) x → PartOf s (payloadFrom (now s)) (framePayload (now s)) x
     unfolding framePayload payloadFrom
     payload-long h = empty (frame-long [] (now s) _ r e n k f h) (frame-long 0 (now s) _ r e n k f h)
 
-    pub payload-part : n ≤ 262144 → PartOf s (cutFrom (now s) (k .at) (k .at + n)) (cutOf (now s) (k .at) (k .at + n)) x
+    pub payload-part : n ≤ payloadLimit → PartOf s (cutFrom (now s) (k .at) (k .at + n)) (cutOf (now s) (k .at) (k .at + n)) x
         → PartOf s (payloadFrom (now s)) (framePayload (now s)) x
     unfolding framePayload payloadFrom
     payload-part h p =

@@ -6,6 +6,7 @@ use mathlib.Core.Bool.{Bool, true, false}
 use native.Mathlib.Omega.{arith}
 use lib.ListN.{length, take, drop, length-append}
 use lib.Seq.{take-at, drop-at}
+use Rattle.wire.specs.Limits.{payloadLimit}
 use Rattle.wire.specs.declared.Constraint.{Constraint}
 use Rattle.wire.specs.declared.Constraint.the-variants.{KeyLifetime, Confirm}
 use Rattle.wire.specs.Numbers.{Bytes, be32}
@@ -27,7 +28,7 @@ use Rattle.client.proofs.WriterTables.{not-granted, wrote-written, wrot
 
 -- ## Frames
 
-found : (p rest : List ℕ) → length p ≤ 262144 → Holds (string p ++ rest) p
+found : (p rest : List ℕ) → length p ≤ payloadLimit → Holds (string p ++ rest) p
 found p rest h = rw (take-at p rest (length p) refl) at (split-table (string p ++ rest) .whole (length p) (p ++ rest) refl h (simp length-append (omega arith)))
 
 pub splits : Splits

@@ -8,6 +8,7 @@ use native.Mathlib.Nat.{add-sub-cancel-left}
 use borrow.Author.Tests.{le-leb, lt-leb}
 use lib.Dec.{eqb}
 use lib.ListN.{length, take}
+use Rattle.wire.specs.Limits.{payloadLimit}
 use Rattle.wire.specs.declared.Split.{Split}
 use Rattle.wire.specs.declared.Split.the-variants.{MoreNeeded, TooLong, Frame}
 use Rattle.wire.specs.declared.read.Cursor.{Cursor}
@@ -42,23 +43,23 @@ module _ (n : ℕ) (rest : List ℕ) (small : n < 2 ^ 32) where
   length-read : numberAt (be32 n ++ rest) 0 ≡ Number.Value n (record { at = 4 })
   length-read = sym (number-there (be32 n ++ rest) 0 (omega arith)) ∙ ap (λ (i : ℕ). Number.Value i (record { at = 4 })) (be-written (be32 n ++ rest) 0 n rest small refl)
 
-  split-long : 262144 < n → splitNumber (splitOf (be32 n ++ rest)) ≡ 1
+  split-long : payloadLimit < n → splitNumber (splitOf (be32 n ++ rest)) ≡ 1
   unfolding splitOf number so
-  split-long h = rw (length-read, lt-leb n 262144 h)
+  split-long h = rw (length-read, lt-leb n payloadLimit h)
 
-  module _ (h : n ≤ 262144) where
+  module _ (h : n ≤ payloadLimit) where
     split-short : length rest < n → splitNumber (splitOf (be32 n ++ rest)) ≡ 0
     unfolding splitOf number so
-    split-short l = rw (length-read, le-leb n 262144 h, lt-leb (4 + n) (length (be32 n ++ rest)) (omega arith))
+    split-short l = rw (length-read, le-leb n payloadLimit h, lt-leb (4 + n) (length (be32 n ++ rest)) (omega arith))
 
     split-whole : n ≤ length rest → Holds (be32 n ++ rest) (take n rest)
     unfolding splitOf framePayload payloadFrom number so
     split-whole l =
         let cut : cutOf (be32 n ++ rest) 4 (4 + n) ≡ take n rest = sym (cut-there (be32 n ++ rest) 4 (4 + n) (omega arith) (omega arith)) ∙ rw (add-sub-cancel-left 4 n) in
         record {
-          frame = rw (length-read, le-leb n 262144 h, le-leb (4 + n) (length (be32 n ++ rest)) (omega arith));
-          payload-is = rw (length-read, le-leb n 262144 h, le-leb (4 + n) (length (be32 n ++ rest)) (omega arith)) cut;
-          from = rw (length-read, le-leb n 262144 h, le-leb (4 + n) (length (be32 n ++ rest)) (omega arith));
+          frame = rw (length-read, le-leb n payloadLimit h, le-leb (4 + n) (length (be32 n ++ rest)) (omega arith));
+          payload-is = rw (length-read, le-leb n payloadLimit h, le-leb (4 + n) (length (be32 n ++ rest)) (omega arith)) cut;
+          from = rw (length-read, le-leb n payloadLimit h, le-leb (4 + n) (length (be32 n ++ rest)) (omega arith));
         }
 
 module _ (s : List ℕ) where
@@ -72,13 +73,13 @@ module _ (s : List ℕ) where
       ⊎-elim
       (λ (h : 4 ≤ length s).
       ⊎-elim
-      (λ (k : beAt s 0 ≤ 262144).
+      (λ (k : beAt s 0 ≤ payloadLimit).
       ⊎-elim
-      (λ (l : 4 + beAt s 0 ≤ length s). absurd (never (rw (← number-there s 0 h, le-leb (beAt s 0) 262144 k, le-leb (4 + beAt s 0) (length s) l))))
-      (λ (l : length s < 4 + beAt s 0). rw (← number-there s 0 h, le-leb (beAt s 0) 262144 k, lt-leb (4 + beAt s 0) (length s) l))
+      (λ (l : 4 + beAt s 0 ≤ length s). absurd (never (rw (← number-there s 0 h, le-leb (beAt s 0) payloadLimit k, le-leb (4 + beAt s 0) (length s) l))))
+      (λ (l : length s < 4 + beAt s 0). rw (← number-there s 0 h, le-leb (beAt s 0) payloadLimit k, lt-leb (4 + beAt s 0) (length s) l))
       (le-or-lt (4 + beAt s 0) (length s)))
-      (λ (k : 262144 < beAt s 0). rw (← number-there s 0 h, lt-leb (beAt s 0) 262144 k))
-      (le-or-lt (beAt s 0) 262144))
+      (λ (k : payloadLimit < beAt s 0). rw (← number-there s 0 h, lt-leb (beAt s 0) payloadLimit k))
+      (le-or-lt (beAt s 0) payloadLimit))
       (λ (h : length s < 4). rw (← number-cut s 0 h))
       (le-or-lt 4 (length s))
 

@@ -6,6 +6,7 @@ use mathlib.Core.Logic.{⊎-elim}
 use native.Mathlib.Omega.{arith}
 use borrow.Author.Tests.{le-leb, lt-leb}
 use lib.ListN.{length, length-append}
+use Rattle.wire.specs.Limits.{payloadLimit}
 use Rattle.wire.specs.Numbers.{be32}
 use Rattle.wire.specs.Steps.{so}
 use Rattle.wire.specs.Write.{write, string}
@@ -23,35 +24,35 @@ Met n head out r m = (r ≡ headAnswer n head out) × (m ≡ headLeft n head out
 
 -- the room was there, and m is the output with the head of a payload of n bytes written up to `at`
 pub record Stage (n : ℕ) (head out : List ℕ) (at : ℕ) (m : List ℕ) : Type 0 where
-  pub small : n ≤ 262144
+  pub small : n ≤ payloadLimit
   pub fits : 4 + n ≤ length out
   pub place : at ≡ 4 + length head
   pub holds : m ≡ write out 0 (be32 n ++ head)
 
 module _ (n : ℕ) (head out : List ℕ) where
-  pub too-long : 262144 < n → Met n head out (Refused PayloadTooLong) out
+  pub too-long : payloadLimit < n → Met n head out (Refused PayloadTooLong) out
   unfolding headAnswer headLeft so
-  too-long h = rw (lt-leb n 262144 h) (refl, refl)
+  too-long h = rw (lt-leb n payloadLimit h) (refl, refl)
 
-  pub too-short : n ≤ 262144 → length out < 4 + n → Met n head out (Refused OutputTooShort) out
+  pub too-short : n ≤ payloadLimit → length out < 4 + n → Met n head out (Refused OutputTooShort) out
   unfolding headAnswer headLeft so
-  too-short h k = rw (le-leb n 262144 h, lt-leb (4 + n) (length out) k) (refl, refl)
+  too-short h k = rw (le-leb n payloadLimit h, lt-leb (4 + n) (length out) k) (refl, refl)
 
   -- a stage is what the writer so far ensures
   pub met : (at : ℕ) (m : List ℕ) → Stage n head out at m → Met n head out (Written at) m
   unfolding headAnswer headLeft so
-  met at m s = rw (le-leb n 262144 (s .small), le-leb (4 + n) (length out) (s .fits)) (ap Written (s .place), s .holds)
+  met at m s = rw (le-leb n payloadLimit (s .small), le-leb (4 + n) (length out) (s .fits)) (ap Written (s .place), s .holds)
 
 -- the three ways out of a writer
 data Way (n : ℕ) (head out : List ℕ) : Wrote → List ℕ → Type 0 where
-  long : 262144 < n → Way n head out (Refused PayloadTooLong) out
-  short : n ≤ 262144 → length out < 4 + n → Way n head out (Refused OutputTooShort) out
+  long : payloadLimit < n → Way n head out (Refused PayloadTooLong) out
+  short : n ≤ payloadLimit → length out < 4 + n → Way n head out (Refused OutputTooShort) out
   wrote : (at : ℕ) (m : List ℕ) → Stage n head out at m → Way n head out (Written at) m
 
 way : (n : ℕ) (head out : List ℕ) (r : Wrote) (m : List ℕ) → Met n head out r m → Way n head out r m
 way n head out r m e =
     ⊎-elim
-    (λ (h : n ≤ 262144).
+    (λ (h : n ≤ payloadLimit).
     ⊎-elim
     (λ (k : 4 + n ≤ length out).
     let s : Stage n head out (4 + length head) (write out 0 (be32 n ++ head)) = record { small = h; fits = k; place = refl; holds = refl } in
@@ -59,8 +60,8 @@ way n head out r m e =
     rw (e .0 ∙ sym (w .0), e .1 ∙ sym (w .1)) (wrote _ _ s))
     (λ (k : length out < 4 + n). let w = too-short n head out h k in rw (e .0 ∙ sym (w .0), e .1 ∙ sym (w .1)) (short h k))
     (le-or-lt (4 + n) (length out)))
-    (λ (h : 262144 < n). let w = too-long n head out h in rw (e .0 ∙ sym (w .0), e .1 ∙ sym (w .1)) (long h))
-    (le-or-lt n 262144)
+    (λ (h : payloadLimit < n). let w = too-long n head out h in rw (e .0 ∙ sym (w .0), e .1 ∙ sym (w .1)) (long h))
+    (le-or-lt n payloadLimit)
 
 module _ (n : ℕ) (head out : List ℕ) where
   staged : (r : Wrote) (m : List ℕ) → Way n head out r m → (at : ℕ) → r ≡ Written at → Stage n head out at m

@@ -7,6 +7,7 @@ use native.Mathlib.Omega.{arith}
 use borrow.Author.Tests.{le-leb, lt-leb, eq-eqb, ne-eqb}
 use lib.Dec.{eqb}
 use lib.ListN.{length, take}
+use Rattle.wire.specs.Limits.{payloadLimit}
 use Rattle.wire.specs.Abnf.{Octets}
 use Rattle.wire.specs.Utf8.{utf8End}
 use Rattle.wire.specs.Steps.{so}
@@ -27,9 +28,9 @@ use Rattle.client.specs.Promises.{WriterTable, RemoveSmartcardTable, Add
 pub writer-table : WriterTable
 unfolding headAnswer so
 writer-table p out = record {
-  too-long = λ h. rw (lt-leb (length p) 262144 h);
-  too-short = λ h k. rw (le-leb (length p) 262144 h, lt-leb (4 + length p) (length out) k);
-  written = λ h k. rw (le-leb (length p) 262144 h, le-leb (4 + length p) (length out) k);
+  too-long = λ h. rw (lt-leb (length p) payloadLimit h);
+  too-short = λ h k. rw (le-leb (length p) payloadLimit h, lt-leb (4 + length p) (length out) k);
+  written = λ h k. rw (le-leb (length p) payloadLimit h, le-leb (4 + length p) (length out) k);
 }
 
 -- ## Smartcards

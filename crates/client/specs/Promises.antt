@@ -3,6 +3,7 @@ use Prim.Native.Nat.{ℕ, _+_, _^_, _≤_, _<_}
 use mathlib.Core.Path.{_≡_}
 use mathlib.Core.List.{List, [], _++_}
 use lib.ListN.{length, take, drop}
+use Rattle.wire.specs.Limits.{payloadLimit}
 use Rattle.wire.specs.declared.Constraint.{Constraint}
 use Rattle.wire.specs.declared.Split.{Split}
 use Rattle.wire.specs.Numbers.{Bytes, be32}
@@ -39,15 +40,15 @@ pub record SplitsBack (payload : List ℕ) : Type 0 where
   pub followed : (rest : List ℕ) → Holds (string payload ++ rest) payload
 
 abbrev pub Splits : Type 0
-Splits = (payload : List ℕ) → length payload ≤ 262144 → SplitsBack payload
+Splits = (payload : List ℕ) → length payload ≤ payloadLimit → SplitsBack payload
 
 -- what the splitter says of any bytes: under 4 of them; a length above 262,144, with however many behind it; fewer bytes than the length
 -- announces; and all of them. Unless a frame is whole, its payload is empty, and lies at their start
 pub record SplitSays (s : List ℕ) : Type 0 where
   pub few : length s < 4 → splitNumber (splitOf s) ≡ 0
-  pub long : (n : ℕ) (rest : List ℕ) → s ≡ be32 n ++ rest → n < 2 ^ 32 → 262144 < n → splitNumber (splitOf s) ≡ 1
-  pub short : (n : ℕ) (rest : List ℕ) → s ≡ be32 n ++ rest → n ≤ 262144 → length rest < n → splitNumber (splitOf s) ≡ 0
-  pub whole : (n : ℕ) (rest : List ℕ) → s ≡ be32 n ++ rest → n ≤ 262144 → n ≤ length rest → Holds s (take n rest)
+  pub long : (n : ℕ) (rest : List ℕ) → s ≡ be32 n ++ rest → n < 2 ^ 32 → payloadLimit < n → splitNumber (splitOf s) ≡ 1
+  pub short : (n : ℕ) (rest : List ℕ) → s ≡ be32 n ++ rest → n ≤ payloadLimit → length rest < n → splitNumber (splitOf s) ≡ 0
+  pub whole : (n : ℕ) (rest : List ℕ) → s ≡ be32 n ++ rest → n ≤ payloadLimit → n ≤ length rest → Holds s (take n rest)
   pub else-empty : (splitNumber (splitOf s) ≡ 2 → ⊥) → framePayload s ≡ []
   pub else-start : (splitNumber (splitOf s) ≡ 2 → ⊥) → payloadFrom s ≡ 0
 
@@ -82,9 +83,9 @@ AddSmartcardRule =
 
 -- a payload's own writer
 pub record Framed (payload out : List ℕ) (answer : Wrote) : Type 0 where
-  pub too-long : 262144 < length payload → wroteSays answer ≡ refuses 17 no-place
-  pub too-short : length payload ≤ 262144 → length out < 4 + length payload → wroteSays answer ≡ refuses 11 no-place
-  pub written : length payload ≤ 262144 → 4 + length payload ≤ length out → wroteSays answer ≡ grants (4 + length payload)
+  pub too-long : payloadLimit < length payload → wroteSays answer ≡ refuses 17 no-place
+  pub too-short : length payload ≤ payloadLimit → length out < 4 + length payload → wroteSays answer ≡ refuses 11 no-place
+  pub written : length payload ≤ payloadLimit → 4 + length payload ≤ length out → wroteSays answer ≡ grants (4 + length payload)
 
 abbrev pub WriterTable : Type 0
 WriterTable = (payload out : List ℕ) → Framed payload out (answered payload out)

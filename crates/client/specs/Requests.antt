@@ -3,6 +3,7 @@ use Prim.Native.Nat.{ℕ, _+_}
 use mathlib.Core.List.{List, [], _∷_, _++_}
 use lib.ListN.{length, take}
 use lib.Dec.{leb, eqb}
+use Rattle.wire.specs.Limits.{payloadLimit}
 use Rattle.wire.specs.declared.Constraint.{Constraint}
 use Rattle.wire.specs.Numbers.{be32}
 use Rattle.wire.specs.Utf8.{utf8End}
@@ -42,11 +43,11 @@ removeSmartcard id pin = 21 ∷ (string id ++ string pin)
 -- the room for a payload of n bytes, and its first bytes written: a payload over 262,144 bytes is refused, and an output too short for its frame
 unfoldable pub headAnswer : ℕ → List ℕ → List ℕ → Wrote
 headAnswer n head out =
-    so (Refused PayloadTooLong) (leb n 262144)
+    so (Refused PayloadTooLong) (leb n payloadLimit)
     (so (Refused OutputTooShort) (leb (4 + n) (length out)) (Written (4 + length head)))
 
 unfoldable pub headLeft : ℕ → List ℕ → List ℕ → List ℕ
-headLeft n head out = so out (leb n 262144) (so out (leb (4 + n) (length out)) (write out 0 (be32 n ++ head)))
+headLeft n head out = so out (leb n payloadLimit) (so out (leb (4 + n) (length out)) (write out 0 (be32 n ++ head)))
 
 -- a payload written whole: the frame stands at the front of the output, or the output is untouched
 abbrev pub answered : List ℕ → List ℕ → Wrote

@@ -1,5 +1,6 @@
 // The splitter: what the first bytes of a connection hold, and the payload as a part of them.
 use wire::Split;
+use wire::limits;
 use wire::read::Cursor;
 use wire::read::Number;
 use wire::read::cut;
@@ -8,7 +9,7 @@ ghost use Rattle.wire.specs.Parts.{PartOf};
 ghost use Rattle.wire.specs.Frames.{splitOf, framePayload, payloadFrom};
 
 // The greatest length of a payload.
-const LIMIT: u32 = 262144;
+const LIMIT: u32 = limits::PAYLOAD_LIMIT as u32;
 
 pub fn read_frame(s: &[u8]) -> Split
     ensures { λ r. ⌜ r ≡ splitOf (now (s .entry)) ⌝ }

@@ -2,6 +2,7 @@
 use crate::Refusal;
 use crate::Wrote;
 use wire::Constraint;
+use wire::limits;
 use wire::msg;
 use wire::utf8::utf8_end;
 use wire::write::put_byte;
@@ -20,7 +21,7 @@ fn begin(out: &mut [u8], n: usize, kind: u8) -> Wrote
     requires { ⌜ (1 ≤ n) × (n < 2 ^ 60) ⌝ }
     ensures { λ r. ⌜ (r ≡ headAnswer n (kind ∷ []) (now (out .entry))) × (now (out .exit) ≡ headLeft n (kind ∷ []) (now (out .entry))) ⌝ }
 {
-    if 262144 < n {
+    if limits::PAYLOAD_LIMIT < n {
         return Wrote::Refused(Refusal::PayloadTooLong);
     }
     if out.len() < 4 + n {
@@ -42,7 +43,7 @@ pub fn request_identities(out: &mut [u8]) -> Wrote
 fn one_string(out: &mut [u8], kind: u8, v: &[u8]) -> Wrote
     ensures { λ r. ⌜ (r ≡ answered (kind ∷ string (now (v .entry))) (now (out .entry))) × (now (out .exit) ≡ filled (kind ∷ string (now (v .entry))) (now (out .entry))) ⌝ }
 {
-    if 262144 < v.len() {
+    if limits::PAYLOAD_LIMIT < v.len() {
         return Wrote::Refused(Refusal::PayloadTooLong);
     }
     let w = begin(out, 5 + v.len(), kind);
@@ -73,10 +74,10 @@ fn two_strings(out: &mut [u8], kind: u8, a: &[u8], b: &[u8], extra: usize) -> Wr
     ensures { λ r. ⌜ (r ≡ headAnswer (9 + length (now (a .entry)) + length (now (b .entry)) + extra) (kind ∷ (string (now (a .entry)) ++ string (now (b .entry)))) (now (out .entry)))
         × (now (out .exit) ≡ headLeft (9 + length (now (a .entry)) + length (now (b .entry)) + extra) (kind ∷ (string (now (a .entry)) ++ string (now (b .entry)))) (now (out .entry))) ⌝ }
 {
-    if 262144 < a.len() {
+    if limits::PAYLOAD_LIMIT < a.len() {
         return Wrote::Refused(Refusal::PayloadTooLong);
     }
-    if 262144 < b.len() {
+    if limits::PAYLOAD_LIMIT < b.len() {
         return Wrote::Refused(Refusal::PayloadTooLong);
     }
     let w = begin(out, 9 + a.len() + b.len() + extra, kind);

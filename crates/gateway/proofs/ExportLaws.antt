@@ -3,6 +3,7 @@ use Prim.Native.Nat.{ℕ}
 use mathlib.Core.Path.{_≡_, refl, sym, ap, _∙_, subst}
 use mathlib.Core.List.{List}
 use lib.ListN.{length}
+use Rattle.wire.specs.Limits.{storeSize}
 use Rattle.wire.specs.Steps.{so}
 use Rattle.rule.specs.declared.Hash.{Hash}
 use Rattle.rule.specs.Gateway.{Gateway}
@@ -64,7 +65,7 @@ module _ (flags : ℕ) (hash : Hash) (rules : call oneKey (pastGate (signWith fl
         reading = 0;
         answers = lentOf (answersOf gateYes) signature;
         buffer = long j;
-        store = 32768;
+        store = storeSize;
       } in
       let ruled : call (gatewayOf state store) (asCall k) ≡ record { outcome = asksHash hash; gateway = oneKey } =
       ap (λ (g : Gateway). call g (asCall k)) (means .gateway) ∙ ap (call oneKey) same-call ∙ rules in

@@ -7,6 +7,7 @@ use mathlib.Core.Logic.{_⊎_, inl, inr, ⊎-elim}
 use native.Mathlib.Omega.{arith}
 use borrow.Author.Tests.{le-leb, lt-leb}
 use lib.ListN.{length}
+use Rattle.wire.specs.Limits.{payloadLimit}
 use Rattle.wire.specs.declared.Split.the-variants.{MoreNeeded, TooLong, Frame}
 use Rattle.wire.specs.Steps.{so, number}
 use Rattle.wire.specs.Numbers.{beAt}
@@ -142,24 +143,24 @@ module _ (s : List ℕ) where
   cut-short h = more (rw (← number-cut s 0 h)) (rw (← number-cut s 0 h))
 
   module _ (h : 4 ≤ length s) where
-    too-long : 262144 < beAt s 0 → SplitsAs s
+    too-long : payloadLimit < beAt s 0 → SplitsAs s
     unfolding splitOf framePayload number so
-    too-long l = long (rw (← number-there s 0 h, lt-leb (beAt s 0) 262144 l)) (rw (← number-there s 0 h, lt-leb (beAt s 0) 262144 l))
+    too-long l = long (rw (← number-there s 0 h, lt-leb (beAt s 0) payloadLimit l)) (rw (← number-there s 0 h, lt-leb (beAt s 0) payloadLimit l))
 
-    module _ (l : beAt s 0 ≤ 262144) where
+    module _ (l : beAt s 0 ≤ payloadLimit) where
       not-all : length s < 4 + beAt s 0 → SplitsAs s
       unfolding splitOf framePayload number so
       not-all k =
           more
-          (rw (← number-there s 0 h, le-leb (beAt s 0) 262144 l, lt-leb (4 + beAt s 0) (length s) k))
-          (rw (← number-there s 0 h, le-leb (beAt s 0) 262144 l, lt-leb (4 + beAt s 0) (length s) k))
+          (rw (← number-there s 0 h, le-leb (beAt s 0) payloadLimit l, lt-leb (4 + beAt s 0) (length s) k))
+          (rw (← number-there s 0 h, le-leb (beAt s 0) payloadLimit l, lt-leb (4 + beAt s 0) (length s) k))
 
       all : 4 + beAt s 0 ≤ length s → SplitsAs s
       unfolding splitOf framePayload number so
       all k =
           framed (beAt s 0)
-          (rw (← number-there s 0 h, le-leb (beAt s 0) 262144 l, le-leb (4 + beAt s 0) (length s) k))
-          (rw (← number-there s 0 h, le-leb (beAt s 0) 262144 l, le-leb (4 + beAt s 0) (length s) k))
+          (rw (← number-there s 0 h, le-leb (beAt s 0) payloadLimit l, le-leb (4 + beAt s 0) (length s) k))
+          (rw (← number-there s 0 h, le-leb (beAt s 0) payloadLimit l, le-leb (4 + beAt s 0) (length s) k))
           k
 
 pub split-rule : SplitRule
@@ -167,8 +168,8 @@ split-rule s =
     ⊎-elim
     (λ (h : 4 ≤ length s).
     ⊎-elim
-    (λ (l : beAt s 0 ≤ 262144). ⊎-elim (all s h l) (not-all s h l) (le-or-lt (4 + beAt s 0) (length s)))
+    (λ (l : beAt s 0 ≤ payloadLimit). ⊎-elim (all s h l) (not-all s h l) (le-or-lt (4 + beAt s 0) (length s)))
     (too-long s h)
-    (le-or-lt (beAt s 0) 262144))
+    (le-or-lt (beAt s 0) payloadLimit))
     (cut-short s)
     (le-or-lt 4 (length s))

@@ -10,6 +10,7 @@ use mathlib.Core.List.{List}
 use borrow.Author.Tests.{leb-true}
 use lib.ListN.{length, getD}
 use lib.Dec.{leb, ltb, eqb}
+use Rattle.wire.specs.Limits.{storeSize, blobLimit, fieldsLimit, passphraseLimit, replyRoom, lastNumber}
 use Rattle.wire.specs.Numbers.{within}
 use Rattle.wire.specs.Steps.{so}
 use Rattle.wire.specs.Read.{cutOf, same, stringAt, numberAt}
@@ -17,7 +18,7 @@ use Rattle.wire.proofs.Reading.{le-or-lt, cut-past, cut-back, string-read}
 use Rattle.keys.specs.Additions.{additionAt}
 use Rattle.rule.specs.declared.Millis.{Millis}
 use Rattle.rule.specs.Gateway.{Gateway, locked, opened, advance, seek, holds, placeFor, withEntry}
-use Rattle.rule.specs.Soundness.{lastNumber, sound}
+use Rattle.rule.specs.Soundness.{sound}
 use Rattle.rule.specs.Rule.{Question, gate, check, confirmation, signature, Answer, Landing, reply, close, SUCCESS, Plan, land, ask, fails, listing, removing, removingAll, locking, unlocking, hashOf, signed, signingData, numberIn, confirmIn, confirming, signing, entryOf, storing, adding, gated, row, table, rule}
 use Rattle.rule.specs.Calls as rule
 use Rattle.rule.specs.Calls.{lent, lentLength, Call, refused, asks, lands, follow, served, refusalOf, refusal, call}
@@ -114,12 +115,12 @@ module _ (payload : List ℕ) where
     adding-inside constrained =
         added-cases Inside (additionAt payload 1 constrained) (land-inside _ g) λ p l c _.
         let e = entryOf g payload p l c in
-        so-inside (within 1 1024 (length (e .blob))) _
-        (so-cases Inside (within 1 3072 (length (e .fields)))
+        so-inside (within 1 blobLimit (length (e .blob))) _
+        (so-cases Inside (within 1 fieldsLimit (length (e .fields)))
         (λ some-fields.
         so-inside (ltb (g .next) lastNumber) _
         (found-cases Inside (placeFor (e .blob) (g .places)) (λ _. land-inside _ g) λ i _.
-        ask-inside (check 1 (p .end)) _ (fields-within payload (p .end) (at-least 1 3072 _ some-fields)) (λ granted. so-inside granted _ (land-inside SUCCESS (withEntry i e g)))))
+        ask-inside (check 1 (p .end)) _ (fields-within payload (p .end) (at-least 1 fieldsLimit _ some-fields)) (λ granted. so-inside granted _ (land-inside SUCCESS (withEntry i e g)))))
         (λ _. land-inside _ g))
 
     removing-inside : Inside (removing g payload)
@@ -132,7 +133,7 @@ module _ (payload : List ℕ) where
     unfolding locking
     locking-inside =
         part-cases Inside (stringAt payload 1) (λ _ _. land-inside _ g) λ f t k _.
-        so-inside (leb (t - f) 1024) _ (land-inside _ _)
+        so-inside (leb (t - f) passphraseLimit) _ (land-inside _ _)
 
     unlocking-inside : Inside (unlocking g payload)
     unfolding unlocking
@@ -163,15 +164,15 @@ module _ (payload : List ℕ) where
 
 -- refusals 1 and 3 did not apply
 record Passed (buffer : ℕ) (isSound : Bool) : Type 0 where
-  room : 8265 ≤ buffer
+  room : replyRoom ≤ buffer
   sound-found : isSound ≡ true
 
 passed : (buffer store : ℕ) (isSound : Bool) (payload lentBytes : ℕ) → refusalOf buffer store isSound payload lentBytes ≡ none → Passed buffer isSound
 unfolding refusalOf
 passed buffer store isSound payload lentBytes =
-    so-cases None (leb 8265 buffer)
+    so-cases None (leb replyRoom buffer)
     (λ room.
-    so-cases None (eqb store 32768)
+    so-cases None (eqb store storeSize)
     (λ _. so-cases None isSound (λ found _. record { room = leb-true _ _ room; sound-found = found }) (λ _. some-refusal 3))
     (λ _. some-refusal 2))
     (λ _. some-refusal 1)
@@ -183,7 +184,7 @@ passed buffer store isSound payload lentBytes =
     some-refusal n never = absurd (some-not-none never)
 
 -- a reply of a call that was not refused fits the buffer
-module _ (s : State) (x payload : List ℕ) (reading : Millis) (answers : rule.Answers) (buffer : ℕ) (eight : length (s .entries) ≡ 8) (long : length (s .lock .bytes) ≡ 1024) where
+module _ (s : State) (x payload : List ℕ) (reading : Millis) (answers : rule.Answers) (buffer : ℕ) (eight : length (s .entries) ≡ 8) (long : length (s .lock .bytes) ≡ passphraseLimit) where
   abbrev made : Call
   made = record { request = 0; frame = record { payload = payload }; reading = reading .count; answers = answers; buffer = buffer; store = length x }
 
@@ -217,7 +218,7 @@ coded payload buffer (lands (reply bytes)) f g = record { ordered = omega arith;
 coded payload buffer (lands close) f g = record { ordered = omega arith; of-payload = λ _. omega arith; of-reply = λ _. omega arith }
 
 call-names-within : (state : State) (store payload : List ℕ) (reading : Millis) (answers : Answers) (bytes buffer : List ℕ)
-    → length (state .entries) ≡ 8 → length (state .lock .bytes) ≡ 1024
+    → length (state .entries) ≡ 8 → length (state .lock .bytes) ≡ passphraseLimit
     → NamesWithin payload buffer (flatOf (callOf state store payload reading answers bytes buffer .called .outcome))
 unfolding callOf served flatOf
 call-names-within state store payload reading answers bytes buffer eight long =

@@ -6,6 +6,7 @@ use mathlib.Core.Bool.{Bool, true, false}
 use mathlib.Core.List.{List, [], _∷_}
 use lib.ListN.{length}
 use lib.Dec.{eqb}
+use Rattle.wire.specs.Limits.{passphraseLimit, replyRoom}
 use Rattle.wire.specs.Steps.{so}
 use Rattle.wire.specs.Read.{cutOf}
 use Rattle.wire.specs.Frames.{splitOf, framePayload}
@@ -120,7 +121,7 @@ abbrev pub CallsNameWithin : Type 0
 CallsNameWithin =
     (state : State) (store payload : List ℕ) (reading : Millis) (answers : FlatAnswers) (signature buffer : List ℕ) (outcome : FlatOutcome) (after : State)
     (storeAfter reply : List ℕ)
-    → length (state .entries) ≡ 8 → length (state .lock .bytes) ≡ 1024
+    → length (state .entries) ≡ 8 → length (state .lock .bytes) ≡ passphraseLimit
     → FlatMeets state store payload reading answers signature buffer outcome after storeAfter reply → NamesWithin payload buffer outcome
 
 -- ## The exported call
@@ -145,7 +146,7 @@ gateYes = record { gate = 2; check = 0; confirmation = 0; signature = 0; «confi
 abbrev pub TellsBits : ℕ → ℕ → Type 0
 TellsBits flags bits =
     (state : State) (store signature buffer : List ℕ) (outcome : FlatOutcome) (after : State) (storeAfter reply : List ℕ)
-    → Means state store oneKey → length buffer ≡ 8265
+    → Means state store oneKey → length buffer ≡ replyRoom
     → FlatMeets state store (signWith flags) (record { count = 0 }) gateYes signature buffer outcome after storeAfter reply
     → outcome ≡ record { kind = 4; hash = bits; number = 1; from = 10; to = 10 }
 

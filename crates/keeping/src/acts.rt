@@ -10,6 +10,7 @@ use table::changes;
 use table::locks;
 use table::places;
 use wire::Seconds;
+use wire::limits;
 ghost use Rattle.table.specs.Soundness.{Sound};
 
 pub struct Done {
@@ -65,16 +66,16 @@ pub(crate) fn put(
     if blob.len() < 1 {
         return unanswered(state);
     }
-    if 1024 < blob.len() {
+    if limits::BLOB_LIMIT < blob.len() {
         return unanswered(state);
     }
     if fields.len() < 1 {
         return unanswered(state);
     }
-    if 3072 < fields.len() {
+    if limits::FIELDS_LIMIT < fields.len() {
         return unanswered(state);
     }
-    if 0xffff_ffff_ffff_ffff <= state.next {
+    if limits::LAST_NUMBER <= state.next {
         return unanswered(state);
     }
     match places::place_for(state, store, blob) {
@@ -113,7 +114,7 @@ pub(crate) fn remove_all(state: State, store: &mut [u8]) -> Done
 }
 
 pub(crate) fn lock(state: State, passphrase: &[u8]) -> Done {
-    if 1024 < passphrase.len() {
+    if limits::PASSPHRASE_LIMIT < passphrase.len() {
         return unanswered(state);
     }
     let after = locks::with_lock(state, passphrase);

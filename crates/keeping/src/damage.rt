@@ -3,6 +3,7 @@ use table::Entry;
 use table::LockRecord;
 use table::State;
 use table::soundness::is_sound;
+use wire::limits;
 use wire::read::cut;
 ghost use mathlib.Core.Path.{_≡_};
 ghost use lib.ListN.{length};
@@ -66,7 +67,7 @@ fn with_entry(state: State, place: usize, part: u8, value: u32) -> State {
 }
 
 fn with_passphrase_byte(state: State, place: usize, value: u32) -> State {
-    if 1024 <= place {
+    if limits::PASSPHRASE_LIMIT <= place {
         return state;
     }
     let mut bytes = state.lock.bytes;

@@ -13,9 +13,11 @@ use report::sections::Step;
 use report::sections::first;
 use report::sections::next;
 use table::fresh;
+use wire::limits;
 use wire::read::Cursor;
 ghost use mathlib.Core.Path.{_≡_};
 ghost use lib.ListN.{length};
+ghost use Rattle.wire.specs.Limits.{storeSize};
 
 fn space() -> [u8; 65536]
     ensures { λ r. ⌜ 65536 ≡ length r ⌝ }
@@ -23,10 +25,10 @@ fn space() -> [u8; 65536]
     [0; 65536]
 }
 
-fn empty_store() -> [u8; 32768]
-    ensures { λ r. ⌜ 32768 ≡ length r ⌝ }
+fn empty_store() -> [u8; limits::STORE_SIZE]
+    ensures { λ r. ⌜ storeSize ≡ length r ⌝ }
 {
-    [0; 32768]
+    [0; limits::STORE_SIZE]
 }
 
 // A record takes up a byte or more, so there are no more of them than bytes.

@@ -10,6 +10,7 @@ use borrow.Author.Tests.{le-leb, lt-leb, leb-true, leb-false}
 use lib.Dec.{leb, ltb}
 use lib.ListN.{length, take, drop}
 use lib.Seq.{take-at}
+use Rattle.wire.specs.Limits.{blobLimit, fieldsLimit, lastNumber}
 use Rattle.wire.specs.Numbers.{within}
 use Rattle.wire.specs.Steps.{so}
 use Rattle.wire.specs.Write.{write}
@@ -25,7 +26,6 @@ use Rattle.rule.specs.declared.Found.{Found}
 use Rattle.rule.specs.declared.Found.the-variants.{At}
 use Rattle.rule.specs.Gateway.{Gateway, placeFor, newEntry}
 use Rattle.rule.specs.Searches.{foundPlace}
-use Rattle.rule.specs.Soundness.{lastNumber}
 use Rattle.rule.specs.Rule.{Question, Answer, Plan, ask, check, storing}
 use Rattle.rule.specs.Calls as rule
 use Rattle.rule.specs.Calls.{lent, follow}
@@ -67,8 +67,8 @@ module _ (s : State) (x : List ℕ) where
   numbers-gone e = ltb-no (s .next) lastNumber (omega arith)
 
   -- the place for a blob within the limits may take it
-  pub may-put : PlaceForPut → (i : ℕ) (blob fields : List ℕ) (w : Found) → Sound s x → w ≡ At i → w ≡ placeFor blob (gatewayOf s x .places) → 1 ≤ length blob → length blob ≤ 1024
-      → 1 ≤ length fields → length fields ≤ 3072 → (s .next ≡ lastNumber → ⊥) → MayPut s x i blob fields
+  pub may-put : PlaceForPut → (i : ℕ) (blob fields : List ℕ) (w : Found) → Sound s x → w ≡ At i → w ≡ placeFor blob (gatewayOf s x .places) → 1 ≤ length blob → length blob ≤ blobLimit
+      → 1 ≤ length fields → length fields ≤ fieldsLimit → (s .next ≡ lastNumber → ⊥) → MayPut s x i blob fields
   may-put place-for-put i blob fields w S e f a b c d h = place-for-put s x i blob fields S (ap foundPlace (sym f ∙ e)) a b c d (last-or-less S h)
 
 -- ## The key check

@@ -10,6 +10,7 @@ use native.Mathlib.Omega.{arith}
 use borrow.Author.Tests.{not-true, not-false}
 use lib.ListN.{length, getD, take, drop, length-append, take-append-drop}
 use lib.Seq.{length-take-le, take-all, drop-at}
+use Rattle.wire.specs.Limits.{blobLimit, replyRoom, itemRoom, itemsRoom}
 use Rattle.wire.specs.Numbers.{be32}
 use Rattle.wire.specs.Write.{string, write}
 use Rattle.wire.proofs.Writing.{write-behind, length-write}
@@ -39,22 +40,22 @@ module _ (g : Gateway) (i : ℕ) where
   here = getD (g .places) i none
 
   module _ (s : rule.Sound g) where
-    pub blob-short : length (blobIn here) ≤ 1024
+    pub blob-short : length (blobIn here) ≤ blobLimit
     blob-short = go here refl
       where
-        go : (p : Place) → here ≡ p → length (blobIn p) ≤ 1024
+        go : (p : Place) → here ≡ p → length (blobIn p) ≤ blobLimit
         go none e = omega arith
         go (some k) e = every-at (SoundEntry (g .clock) (g .next)) (g .places) (s .entries) i k e .blob-fits
 
-    pub item-short : length (itemIn here) ≤ 1032
+    pub item-short : length (itemIn here) ≤ itemRoom
     item-short = go here blob-short
       where
-        go : (p : Place) → length (blobIn p) ≤ 1024 → length (itemIn p) ≤ 1032
+        go : (p : Place) → length (blobIn p) ≤ blobLimit → length (itemIn p) ≤ itemRoom
         go none h = omega arith
         go (some k) h = simp length-append (omega arith)
 
     -- so are the bytes that a call gave for it
-    pub blob-room : (v : List ℕ) → v ≡ blobIn here → length v ≤ 1024
+    pub blob-room : (v : List ℕ) → v ≡ blobIn here → length v ≤ blobLimit
     blob-room v e = rw e blob-short
 
   -- what the test says that a place adds: nothing where it is free, else its blob and an empty comment
@@ -110,13 +111,13 @@ pub record ItemsWritten (ps : List Place) (at : ℕ) (buffer : List ℕ) (i plac
   pub behind : place ≡ at + length (items (live (take i ps)))
   pub bytes : out ≡ write buffer at (items (live (take i ps)))
   pub size : length out ≡ length buffer
-  pub short : length (items (live (take i ps))) ≤ i * 1032
+  pub short : length (items (live (take i ps))) ≤ i * itemRoom
 
 pub none-written : (ps : List Place) (at : ℕ) (buffer : List ℕ) → ItemsWritten ps at buffer 0 at buffer
 unfolding live items
 none-written ps at buffer = record { up-to = omega arith; behind = omega arith; bytes = write-nothing buffer at; size = refl; short = omega arith }
 
-module _ (g : Gateway) (s : rule.Sound g) (at : ℕ) (buffer : List ℕ) (i place : ℕ) (out : List ℕ) (w : ItemsWritten (g .places) at buffer i place out) (room : at + 8256 ≤ length buffer) where
+module _ (g : Gateway) (s : rule.Sound g) (at : ℕ) (buffer : List ℕ) (i place : ℕ) (out : List ℕ) (w : ItemsWritten (g .places) at buffer i place out) (room : at + itemsRoom ≤ length buffer) where
   pub one-written : (place′ : ℕ) (out′ : List ℕ) → i < 8 → place′ ≡ place + length (itemIn (getD (g .places) i none)) → out′ ≡ write out place (itemIn (getD (g .places) i none))
       → ItemsWritten (g .places) at buffer (i + 1) place′ out′
   one-written place′ out′ h e f =
@@ -124,7 +125,7 @@ module _ (g : Gateway) (s : rule.Sound g) (at : ℕ) (buffer : List ℕ) (i plac
       let x = itemIn (getD (g .places) i none) in
       let before = items (live (take i (g .places))) in
       let q : items (live (take (i + 1) (g .places))) ≡ before ++ x = rw add-one (items-suc (g .places) i (omega arith)) in
-      let k : length x ≤ 1032 = item-short g i s in
+      let k : length x ≤ itemRoom = item-short g i s in
       let n : length (before ++ x) ≡ length before + length x = simp length-append in
       record {
         up-to = omega arith;
@@ -134,7 +135,7 @@ module _ (g : Gateway) (s : rule.Sound g) (at : ℕ) (buffer : List ℕ) (i plac
         short = rw q (omega arith);
       }
 
-  pub all-written : 8 ≤ i → (place ≡ at + length (items (live (g .places)))) × (out ≡ write buffer at (items (live (g .places)))) × (place ≤ at + 8256)
+  pub all-written : 8 ≤ i → (place ≡ at + length (items (live (g .places)))) × (out ≡ write buffer at (items (live (g .places)))) × (place ≤ at + itemsRoom)
   all-written h =
       let eight : length (g .places) ≡ 8 = s .eight-places in
       let q : take i (g .places) ≡ g .places = take-all i (g .places) (omega arith) in
@@ -178,7 +179,7 @@ fronted n h b o m w l e f k =
 
 -- the items from 9 on, then the length, 12 and the count in front of them
 pub list-written : (ps : List Place) (o m₀ m₁ m₂ m₃ : List ℕ) (end n k at : ℕ) → end ≡ 9 + length (items (live ps)) → m₀ ≡ write o 9 (items (live ps)) → m₁ ≡ write m₀ 0 (be32 (end - 4)) → k ≡ 0 + 4
-    → m₂ ≡ write m₁ k (12 ∷ []) → at ≡ k + 1 → m₃ ≡ write m₂ at (be32 n) → n ≡ length (live ps) → 8265 ≤ length o → end ≤ 9 + 8256
+    → m₂ ≡ write m₁ k (12 ∷ []) → at ≡ k + 1 → m₃ ≡ write m₂ at (be32 n) → n ≡ length (live ps) → replyRoom ≤ length o → end ≤ 9 + itemsRoom
     → (end ≡ length (listed ps)) × (m₃ ≡ write o 0 (listed ps))
 unfolding listed
 list-written ps o m₀ m₁ m₂ m₃ end n k at e e₀ e₁ f₁ e₂ f₂ e₃ c h b =

@@ -14,6 +14,7 @@ use rule::Found;
 use table::State;
 use table::changes;
 use table::places;
+use wire::limits;
 use wire::read::cut;
 ghost use mathlib.Core.Path.{_≡_};
 ghost use Prim.Native.Nat.{_≤_};
@@ -45,16 +46,16 @@ fn store_key(
     if blob.len() < 1 {
         return failure(state, reply);
     }
-    if 1024 < blob.len() {
+    if limits::BLOB_LIMIT < blob.len() {
         return failure(state, reply);
     }
     if fields.len() < 1 {
         return failure(state, reply);
     }
-    if 3072 < fields.len() {
+    if limits::FIELDS_LIMIT < fields.len() {
         return failure(state, reply);
     }
-    if state.next == 0xffff_ffff_ffff_ffff {
+    if state.next == limits::LAST_NUMBER {
         return failure(state, reply);
     }
     match places::place_for(state, store, blob) {
@@ -88,8 +89,8 @@ fn store_fields(
     ensures { λ r. ⌜ ((a : rule.Answers) → a .check ≡ grantOf check → Ends (now (reply .entry)) r (now (store .exit)) (now (reply .exit)) (follow (lent a) (gatewayOf state (now (store .entry))) (storing (gatewayOf state (now (store .entry))) (entryOf (gatewayOf state (now (store .entry))) (now (payload .entry)) at lifetime confirm) (at .end)))) ⌝ }
 {
     let end = at.end;
-    let mut room = [0u8; 1024];
-    match put_blob(payload, 1, at, &mut room[..1024]) {
+    let mut room = [0u8; limits::BLOB_LIMIT];
+    match put_blob(payload, 1, at, &mut room[..limits::BLOB_LIMIT]) {
         Blob::TooLong => failure(state, reply),
         Blob::Length(n) => store_key(
             state,

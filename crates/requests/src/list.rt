@@ -12,6 +12,7 @@ ghost use mathlib.Core.List.{List};
 ghost use mathlib.Core.Option.{none};
 ghost use Prim.Native.Nat.{ℕ, _+_, _≤_, _<_};
 ghost use lib.ListN.{length, getD};
+ghost use Rattle.wire.specs.Limits.{replyRoom, itemRoom, itemsRoom};
 ghost use Rattle.wire.specs.Write.{write};
 ghost use Rattle.rule.specs.Rule.{live, items, listed, listing};
 ghost use Rattle.rule.specs.Calls as rule;
@@ -23,7 +24,7 @@ ghost use Rattle.requests.specs.Ends.{Ends};
 
 // What place i adds to the list: nothing where it is free.
 fn put_item(state: State, store: &[u8], i: usize, reply: &mut [u8], at: usize) -> usize
-    requires { ⌜ (i < 8) × Sound state (now store) × (at + 1032 ≤ length (now reply)) ⌝ }
+    requires { ⌜ (i < 8) × Sound state (now store) × (at + itemRoom ≤ length (now reply)) ⌝ }
     ensures { λ r. ⌜ (r ≡ at + length (itemIn (getD (gatewayOf state (now (store .entry)) .places) i none))) × (now (reply .exit) ≡ write (now (reply .entry)) at (itemIn (getD (gatewayOf state (now (store .entry)) .places) i none))) ⌝ }
 {
     if !places::is_held(state, i) {
@@ -35,8 +36,8 @@ fn put_item(state: State, store: &[u8], i: usize, reply: &mut [u8], at: usize) -
 
 // All items, in place order.
 fn put_items(state: State, store: &[u8], reply: &mut [u8], at: usize) -> usize
-    requires { ⌜ Sound state (now store) × (at + 8256 ≤ length (now reply)) ⌝ }
-    ensures { λ r. ⌜ (r ≡ at + length (items (live (gatewayOf state (now (store .entry)) .places)))) × (now (reply .exit) ≡ write (now (reply .entry)) at (items (live (gatewayOf state (now (store .entry)) .places)))) × (r ≤ at + 8256) ⌝ }
+    requires { ⌜ Sound state (now store) × (at + itemsRoom ≤ length (now reply)) ⌝ }
+    ensures { λ r. ⌜ (r ≡ at + length (items (live (gatewayOf state (now (store .entry)) .places)))) × (now (reply .exit) ≡ write (now (reply .entry)) at (items (live (gatewayOf state (now (store .entry)) .places)))) × (r ≤ at + itemsRoom) ⌝ }
 {
     let mut place = at;
     let mut i = 0;
@@ -72,7 +73,7 @@ fn live_count(state: State) -> usize
 
 // The whole reply; its length.
 fn put_list(state: State, store: &[u8], reply: &mut [u8]) -> usize
-    requires { ⌜ Sound state (now store) × (8265 ≤ length (now reply)) ⌝ }
+    requires { ⌜ Sound state (now store) × (replyRoom ≤ length (now reply)) ⌝ }
     ensures { λ r. ⌜ (r ≡ length (listed (gatewayOf state (now (store .entry)) .places))) × (now (reply .exit) ≡ write (now (reply .entry)) 0 (listed (gatewayOf state (now (store .entry)) .places))) ⌝ }
 {
     let end = put_items(state, store, reply, 9);
@@ -85,7 +86,7 @@ fn put_list(state: State, store: &[u8], reply: &mut [u8]) -> usize
 
 // 11
 pub fn request_identities(state: State, store: &[u8], reply: &mut [u8]) -> Called
-    requires { ⌜ Sound state (now store) × (8265 ≤ length (now reply)) ⌝ }
+    requires { ⌜ Sound state (now store) × (replyRoom ≤ length (now reply)) ⌝ }
     ensures { λ r. ⌜ ((a : rule.Answers) → Ends (now (reply .entry)) r (now (store .entry)) (now (reply .exit)) (follow (lent a) (gatewayOf state (now (store .entry))) (listing (gatewayOf state (now (store .entry)))))) ⌝ }
 {
     let len = put_list(state, store, reply);

@@ -4,6 +4,7 @@ use crate::replies::failure;
 use crate::replies::success;
 use table::State;
 use table::locks;
+use wire::limits;
 use wire::read::Cursor;
 use wire::read::Part;
 use wire::read::cut;
@@ -25,7 +26,7 @@ pub fn lock(state: State, store: &[u8], payload: &[u8], reply: &mut [u8]) -> Cal
     let Part::Whole { from, to, next: _ } = start.string(payload) else {
         return failure(state, reply);
     };
-    if 1024 < to - from {
+    if limits::PASSPHRASE_LIMIT < to - from {
         return failure(state, reply);
     }
     success(locks::with_lock(state, cut(payload, from, to)), reply)

@@ -24,6 +24,7 @@ ghost use mathlib.Core.Path.{_≡_};
 ghost use mathlib.Core.List.{List};
 ghost use Prim.Native.Nat.{ℕ, _≤_};
 ghost use lib.ListN.{length};
+ghost use Rattle.wire.specs.Limits.{signatureLimit, replyRoom};
 ghost use Rattle.wire.specs.Write.{write};
 ghost use Rattle.rule.specs.Rule.{hashOf, signatureReply, signingData, signing};
 ghost use Rattle.rule.specs.Calls.{lent, forNumber, lentLength, follow};
@@ -86,7 +87,7 @@ fn signed_for(s: Signed, number: u64) -> Said
 
 // The reply: length, 14, the signature blob as a string. Refusals 1 and 5 have left room.
 fn put_reply(blob: &[u8], reply: &mut [u8]) -> usize
-    requires { ⌜ (8265 ≤ length (now reply)) × (length (now blob) ≤ 2048) ⌝ }
+    requires { ⌜ (replyRoom ≤ length (now reply)) × (length (now blob) ≤ signatureLimit) ⌝ }
     ensures { λ r. ⌜ (r ≡ length (signatureReply (now (blob .entry)))) × (now (reply .exit) ≡ write (now (reply .entry)) 0 (signatureReply (now (blob .entry)))) ⌝ }
 {
     let kind = put_number(reply, 0, (blob.len() + 5) as u32);
@@ -105,7 +106,7 @@ fn sign_data(
     signature: &[u8],
     reply: &mut [u8],
 ) -> Called
-    requires { ⌜ (8265 ≤ length (now reply)) × (lentLength (lentOf answers (now signature) .signature) ≤ 2048) × Sound state (now store) ⌝ }
+    requires { ⌜ (replyRoom ≤ length (now reply)) × (lentLength (lentOf answers (now signature) .signature) ≤ signatureLimit) × Sound state (now store) ⌝ }
     ensures { λ r. ⌜ Ends (now (reply .entry)) r (now (store .entry)) (now (reply .exit)) (follow (lent (lentOf answers (now (signature .entry)))) (gatewayOf state (now (store .entry))) (signingData (gatewayOf state (now (store .entry))) (now (payload .entry)) number (at .at))) ⌝ }
 {
     let Part::Whole { from, to, next } = at.string(payload) else {
@@ -146,7 +147,7 @@ pub fn try_sign(
     signature: &[u8],
     reply: &mut [u8],
 ) -> Called
-    requires { ⌜ (8265 ≤ length (now reply)) × (lentLength (lentOf answers (now signature) .signature) ≤ 2048) × Sound state (now store) ⌝ }
+    requires { ⌜ (replyRoom ≤ length (now reply)) × (lentLength (lentOf answers (now signature) .signature) ≤ signatureLimit) × Sound state (now store) ⌝ }
     ensures { λ r. ⌜ Ends (now (reply .entry)) r (now (store .entry)) (now (reply .exit)) (follow (lent (lentOf answers (now (signature .entry)))) (gatewayOf state (now (store .entry))) (signing (gatewayOf state (now (store .entry))) (now (payload .entry)))) ⌝ }
 {
     let start = Cursor { at: 1 };

@@ -10,6 +10,7 @@ use borrow.Author.Tests.{le-leb, leb-true, lt-ltb}
 use lib.Dec.{leb}
 use lib.ListN.{length}
 use lib.Seq.{getD-set-same, getD-set-other}
+use Rattle.wire.specs.Limits.{blobLimit, fieldsLimit}
 use Rattle.wire.specs.Numbers.{Bytes, within}
 use Rattle.wire.specs.Read.{cutOf}
 use Rattle.wire.specs.Steps.{so}
@@ -99,8 +100,8 @@ within-high low high n t = leb-true n high (and-right (leb low n) (leb n high) t
 -- what may be stored, by its blob and fields
 may-store : (g : Gateway) (e : Entry) (i : ℕ) → Storable g e i → MayStore g (e .fields) (e .blob)
 may-store g e i s = record {
-  blob-fits = within-high 1 1024 (length (e .blob)) (s .blob);
-  fields-fit = within-high 1 3072 (length (e .fields)) (s .fields);
+  blob-fits = within-high 1 blobLimit (length (e .blob)) (s .blob);
+  fields-fit = within-high 1 fieldsLimit (length (e .fields)) (s .fields);
   numbers-left = s .numbers-left;
   room = room-of g (e .blob) i (placed (e .blob) (g .places) i (s .place));
 }
@@ -175,8 +176,8 @@ added-always g c fields blob l confirm bytes past state request blob-fits fields
     let some-byte = some-bytes (request .key) in
     let storable : Storable now (entryOf now (payloadOf c) p l confirm) i
     = record {
-      blob = rw (r .public) (within-true 1 1024 (length blob) (some-byte .blob-some) blob-fits);
-      fields = rw (r .cut) (within-true 1 3072 (length fields) (some-byte .fields-some) fields-fit);
+      blob = rw (r .public) (within-true 1 blobLimit (length blob) (some-byte .blob-some) blob-fits);
+      fields = rw (r .cut) (within-true 1 fieldsLimit (length fields) (some-byte .fields-some) fields-fit);
       numbers-left = rw (advance-next (c .reading) g) numbers-left;
       place = rw (r .public) place;
       number = refl;

@@ -9,6 +9,7 @@ use mathlib.Core.List.{List, []}
 use borrow.Author.Tests.{ltb-true}
 use lib.ListN.{length}
 use lib.Dec.{leb, ltb}
+use Rattle.wire.specs.Limits.{blobLimit, fieldsLimit, passphraseLimit, lastNumber}
 use Rattle.wire.specs.Numbers.{within}
 use Rattle.wire.specs.declared.read.Cursor.{Cursor}
 use Rattle.wire.specs.declared.read.Number.{Number}
@@ -21,7 +22,6 @@ use Rattle.keys.specs.declared.addition.Addition.{Addition}
 use Rattle.keys.specs.Additions.{additionAt}
 use Rattle.rule.specs.declared.Found.the-variants.{Nothing}
 use Rattle.rule.specs.Gateway.{Entry, Gateway, locked, seek, holds, placeFor, withLock, without, withEntry}
-use Rattle.rule.specs.Soundness.{lastNumber}
 use Rattle.rule.specs.Rule.{Question, gate, check, confirmation, signature, Answer, Landing, reply, close, FAILURE, SUCCESS, Plan, land, fails, closes, listing, removing, removingAll, locking, unlocking, hashOf, signatureReply, signed, signingData, confirming, signing, entryOf, storing, adding}
 use Rattle.rule.specs.Calls.{lent, Call, asks, lands, Result, follow, call}
 use Rattle.rule.specs.Order.{Begins, Carries}
@@ -97,7 +97,7 @@ module _ (answer : (q : Question) → Option (Answer q)) (g : Gateway) (payload 
     unfolding locking
     locking-cases locked =
         part-cases Follows (stringAt payload 1) (λ _ _. failure) λ f t k _.
-        so-gives answer g P (leb (t - f) 1024) _ failing λ _. success _ (locked (cutOf payload f t))
+        so-gives answer g P (leb (t - f) passphraseLimit) _ failing λ _. success _ (locked (cutOf payload f t))
 
     pub unlocking-cases : ((passphrase : List ℕ) → Lands SUCCESS (withLock passphrase g)) → Follows (unlocking g payload)
     unfolding unlocking
@@ -114,8 +114,8 @@ module _ (answer : (q : Question) → Option (Answer q)) (g : Gateway) (payload 
     adding-cases constrained asking stored =
         added-cases Follows (additionAt payload 1 constrained) failure λ p l c read.
         let e = entryOf g payload p l c in
-        so-gives answer g P (within 1 1024 (length (e .blob))) _ failing λ blob.
-        so-gives answer g P (within 1 3072 (length (e .fields))) _ failing λ fields.
+        so-gives answer g P (within 1 blobLimit (length (e .blob))) _ failing λ blob.
+        so-gives answer g P (within 1 fieldsLimit (length (e .fields))) _ failing λ fields.
         so-gives answer g P (ltb (g .next) lastNumber) _ failing λ left.
         found-cases Follows (placeFor (e .blob) (g .places)) (λ _. failure) λ i place.
         let storable : Storable g e i = record { blob = blob; fields = fields; numbers-left = ltb-true _ _ left; place = place; number = refl; reading = refl } in

@@ -8,6 +8,7 @@ use mathlib.Core.List.{List, []}
 use borrow.Author.Tests.{leb-true, ltb-true}
 use lib.ListN.{length, getD}
 use lib.Dec.{leb, ltb, eqb}
+use Rattle.wire.specs.Limits.{blobLimit, fieldsLimit, passphraseLimit, lastNumber}
 use Rattle.wire.specs.Numbers.{within}
 use Rattle.wire.specs.Read.{cutOf, same, stringAt, numberAt}
 use Rattle.wire.proofs.Reading.{string-read}
@@ -15,15 +16,14 @@ use Rattle.wire.proofs.Format.{part-length}
 use Rattle.keys.specs.Additions.{additionAt}
 use Rattle.rule.specs.declared.Found.the-variants.{At}
 use Rattle.rule.specs.Gateway.{Entry, Gateway, locked, opened, seek, holds, placeFor, withLock, without, withoutAll, withEntry}
-use Rattle.rule.specs.Soundness.{lastNumber}
 use Rattle.rule.specs.Rule.{Landing, FAILURE, SUCCESS, Plan, listing, removing, removingAll, locking, unlocking, signed, signingData, numberIn, confirmIn, confirming, signing, entryOf, storing, adding, gated, row, table, rule}
 use Rattle.rule.proofs.Cases.{so-cases, part-cases, number-cases, found-cases, added-cases}
 use Rattle.rule.proofs.Plans.{EveryLanding}
 
 -- an entry that may be stored, at a place for it
 pub record Storable (g : Gateway) (e : Entry) (i : ℕ) : Type 0 where
-  pub blob : within 1 1024 (length (e .blob)) ≡ true
-  pub fields : within 1 3072 (length (e .fields)) ≡ true
+  pub blob : within 1 blobLimit (length (e .blob)) ≡ true
+  pub fields : within 1 fieldsLimit (length (e .fields)) ≡ true
   pub numbers-left : g .next < lastNumber
   pub place : placeFor (e .blob) (g .places) ≡ At i
   pub number : e .number ≡ g .next
@@ -33,7 +33,7 @@ pub data Effect (g : Gateway) (l : Landing) (after : Gateway) : Type 0 where
   leaves : after ≡ g → Effect g l after
   removes : (blob : List ℕ) (i : ℕ) → seek (holds blob) 0 (g .places) ≡ At i → l ≡ SUCCESS → after ≡ without i g → Effect g l after
   clears : l ≡ SUCCESS → after ≡ withoutAll g → Effect g l after
-  locks : (passphrase : List ℕ) → length passphrase ≤ 1024 → l ≡ SUCCESS → after ≡ withLock passphrase g → Effect g l after
+  locks : (passphrase : List ℕ) → length passphrase ≤ passphraseLimit → l ≡ SUCCESS → after ≡ withLock passphrase g → Effect g l after
   stores : (e : Entry) (i : ℕ) → Storable g e i → l ≡ SUCCESS → after ≡ withEntry i e g → Effect g l after
 
 module _ (g : Gateway) where
@@ -51,11 +51,11 @@ module _ (g : Gateway) where
   unfolding locking
   locking-effect payload =
       part-cases Lands (stringAt payload 1) (λ _ _. leaves refl) λ f t k e.
-      so-cases Lands (leb (t - f) 1024)
+      so-cases Lands (leb (t - f) passphraseLimit)
       (λ fits.
       let w = string-read payload 1 f t k e in
       let l = part-length payload f t (omega arith) (w .within) in
-      let h : t - f ≤ 1024 = leb-true _ _ fits in
+      let h : t - f ≤ passphraseLimit = leb-true _ _ fits in
       locks (cutOf payload f t) (omega arith) refl refl)
       (λ _. leaves refl)
 
@@ -90,9 +90,9 @@ module _ (g : Gateway) where
   adding-effect constrained payload =
       added-cases Lands (additionAt payload 1 constrained) (leaves refl) λ p l c _.
       let e = entryOf g payload p l c in
-      so-cases Lands (within 1 1024 (length (e .blob)))
+      so-cases Lands (within 1 blobLimit (length (e .blob)))
       (λ blob.
-      so-cases Lands (within 1 3072 (length (e .fields)))
+      so-cases Lands (within 1 fieldsLimit (length (e .fields)))
       (λ fields.
       so-cases Lands (ltb (g .next) lastNumber)
       (λ left.

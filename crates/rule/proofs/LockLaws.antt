@@ -6,6 +6,7 @@ use mathlib.Core.List.{List, []}
 use borrow.Author.Tests.{leb-true, le-leb}
 use lib.ListN.{length}
 use lib.Dec.{leb}
+use Rattle.wire.specs.Limits.{passphraseLimit}
 use Rattle.wire.specs.Steps.{so, part}
 use Rattle.wire.specs.Read.{cutOf, same, stringAt}
 use Rattle.wire.proofs.Reading.{string-read, same-rule}
@@ -30,18 +31,18 @@ carries-length {v} {payload} s =
 record Locks (g : Gateway) (payload : List ℕ) (after : Gateway) : Type 0 where
   passphrase : List ℕ
   carries : Carries passphrase payload
-  fits : length passphrase ≤ 1024
+  fits : length passphrase ≤ passphraseLimit
   locks : after ≡ withLock passphrase g
 
 locking-shows : (g : Gateway) (payload : List ℕ) → OnSuccess (Locks g payload) (locking g payload)
 unfolding locking
 locking-shows g payload =
     part-cases Shows (stringAt payload 1) (λ _ _. failure-shows) λ f t k e.
-    so-cases Shows (leb (t - f) 1024)
+    so-cases Shows (leb (t - f) passphraseLimit)
     (λ fits _.
     let s : Carries (cutOf payload f t) payload = record { from = f; to = t; next = k; read = e; is = refl } in
     let l = carries-length s in
-    let h : t - f ≤ 1024 = leb-true _ _ fits in
+    let h : t - f ≤ passphraseLimit = leb-true _ _ fits in
     record { passphrase = cutOf payload f t; carries = s; fits = omega arith; locks = refl })
     (λ _. failure-shows)
   where
@@ -51,12 +52,12 @@ locking-shows g payload =
 lock-shows : (g : Gateway) (c : Call) → Begins 22 (payloadOf c) → call g c .outcome ≡ lands SUCCESS → Locks (atCall g c) (payloadOf c) (call g c .gateway)
 lock-shows g c begins = success-shows (Locks (atCall g c) (payloadOf c)) lock g c begins (locking-shows (atCall g c) (payloadOf c))
 
-locking-succeeds : (g : Gateway) (c : Call) (v : List ℕ) → Carries v (payloadOf c) → length v ≤ 1024
+locking-succeeds : (g : Gateway) (c : Call) (v : List ℕ) → Carries v (payloadOf c) → length v ≤ passphraseLimit
     → follow (lent (c .answers)) g (locking g (payloadOf c)) .outcome ≡ lands SUCCESS
 unfolding locking part so follow
 locking-succeeds g c v s h =
     let l = carries-length s in
-    let fits : s .to - s .from ≤ 1024 = omega arith in
+    let fits : s .to - s .from ≤ passphraseLimit = omega arith in
     rw (s .read, le-leb _ _ fits)
 
 pub lock-rule : LockRule

@@ -7,12 +7,12 @@ use mathlib.Core.Option.{Option, none, some}
 use mathlib.Core.List.{List}
 use lib.ListN.{length, getD}
 use lib.Dec.{leb, ltb, eqb}
+use Rattle.wire.specs.Limits.{blobLimit, fieldsLimit, passphraseLimit, lastNumber}
 use Rattle.wire.specs.Numbers.{within}
 use Rattle.wire.specs.Read.{cutOf, same, stringAt, numberAt}
 use Rattle.wire.specs.Steps.{so}
 use Rattle.keys.specs.Additions.{additionAt}
 use Rattle.rule.specs.Gateway.{Gateway, locked, opened, advance, seek, holds, placeFor}
-use Rattle.rule.specs.Soundness.{lastNumber}
 use Rattle.rule.specs.Rule.{Question, gate, check, confirmation, signature, Answer, Landing, Plan, land, ask, fails, listing, removing, removingAll, locking, unlocking, hashOf, signed, signingData, numberIn, confirmIn, confirming, signing, entryOf, storing, adding, gated, row, table, rule}
 use Rattle.rule.specs.Calls.{given, lent, asks, Result, follow, served, refusal, call}
 use Rattle.rule.specs.Runs.{Oracle}
@@ -62,8 +62,8 @@ module _ (oracle : Oracle) (g : Gateway) where
   adding-asks constrained payload =
       added-cases (AtMost 2) (additionAt payload 1 constrained) (land-asks 2 _ g) λ p l c _.
       let e = entryOf g payload p l c in
-      so-asks 2 (within 1 1024 (length (e .blob))) _
-      (so-asks 2 (within 1 3072 (length (e .fields))) _
+      so-asks 2 (within 1 blobLimit (length (e .blob))) _
+      (so-asks 2 (within 1 fieldsLimit (length (e .fields))) _
       (so-asks 2 (ltb (g .next) lastNumber) _
       (found-cases (AtMost 2) (placeFor (e .blob) (g .places)) (λ _. land-asks 2 _ g) λ i _.
       ask-asks 1 (check 1 (p .end)) _ (λ granted. so-asks 1 granted _ (land-asks 1 _ _)))))
@@ -78,7 +78,7 @@ module _ (oracle : Oracle) (g : Gateway) where
   unfolding locking
   locking-asks payload =
       part-cases (AtMost 2) (stringAt payload 1) (λ _ _. land-asks 2 _ g) λ f t k _.
-      so-asks 2 (leb (t - f) 1024) _ (land-asks 2 _ _)
+      so-asks 2 (leb (t - f) passphraseLimit) _ (land-asks 2 _ _)
 
   unlocking-asks : (payload : List ℕ) → AtMost 2 (unlocking g payload)
   unfolding unlocking

@@ -8,6 +8,7 @@ use mathlib.Core.Option.{Option, none, some}
 use borrow.Author.Tests.{leb-true, eqb-true}
 use lib.Dec.{leb, eqb}
 use lib.ListN.{length}
+use Rattle.wire.specs.Limits.{payloadLimit, storeSize, signatureLimit, replyRoom}
 use Rattle.rule.specs.Gateway.{Gateway, advance}
 use Rattle.rule.specs.Soundness.{sound}
 use Rattle.rule.specs.Rule.{Question, Answer, Plan, land, ask, rule}
@@ -18,24 +19,24 @@ use Rattle.rule.proofs.PlaceLaws.{some-not-none}
 
 -- what holds of a call that no refusal meets
 pub record Accepted (g : Gateway) (c : Call) : Type 0 where
-  pub buffer : 8265 ≤ c .buffer
-  pub store : c .store ≡ 32768
+  pub buffer : replyRoom ≤ c .buffer
+  pub store : c .store ≡ storeSize
   pub state : sound g ≡ true
-  pub payload : length (c .frame .payload) ≤ 262144
-  pub lent-short : lentLength (c .answers .signature) ≤ 2048
+  pub payload : length (c .frame .payload) ≤ payloadLimit
+  pub lent-short : lentLength (c .answers .signature) ≤ signatureLimit
 
 pub accepted : (g : Gateway) (c : Call) → refusal g c ≡ none → Accepted g c
 unfolding refusal refusalOf
 accepted g c =
-    so-cases None (leb 8265 (c .buffer))
+    so-cases None (leb replyRoom (c .buffer))
     (λ buffer.
-    so-cases None (eqb (c .store) 32768)
+    so-cases None (eqb (c .store) storeSize)
     (λ store.
     so-cases None (sound g)
     (λ state.
-    so-cases None (leb (length (c .frame .payload)) 262144)
+    so-cases None (leb (length (c .frame .payload)) payloadLimit)
     (λ payload.
-    so-cases None (leb (lentLength (c .answers .signature)) 2048)
+    so-cases None (leb (lentLength (c .answers .signature)) signatureLimit)
     (λ short _. record { buffer = leb-true _ _ buffer; store = eqb-true _ _ store; state = state; payload = leb-true _ _ payload; lent-short = leb-true _ _ short })
     (λ _. some-refusal 5))
     (λ _. some-refusal 4))
@@ -53,15 +54,15 @@ accepted g c =
 pub refusal-3 : (g : Gateway) (c : Call) → refusal g c ≡ some 3 → sound g ≡ false
 unfolding refusal refusalOf
 refusal-3 g c =
-    so-cases Third (leb 8265 (c .buffer))
+    so-cases Third (leb replyRoom (c .buffer))
     (λ _.
-    so-cases Third (eqb (c .store) 32768)
+    so-cases Third (eqb (c .store) storeSize)
     (λ _.
     so-cases Third (sound g)
     (λ _.
-    so-cases Third (leb (length (c .frame .payload)) 262144)
+    so-cases Third (leb (length (c .frame .payload)) payloadLimit)
     (λ _.
-    so-cases Third (leb (lentLength (c .answers .signature)) 2048) (λ _ never. absurd (some-not-none (sym never)))
+    so-cases Third (leb (lentLength (c .answers .signature)) signatureLimit) (λ _ never. absurd (some-not-none (sym never)))
     (λ _. other 5 (omega arith)))
     (λ _. other 4 (omega arith)))
     (λ f _. f))

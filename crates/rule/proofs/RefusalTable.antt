@@ -7,6 +7,7 @@ use mathlib.Core.List.{List}
 use native.Mathlib.Omega.{arith}
 use borrow.Author.Tests.{le-leb, lt-leb, eq-eqb, ne-eqb}
 use lib.ListN.{length}
+use Rattle.wire.specs.Limits.{payloadLimit, storeSize, signatureLimit, replyRoom}
 use Rattle.wire.specs.Steps.{so}
 use Rattle.rule.specs.Gateway.{Gateway}
 use Rattle.rule.specs.Soundness.{Sound, sound}
@@ -22,22 +23,22 @@ not-sound g never = go (sound g) refl
     go false e = refl
 
 -- what is lent fits where every signature does
-lent-fits : (o : Option (Numbered (Option (List ℕ)))) → ((n : ℕ) (blob : List ℕ) → o ≡ some (record { number = n; answer = some blob }) → length blob ≤ 2048) → lentLength o ≤ 2048
+lent-fits : (o : Option (Numbered (Option (List ℕ)))) → ((n : ℕ) (blob : List ℕ) → o ≡ some (record { number = n; answer = some blob }) → length blob ≤ signatureLimit) → lentLength o ≤ signatureLimit
 unfolding lentLength
 lent-fits none fits = omega arith
 lent-fits (some a) fits = go (a .answer) refl
   where
-    go : (x : Option (List ℕ)) → a .answer ≡ x → lentLength (some (record { number = a .number; answer = x })) ≤ 2048
+    go : (x : Option (List ℕ)) → a .answer ≡ x → lentLength (some (record { number = a .number; answer = x })) ≤ signatureLimit
     go none e = omega arith
     go (some blob) e = fits (a .number) blob (λ i. some (record { number = a .number; answer = e i }))
 
 pub refusal-rule : RefusalRule
 unfolding refusal refusalOf so lentLength
 refusal-rule g c = record {
-  first = λ a. rw (lt-leb 8265 (c .buffer) a);
-  second = λ a b. rw (le-leb 8265 (c .buffer) a, ne-eqb (c .store) 32768 b);
-  third = λ a b s. rw (le-leb 8265 (c .buffer) a, eq-eqb (c .store) 32768 b, not-sound g s);
-  fourth = λ a b s p. rw (le-leb 8265 (c .buffer) a, eq-eqb (c .store) 32768 b, sound-rule g .1 s, lt-leb (length (c .frame .payload)) 262144 p);
-  fifth = λ a b s p n blob e l. rw (le-leb 8265 (c .buffer) a, eq-eqb (c .store) 32768 b, sound-rule g .1 s, le-leb (length (c .frame .payload)) 262144 p, e, lt-leb (length blob) 2048 l);
-  accepted = λ a b s p f. rw (le-leb 8265 (c .buffer) a, eq-eqb (c .store) 32768 b, sound-rule g .1 s, le-leb (length (c .frame .payload)) 262144 p, le-leb _ 2048 (lent-fits (c .answers .signature) f));
+  first = λ a. rw (lt-leb replyRoom (c .buffer) a);
+  second = λ a b. rw (le-leb replyRoom (c .buffer) a, ne-eqb (c .store) storeSize b);
+  third = λ a b s. rw (le-leb replyRoom (c .buffer) a, eq-eqb (c .store) storeSize b, not-sound g s);
+  fourth = λ a b s p. rw (le-leb replyRoom (c .buffer) a, eq-eqb (c .store) storeSize b, sound-rule g .1 s, lt-leb (length (c .frame .payload)) payloadLimit p);
+  fifth = λ a b s p n blob e l. rw (le-leb replyRoom (c .buffer) a, eq-eqb (c .store) storeSize b, sound-rule g .1 s, le-leb (length (c .frame .payload)) payloadLimit p, e, lt-leb (length blob) signatureLimit l);
+  accepted = λ a b s p f. rw (le-leb replyRoom (c .buffer) a, eq-eqb (c .store) storeSize b, sound-rule g .1 s, le-leb (length (c .frame .payload)) payloadLimit p, le-leb _ signatureLimit (lent-fits (c .answers .signature) f));
 }

@@ -7,6 +7,7 @@ use mathlib.Core.Option.{Option, none, some}
 use mathlib.Core.List.{List, [], _∷_}
 use lib.ListN.{length, getD, length-append}
 use lib.Dec.{leb, ltb, eqb}
+use Rattle.wire.specs.Limits.{blobLimit, fieldsLimit, passphraseLimit, signatureLimit, replyRoom, itemRoom, lastNumber}
 use Rattle.wire.specs.Numbers.{within}
 use Rattle.wire.specs.Read.{cutOf, same, stringAt, numberAt}
 use Rattle.wire.specs.Steps.{so}
@@ -14,7 +15,7 @@ use Rattle.wire.specs.Write.{string}
 use Rattle.keys.specs.Additions.{additionAt}
 use Rattle.rule.specs.declared.Hash.{Hash}
 use Rattle.rule.specs.Gateway.{Place, Gateway, locked, opened, advance, seek, holds, placeFor, withEntry}
-use Rattle.rule.specs.Soundness.{lastNumber, EveryEntry, SoundEntry, Sound}
+use Rattle.rule.specs.Soundness.{EveryEntry, SoundEntry, Sound}
 use Rattle.rule.specs.Rule.{Question, gate, check, confirmation, signature, Answer, Landing, reply, close, FAILURE, SUCCESS, Plan, land, ask, fails, closes, live, items, listed, listing, removing, removingAll, locking, unlocking, hashOf, signatureReply, signed, signingData, numberIn, confirmIn, confirming, signing, entryOf, storing, adding, gated, row, table, rule}
 use Rattle.rule.specs.Calls.{given, Numbered, forNumber, lent, lentLength, Call, lands, Result, follow, served, refusal, call}
 use Rattle.rule.specs.Order.{RepliesFit}
@@ -30,16 +31,16 @@ size close = 0
 
 -- ## The longest list
 
-items-length : (ps : List Place) → EveryEntry (λ e. length (e .blob) ≤ 1024) ps → length (items (live ps)) ≤ 1032 * length ps
+items-length : (ps : List Place) → EveryEntry (λ e. length (e .blob) ≤ blobLimit) ps → length (items (live ps)) ≤ itemRoom * length ps
 unfolding items live
 items-length [] h = omega arith
 items-length (none ∷ ps) h = let r = items-length ps h in omega arith
 items-length (some e ∷ ps) h = let r = items-length ps (h .1) in let b = h .0 in simp length-append (omega arith)
 
-list-size : (g : Gateway) → Sound g → length (listed (g .places)) ≤ 8265
+list-size : (g : Gateway) → Sound g → length (listed (g .places)) ≤ replyRoom
 unfolding listed
 list-size g s =
-    let blobs = every-imp (SoundEntry (g .clock) (g .next)) (λ e. length (e .blob) ≤ 1024) (λ e h. h .blob-fits) (g .places) (s .entries) in
+    let blobs = every-imp (SoundEntry (g .clock) (g .next)) (λ e. length (e .blob) ≤ blobLimit) (λ e h. h .blob-fits) (g .places) (s .entries) in
     let l = items-length (g .places) blobs in
     let eight : length (g .places) ≡ 8 = s .eight-places in
     omega arith
@@ -47,13 +48,13 @@ list-size g s =
 -- ## What a plan lands with, where lent signatures are short
 
 module _ (lent : (q : Question) → Option (Answer q)) (g : Gateway)
-    (short : (n from to : ℕ) (hash : Hash) (blob : List ℕ) → lent (signature n from to hash) ≡ some (some blob) → length blob ≤ 2048) where
+    (short : (n from to : ℕ) (hash : Hash) (blob : List ℕ) → lent (signature n from to hash) ≡ some (some blob) → length blob ≤ signatureLimit) where
   record Fits (plan : Plan) : Type 0 where
-    fits : (l : Landing) → follow lent g plan .outcome ≡ lands l → size l ≤ 8265
+    fits : (l : Landing) → follow lent g plan .outcome ≡ lands l → size l ≤ replyRoom
 
-  land-fits : (l : Landing) (after : Gateway) → size l ≤ 8265 → Fits (land l after)
+  land-fits : (l : Landing) (after : Gateway) → size l ≤ replyRoom → Fits (land l after)
   unfolding follow
-  land-fits l after h = record { fits = λ l′ e. subst (λ l. size l ≤ 8265) (same-landing l l′ e) h }
+  land-fits l after h = record { fits = λ l′ e. subst (λ l. size l ≤ replyRoom) (same-landing l l′ e) h }
     where
       same-landing : (l l′ : Landing) → lands l ≡ lands l′ → l ≡ l′
       same-landing l l′ e = cc
@@ -61,7 +62,7 @@ module _ (lent : (q : Question) → Option (Answer q)) (g : Gateway)
   ask-fits : (q : Question) (onwards : Answer q → Plan) → ((a : Answer q) → lent q ≡ some a → Fits (onwards a)) → Fits (ask q onwards)
   unfolding follow
   ask-fits q onwards f = record {
-    fits = λ l. given-cases (λ (r : Result). r .outcome ≡ lands l → size l ≤ 8265) (lent q) (λ _ never. absurd (asks-not-lands q l never)) (λ a e. f a e .fits l);
+    fits = λ l. given-cases (λ (r : Result). r .outcome ≡ lands l → size l ≤ replyRoom) (lent q) (λ _ never. absurd (asks-not-lands q l never)) (λ a e. f a e .fits l);
   }
 
   fails-fits : Fits (fails g)
@@ -76,7 +77,7 @@ module _ (lent : (q : Question) → Option (Answer q)) (g : Gateway)
   so-fits : (b : Bool) (plan : Plan) → Fits plan → Fits (so (fails g) b plan)
   so-fits b plan h = so-cases Fits b (λ _. h) (λ _. fails-fits)
 
-  signed-fits : (a : Option (List ℕ)) → ((blob : List ℕ) → a ≡ some blob → length blob ≤ 2048) → Fits (signed g a)
+  signed-fits : (a : Option (List ℕ)) → ((blob : List ℕ) → a ≡ some blob → length blob ≤ signatureLimit) → Fits (signed g a)
   unfolding signed signatureReply
   signed-fits none h = closes-fits
   signed-fits (some blob) h = let b = h blob refl in land-fits (reply (string (14 ∷ string blob))) g (omega arith)
@@ -103,8 +104,8 @@ module _ (lent : (q : Question) → Option (Answer q)) (g : Gateway)
   adding-fits constrained payload =
       added-cases Fits (additionAt payload 1 constrained) fails-fits λ p l c _.
       let e = entryOf g payload p l c in
-      so-fits (within 1 1024 (length (e .blob))) _
-      (so-fits (within 1 3072 (length (e .fields))) _
+      so-fits (within 1 blobLimit (length (e .blob))) _
+      (so-fits (within 1 fieldsLimit (length (e .fields))) _
       (so-fits (ltb (g .next) lastNumber) _
       (found-cases Fits (placeFor (e .blob) (g .places)) (λ _. fails-fits) λ i _.
       ask-fits (check 1 (p .end)) _ (λ granted _. so-fits granted _ (success-fits (withEntry i e g))))))
@@ -119,7 +120,7 @@ module _ (lent : (q : Question) → Option (Answer q)) (g : Gateway)
   unfolding locking
   locking-fits payload =
       part-cases Fits (stringAt payload 1) (λ _ _. fails-fits) λ f t k _.
-      so-fits (leb (t - f) 1024) _ (success-fits _)
+      so-fits (leb (t - f) passphraseLimit) _ (success-fits _)
 
   unlocking-fits : (payload : List ℕ) → Fits (unlocking g payload)
   unfolding unlocking
@@ -157,7 +158,7 @@ lent-length n (some a) blob =
     (λ _ never. absurd (some-not-none (sym never)))
 
 lent-short : (g : Gateway) (c : Call) → refusal g c ≡ none → (n from to : ℕ) (hash : Hash) (blob : List ℕ)
-    → lent (c .answers) (signature n from to hash) ≡ some (some blob) → length blob ≤ 2048
+    → lent (c .answers) (signature n from to hash) ≡ some (some blob) → length blob ≤ signatureLimit
 unfolding lent
 lent-short g c ok n from to hash blob e = rw (lent-length n (c .answers .signature) blob e) at (accepted g c ok .lent-short)
 
@@ -165,6 +166,6 @@ pub replies-fit : RepliesFit
 unfolding call served
 replies-fit g c bytes s =
     let now = advance (c .reading) g in
-    given-cases (λ (r : Result). r .outcome ≡ lands (reply bytes) → length bytes ≤ 8265) (refusal g c)
+    given-cases (λ (r : Result). r .outcome ≡ lands (reply bytes) → length bytes ≤ replyRoom) (refusal g c)
     (λ ok. rule-fits (lent (c .answers)) now (lent-short g c ok) (sound-advance (c .reading) g s) (c .frame .payload) .fits (reply bytes))
     (λ n _ never. absurd (refused-not-lands n (reply bytes) never))

@@ -9,10 +9,11 @@ use mathlib.Core.List.{List, [], _∷_}
 use borrow.Author.Tests.{leb-true, ltb-true, eqb-true, eqb-false, le-leb, lt-ltb, eq-eqb, ne-eqb}
 use lib.Dec.{leb, ltb, eqb}
 use lib.ListN.{length, length-set, length-map}
+use Rattle.wire.specs.Limits.{blobLimit, fieldsLimit, passphraseLimit, lastNumber}
 use Rattle.wire.specs.Numbers.{within}
 use Rattle.wire.specs.Read.{same}
 use Rattle.rule.specs.Gateway.{Entry, Place, Gateway, lasting, atClock, advance, withLock, without, withoutAll, withEntry, vacate}
-use Rattle.rule.specs.Soundness.{lastNumber, EveryEntry, Apart, Distinct, SoundEntry, Sound, everyEntry, apart, distinct, soundEntry, sound}
+use Rattle.rule.specs.Soundness.{EveryEntry, Apart, Distinct, SoundEntry, Sound, everyEntry, apart, distinct, soundEntry, sound}
 use Rattle.rule.specs.Rule.{Question, Answer, Landing, Plan, land, ask, rule}
 use Rattle.rule.specs.Calls.{lent, Call, refusal, refused, Result, follow, served, call}
 use Rattle.rule.specs.Runs.{endOf}
@@ -71,7 +72,7 @@ distinct-says (some e ∷ ps) = both-say _ _ _ _ (every-says (apart e) (Apart e)
 
 entry-says : (clock next : ℕ) (e : Entry) → Says (soundEntry clock next e) (SoundEntry clock next e)
 entry-says clock next e =
-    let b = both-say _ _ _ _ (within-says 1 1024 (length (e .blob))) (within-says 1 3072 (length (e .fields))) in
+    let b = both-say _ _ _ _ (within-says 1 blobLimit (length (e .blob))) (within-says 1 fieldsLimit (length (e .fields))) in
     let n = both-say _ _ _ _ (both-say _ _ _ _ (le-says 1 (e .number)) (lt-says (e .number) next)) (le-says (e .reading) clock) in
     let all = both-say _ _ _ _ b n in (
       (λ t.
@@ -92,7 +93,7 @@ pub sound-rule : SoundRule
 unfolding sound
 sound-rule g =
     let p = both-say _ _ _ _ (eq-says (length (g .places)) 8) (every-says _ _ (entry-says (g .clock) (g .next)) (g .places)) in
-    let q = both-say _ _ _ _ (distinct-says (g .places)) (both-say _ _ _ _ (le-says (length (g .lock)) 1024) (within-says 1 lastNumber (g .next))) in
+    let q = both-say _ _ _ _ (distinct-says (g .places)) (both-say _ _ _ _ (le-says (length (g .lock)) passphraseLimit) (within-says 1 lastNumber (g .next))) in
     let all = both-say _ _ _ _ p q in (
       (λ t.
           let h = all .0 t in
@@ -133,7 +134,7 @@ sound-advance r g s =
     let later : g .clock ≤ max (g .clock) r = omega arith in
     sound-fewer g (advance r g) (length-map (g .places) _) (freed-fewer (lasting (max (g .clock) r)) (lasting-frees (max (g .clock) r)) (g .places)) refl later refl s
 
-pub sound-lock : (passphrase : List ℕ) (g : Gateway) → length passphrase ≤ 1024 → Sound g → Sound (withLock passphrase g)
+pub sound-lock : (passphrase : List ℕ) (g : Gateway) → length passphrase ≤ passphraseLimit → Sound g → Sound (withLock passphrase g)
 sound-lock passphrase g h s = record {
   eight-places = s .eight-places;
   entries = s .entries;
@@ -158,8 +159,8 @@ new-apart g e i s n p j x d h =
 
 sound-entry : (g : Gateway) (e : Entry) (i : ℕ) → Storable g e i → Sound g → Sound (withEntry i e g)
 sound-entry g e i h s =
-    let blob = within-says 1 1024 (length (e .blob)) .0 (h .blob) in
-    let fields = within-says 1 3072 (length (e .fields)) .0 (h .fields) in
+    let blob = within-says 1 blobLimit (length (e .blob)) .0 (h .blob) in
+    let fields = within-says 1 fieldsLimit (length (e .fields)) .0 (h .fields) in
     let left : g .next < lastNumber = h .numbers-left in
     let number : e .number ≡ g .next = h .number in
     let reading : e .reading ≡ g .clock = h .reading in

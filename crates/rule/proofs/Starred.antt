@@ -9,7 +9,7 @@ use Rattle.rule.specs.Soundness.{everyEntry, distinct, sound}
 use Rattle.rule.specs.Rule.{live, items, listed, listing, removing, removingAll, locking, unlocking, hashOf, signed, signingData, confirming, signing, gated, row, table, rule}
 use Rattle.rule.specs.Calls.{forNumber, lent, lentLength, refusalOf, follow, served, refusal, call}
 use Rattle.rule.specs.Runs.{heard, heardIn, turn, turnsFrom, endOf}
-use Rattle.rule.specs.Examples.{StarredExamples, lockedAb, oneKey, SoundnessLimits}
+use Rattle.rule.specs.Examples.{StarredExamples, lockedAb, oneKey, SoundnessLimits, RefusalLimits}
 use Rattle.rule.proofs.SoundLaws.{fresh-sound, sound-rule}
 
 pub starred-examples : StarredExamples
@@ -64,4 +64,16 @@ soundness-limits = record {
   next-over = refl;
   seven-places = refl;
   nine-places = refl;
+}
+
+pub refusal-limits : RefusalLimits
+unfolding refusalOf so
+refusal-limits = record {
+  none-applies = refl;
+  buffer-short = refl;
+  store-short = refl;
+  store-long = refl;
+  unsound = refl;
+  payload-long = refl;
+  signature-long = refl;
 }

@@ -5,6 +5,7 @@ use mathlib.Core.Option.{Option, none, some}
 use mathlib.Core.List.{List}
 use lib.ListN.{length}
 use lib.Dec.{leb, eqb}
+use Rattle.wire.specs.Limits.{payloadLimit, storeSize, signatureLimit, replyRoom}
 use Rattle.wire.specs.Steps.{so}
 use Rattle.rule.specs.Gateway.{Gateway, advance}
 use Rattle.rule.specs.Soundness.{sound}
@@ -54,11 +55,11 @@ lentLength (some a) = given (a .answer) 0 length
 -- and lent signature
 unfoldable pub refusalOf : ℕ → ℕ → Bool → ℕ → ℕ → Option ℕ
 refusalOf buffer store isSound payload lentBytes =
-    so (some 1) (leb 8265 buffer)
-    (so (some 2) (eqb store 32768)
+    so (some 1) (leb replyRoom buffer)
+    (so (some 2) (eqb store storeSize)
     (so (some 3) isSound
-    (so (some 4) (leb payload 262144)
-    (so (some 5) (leb lentBytes 2048)
+    (so (some 4) (leb payload payloadLimit)
+    (so (some 5) (leb lentBytes signatureLimit)
     none))))
 
 -- ## The call

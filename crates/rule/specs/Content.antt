@@ -6,6 +6,7 @@ use mathlib.Core.Bool.{Bool, true, false}
 use mathlib.Core.Option.{Option, none, some}
 use mathlib.Core.List.{List, [], _∷_, _++_}
 use lib.ListN.{length, getD}
+use Rattle.wire.specs.Limits.{payloadLimit, storeSize, blobLimit, fieldsLimit, passphraseLimit, signatureLimit, replyRoom}
 use Rattle.wire.specs.declared.Seconds.{Seconds}
 use Rattle.wire.specs.declared.Constraint.{Constraint}
 use Rattle.wire.specs.Numbers.{Bytes, be32}
@@ -100,17 +101,17 @@ NumberedAnswers = (answers : Answers) → AnswersCount answers
 
 -- no lent signature is over 2,048 bytes; "none given" has no length
 abbrev pub LentFits : Call → Type 0
-LentFits c = (n : ℕ) (blob : List ℕ) → c .answers .signature ≡ some (record { number = n; answer = some blob }) → length blob ≤ 2048
+LentFits c = (n : ℕ) (blob : List ℕ) → c .answers .signature ≡ some (record { number = n; answer = some blob }) → length blob ≤ signatureLimit
 
 -- "Call refusals, first that applies"
 pub record RefusalTable (g : Gateway) (c : Call) : Type 0 where
-  pub first : c .buffer < 8265 → refusal g c ≡ some 1
-  pub second : 8265 ≤ c .buffer → c .store ≢ 32768 → refusal g c ≡ some 2
-  pub third : 8265 ≤ c .buffer → c .store ≡ 32768 → (Sound g → ⊥) → refusal g c ≡ some 3
-  pub fourth : 8265 ≤ c .buffer → c .store ≡ 32768 → Sound g → 262144 < length (payloadOf c) → refusal g c ≡ some 4
-  pub fifth : 8265 ≤ c .buffer → c .store ≡ 32768 → Sound g → length (payloadOf c) ≤ 262144
-      → (n : ℕ) (blob : List ℕ) → c .answers .signature ≡ some (record { number = n; answer = some blob }) → 2048 < length blob → refusal g c ≡ some 5
-  pub accepted : 8265 ≤ c .buffer → c .store ≡ 32768 → Sound g → length (payloadOf c) ≤ 262144 → LentFits c → refusal g c ≡ none
+  pub first : c .buffer < replyRoom → refusal g c ≡ some 1
+  pub second : replyRoom ≤ c .buffer → c .store ≢ storeSize → refusal g c ≡ some 2
+  pub third : replyRoom ≤ c .buffer → c .store ≡ storeSize → (Sound g → ⊥) → refusal g c ≡ some 3
+  pub fourth : replyRoom ≤ c .buffer → c .store ≡ storeSize → Sound g → payloadLimit < length (payloadOf c) → refusal g c ≡ some 4
+  pub fifth : replyRoom ≤ c .buffer → c .store ≡ storeSize → Sound g → length (payloadOf c) ≤ payloadLimit
+      → (n : ℕ) (blob : List ℕ) → c .answers .signature ≡ some (record { number = n; answer = some blob }) → signatureLimit < length blob → refusal g c ≡ some 5
+  pub accepted : replyRoom ≤ c .buffer → c .store ≡ storeSize → Sound g → length (payloadOf c) ≤ payloadLimit → LentFits c → refusal g c ≡ none
 
 abbrev pub RefusalRule : Type 0
 RefusalRule = (g : Gateway) (c : Call) → RefusalTable g c
@@ -162,7 +163,7 @@ UsableUntil =
 abbrev pub LockRule : Type 0
 LockRule =
     (g : Gateway) (c : Call) → PastGate g c → locked g ≡ false → Begins 22 (payloadOf c)
-    → (call g c .outcome ≡ lands SUCCESS) ↔ ((v : List ℕ) × Carries v (payloadOf c) × (length v ≤ 1024))
+    → (call g c .outcome ≡ lands SUCCESS) ↔ ((v : List ℕ) × Carries v (payloadOf c) × (length v ≤ passphraseLimit))
 
 -- its success stores the passphrase, whole, and changes nothing else
 abbrev pub LockHolds : Type 0
@@ -240,8 +241,8 @@ pub record Put (before after : Gateway) (i : ℕ) (e : Entry) : Type 0 where
 
 -- what is decided before the key check is asked: the limits, the numbers that are left, and a place
 pub record MayStore (before : Gateway) (fields blob : List ℕ) : Type 0 where
-  pub blob-fits : length blob ≤ 1024
-  pub fields-fit : length fields ≤ 3072
+  pub blob-fits : length blob ≤ blobLimit
+  pub fields-fit : length fields ≤ fieldsLimit
   pub numbers-left : before .next < 2 ^ 64 - 1
   pub room : ((i : ℕ) × (old : Entry) × HeldAt before i old × (old .blob ≡ blob)) ⊎ ((i : ℕ) × FreeAt before i)
 
@@ -256,7 +257,7 @@ AddedOnly =
 abbrev pub AddedAlways : Type 0
 AddedAlways =
     (g : Gateway) (c : Call) (fields blob : List ℕ) (lifetime : Lifetime) (confirm : Bool) → Bytes (payloadOf c) → PastGate g c → locked g ≡ false
-    → AddRequest (payloadOf c) fields blob lifetime confirm → length blob ≤ 1024 → length fields ≤ 3072 → g .next < 2 ^ 64 - 1
+    → AddRequest (payloadOf c) fields blob lifetime confirm → length blob ≤ blobLimit → length fields ≤ fieldsLimit → g .next < 2 ^ 64 - 1
     → ((i : ℕ) × (old : Entry) × HeldAt (atCall g c) i old × (old .blob ≡ blob)) ⊎ ((i : ℕ) × FreeAt (atCall g c) i)
     → c .answers .check ≡ some true
     → call g c .outcome ≡ lands SUCCESS

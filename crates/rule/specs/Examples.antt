@@ -5,6 +5,7 @@ use mathlib.Core.Bool.{true, false}
 use mathlib.Core.Option.{none, some}
 use mathlib.Core.List.{List, [], _∷_}
 use lib.ListN.{replicate}
+use Rattle.wire.specs.Limits.{storeSize, replyRoom}
 use Rattle.wire.specs.declared.Split.the-variants.{MoreNeeded, TooLong}
 use Rattle.wire.specs.Frames.{splitOf}
 use Rattle.keys.specs.declared.constraints.Lifetime.the-variants.{Forever}
@@ -13,12 +14,12 @@ use Rattle.rule.specs.declared.Hash.the-variants.{Plain, Sha256, Sha512}
 use Rattle.rule.specs.Gateway.{Gateway, fresh}
 use Rattle.rule.specs.Soundness.{Sound, sound}
 use Rattle.rule.specs.Rule.{gate, signature, reply, close, FAILURE, SUCCESS}
-use Rattle.rule.specs.Calls.{Answers, nothingLent, Call, Outcome, asks, lands, call}
+use Rattle.rule.specs.Calls.{Answers, nothingLent, refusalOf, Call, Outcome, asks, lands, call}
 use Rattle.rule.specs.Runs.{turns, endOf, landings}
 
 -- a call of a request at reading 0, with room for every reply
 abbrev pub lending : ℕ → Answers → List ℕ → Call
-lending request answers payload = record { request = request; frame = record { payload = payload }; reading = 0; answers = answers; buffer = 8265; store = 32768 }
+lending request answers payload = record { request = request; frame = record { payload = payload }; reading = 0; answers = answers; buffer = replyRoom; store = storeSize }
 
 abbrev pub gateYes : Answers
 gateYes = record { gate = some true; check = none; confirmation = none; signature = none }
@@ -134,3 +135,13 @@ pub record SoundnessLimits : Type 0 where
   pub next-over : sound (lockOfLength 0 0x1_0000_0000_0000_0000) ≡ false
   pub seven-places : sound (record { places = replicate 7 none; lock = []; clock = 0; next = 1 }) ≡ false
   pub nine-places : sound (record { places = replicate 9 none; lock = []; clock = 0; next = 1 }) ≡ false
+
+-- 01's refusals at their limits, by the lengths of reply buffer and key store, soundness, and the lengths of payload and lent signature
+pub record RefusalLimits : Type 0 where
+  pub none-applies : refusalOf 8265 32768 true 262144 2048 ≡ none
+  pub buffer-short : refusalOf 8264 32768 true 262144 2048 ≡ some 1
+  pub store-short : refusalOf 8265 32767 true 262144 2048 ≡ some 2
+  pub store-long : refusalOf 8265 32769 true 262144 2048 ≡ some 2
+  pub unsound : refusalOf 8265 32768 false 262144 2048 ≡ some 3
+  pub payload-long : refusalOf 8265 32768 true 262145 2048 ≡ some 4
+  pub signature-long : refusalOf 8265 32768 true 262144 2049 ≡ some 5

@@ -6,6 +6,7 @@ use mathlib.Core.Bool.{Bool, true, false}
 use mathlib.Core.Option.{Option, none, some}
 use mathlib.Core.List.{List, [], _∷_}
 use lib.ListN.{length, getD}
+use Rattle.wire.specs.Limits.{replyRoom}
 use Rattle.wire.specs.declared.read.Cursor.{Cursor}
 use Rattle.wire.specs.declared.read.Part.the-variants.{Whole}
 use Rattle.wire.specs.Read.{cutOf, stringAt}
@@ -222,4 +223,4 @@ NumbersOnlyRise = (g : Gateway) (c : Call) → g .next ≤ call g c .gateway .ne
 
 -- every reply fits 8,265 bytes, which refusal 1 asks for (`RefusalRule`)
 abbrev pub RepliesFit : Type 0
-RepliesFit = (g : Gateway) (c : Call) (bytes : List ℕ) → Sound g → call g c .outcome ≡ lands (reply bytes) → length bytes ≤ 8265
+RepliesFit = (g : Gateway) (c : Call) (bytes : List ℕ) → Sound g → call g c .outcome ≡ lands (reply bytes) → length bytes ≤ replyRoom

@@ -5,6 +5,7 @@ use mathlib.Core.Option.{Option, none, some}
 use mathlib.Core.List.{List, [], _∷_, _++_}
 use lib.ListN.{length, getD}
 use lib.Dec.{leb, ltb, eqb}
+use Rattle.wire.specs.Limits.{blobLimit, fieldsLimit, passphraseLimit, lastNumber}
 use Rattle.wire.specs.Numbers.{be32, within}
 use Rattle.wire.specs.Read.{cutOf, same, stringAt, numberAt}
 use Rattle.wire.specs.Steps.{so, part, number}
@@ -17,7 +18,6 @@ use Rattle.keys.specs.Additions.{additionAt}
 use Rattle.rule.specs.declared.Hash.{Hash}
 use Rattle.rule.specs.declared.Hash.the-variants.{Plain, Sha256, Sha512}
 use Rattle.rule.specs.Gateway.{Entry, Place, Gateway, locked, opened, seek, holds, found, placeFor, withLock, without, withoutAll, newEntry, withEntry}
-use Rattle.rule.specs.Soundness.{lastNumber}
 
 -- ## Questions, landings, plans ("One call, six outcomes")
 
@@ -91,7 +91,7 @@ removingAll g = land SUCCESS (withoutAll g)
 unfoldable pub locking : Gateway → List ℕ → Plan
 locking g payload =
     part (λ _. fails g) (stringAt payload 1) λ from to next.
-    so (fails g) (leb (to - from) 1024) (land SUCCESS (withLock (cutOf payload from to) g))
+    so (fails g) (leb (to - from) passphraseLimit) (land SUCCESS (withLock (cutOf payload from to) g))
 
 -- 23: "equal to the stored one: zeroed, SUCCESS. Else, or malformed: FAILURE."
 unfoldable pub unlocking : Gateway → List ℕ → Plan
@@ -154,8 +154,8 @@ entryOf g payload p lifetime confirm = newEntry g lifetime confirm (blobOf paylo
 -- check; no is FAILURE. Else stored, next number taken, SUCCESS."
 unfoldable pub storing : Gateway → Entry → ℕ → Plan
 storing g e to =
-    so (fails g) (within 1 1024 (length (e .blob)))
-    (so (fails g) (within 1 3072 (length (e .fields)))
+    so (fails g) (within 1 blobLimit (length (e .blob)))
+    (so (fails g) (within 1 fieldsLimit (length (e .fields)))
     (so (fails g) (ltb (g .next) lastNumber)
     (found (fails g) (placeFor (e .blob) (g .places)) λ i.
     ask (check 1 to) λ granted. so (fails g) granted (land SUCCESS (withEntry i e g)))))

@@ -7,13 +7,10 @@ use mathlib.Core.Option.{none, some}
 use mathlib.Core.List.{List, [], _∷_}
 use lib.ListN.{length}
 use lib.Dec.{leb, ltb, eqb}
+use Rattle.wire.specs.Limits.{blobLimit, fieldsLimit, passphraseLimit, lastNumber}
 use Rattle.wire.specs.Numbers.{within}
 use Rattle.wire.specs.Read.{same}
 use Rattle.rule.specs.Gateway.{Entry, Place, Gateway}
-
--- the greatest insertion number there is, of 64 bits
-abbrev pub lastNumber : ℕ
-lastNumber = 0xFFFF_FFFF_FFFF_FFFF
 
 -- ## The facts
 
@@ -34,9 +31,9 @@ Distinct (some e ∷ ps) = EveryEntry (Apart e) ps × Distinct ps
 
 pub record SoundEntry (clock next : ℕ) (e : Entry) : Type 0 where
   pub blob-some : 1 ≤ length (e .blob)
-  pub blob-fits : length (e .blob) ≤ 1024
+  pub blob-fits : length (e .blob) ≤ blobLimit
   pub fields-some : 1 ≤ length (e .fields)
-  pub fields-fit : length (e .fields) ≤ 3072
+  pub fields-fit : length (e .fields) ≤ fieldsLimit
   pub number-first : 1 ≤ e .number
   pub number-taken : e .number < next
   pub reading-past : e .reading ≤ clock
@@ -45,7 +42,7 @@ pub record Sound (g : Gateway) : Type 0 where
   pub eight-places : length (g .places) ≡ 8
   pub entries : EveryEntry (SoundEntry (g .clock) (g .next)) (g .places)
   pub distinct : Distinct (g .places)
-  pub lock-fits : length (g .lock) ≤ 1024
+  pub lock-fits : length (g .lock) ≤ passphraseLimit
   pub next-first : 1 ≤ g .next
   pub next-last : g .next ≤ lastNumber
 
@@ -66,10 +63,10 @@ distinct (some e ∷ ps) = everyEntry (apart e) ps && distinct ps
 
 abbrev pub soundEntry : ℕ → ℕ → Entry → Bool
 soundEntry clock next e =
-    (within 1 1024 (length (e .blob)) && within 1 3072 (length (e .fields)))
+    (within 1 blobLimit (length (e .blob)) && within 1 fieldsLimit (length (e .fields)))
     && ((leb 1 (e .number) && ltb (e .number) next) && leb (e .reading) clock)
 
 unfoldable pub sound : Gateway → Bool
 sound g =
     (eqb (length (g .places)) 8 && everyEntry (soundEntry (g .clock) (g .next)) (g .places))
-    && (distinct (g .places) && (leb (length (g .lock)) 1024 && within 1 lastNumber (g .next)))
+    && (distinct (g .places) && (leb (length (g .lock)) passphraseLimit && within 1 lastNumber (g .next)))

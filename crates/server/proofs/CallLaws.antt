@@ -6,6 +6,7 @@ use mathlib.Core.Option.{Option, none, some}
 use mathlib.Core.List.{List}
 use borrow.Author.Tests.{not-true, not-false, le-leb, lt-leb, eq-eqb, ne-eqb}
 use lib.ListN.{length}
+use Rattle.wire.specs.Limits.{payloadLimit, storeSize, passphraseLimit, signatureLimit, replyRoom}
 use Rattle.wire.specs.Steps.{so}
 use Rattle.rule.specs.declared.Millis.{Millis}
 use Rattle.rule.specs.Gateway.{Gateway, advance}
@@ -27,7 +28,7 @@ use Rattle.server.specs.Calls.{callOf, Meets}
 pub sound-passed : (s : State) (x : List ℕ) → Sound s x → soundState s x ≡ true
 sound-passed s x S = sound-state-rule s x (S .eight-entries) (S .lock .record-size) .1 S
 
-pub sound-told : (s : State) (x : List ℕ) (b : Bool) → length (s .entries) ≡ 8 → length (s .lock .bytes) ≡ 1024 → not b ≡ false → b ≡ soundState s x → Sound s x
+pub sound-told : (s : State) (x : List ℕ) (b : Bool) → length (s .entries) ≡ 8 → length (s .lock .bytes) ≡ passphraseLimit → not b ≡ false → b ≡ soundState s x → Sound s x
 sound-told s x b eight long e f = sound-state-rule s x eight long .0 (sym f ∙ not-false b e)
 
 module _ (s : State) (x p : List ℕ) (t : Millis) (answers : Answers) (bytes buffer : List ℕ) where
@@ -46,48 +47,48 @@ module _ (s : State) (x p : List ℕ) (t : Millis) (answers : Answers) (bytes bu
     reply-is = rw e refl;
   }
 
-  pub refuses-1 : (r : Called) → length buffer < 8265 → r ≡ record { outcome = Refused 1; state = s } → Gives r x buffer
+  pub refuses-1 : (r : Called) → length buffer < replyRoom → r ≡ record { outcome = Refused 1; state = s } → Gives r x buffer
   unfolding refusalOf so lentOf
   refuses-1 r h f = refuses 1 r first f
     where
       first : refusalHere ≡ some 1
-      first = rw (lt-leb 8265 (length buffer) h)
+      first = rw (lt-leb replyRoom (length buffer) h)
 
-  pub refuses-2 : (r : Called) → 8265 ≤ length buffer → (length x ≡ 32768 → ⊥) → r ≡ record { outcome = Refused 2; state = s } → Gives r x buffer
+  pub refuses-2 : (r : Called) → replyRoom ≤ length buffer → (length x ≡ storeSize → ⊥) → r ≡ record { outcome = Refused 2; state = s } → Gives r x buffer
   unfolding refusalOf so lentOf
   refuses-2 r a b f = refuses 2 r second f
     where
       second : refusalHere ≡ some 2
-      second = rw (le-leb 8265 (length buffer) a, ne-eqb (length x) 32768 b)
+      second = rw (le-leb replyRoom (length buffer) a, ne-eqb (length x) storeSize b)
 
-  pub refuses-3 : (r : Called) (b : Bool) → 8265 ≤ length buffer → length x ≡ 32768 → not b ≡ true → b ≡ soundState s x → r ≡ record { outcome = Refused 3; state = s } → Gives r x buffer
+  pub refuses-3 : (r : Called) (b : Bool) → replyRoom ≤ length buffer → length x ≡ storeSize → not b ≡ true → b ≡ soundState s x → r ≡ record { outcome = Refused 3; state = s } → Gives r x buffer
   unfolding refusalOf so lentOf
   refuses-3 r b h e u is f = refuses 3 r third f
     where
       third : refusalHere ≡ some 3
-      third = rw (le-leb 8265 (length buffer) h, eq-eqb (length x) 32768 e, ← is, not-true b u)
+      third = rw (le-leb replyRoom (length buffer) h, eq-eqb (length x) storeSize e, ← is, not-true b u)
 
-  module _ (h : 8265 ≤ length buffer) (S : Sound s x) where
-    pub refuses-4 : (r : Called) → 262144 < length p → r ≡ record { outcome = Refused 4; state = s } → Gives r x buffer
+  module _ (h : replyRoom ≤ length buffer) (S : Sound s x) where
+    pub refuses-4 : (r : Called) → payloadLimit < length p → r ≡ record { outcome = Refused 4; state = s } → Gives r x buffer
     unfolding refusalOf so lentOf
     refuses-4 r a f = refuses 4 r fourth f
       where
         fourth : refusalHere ≡ some 4
-        fourth = rw (le-leb 8265 (length buffer) h, eq-eqb (length x) 32768 (S .store-size), sound-passed s x S, lt-leb (length p) 262144 a)
+        fourth = rw (le-leb replyRoom (length buffer) h, eq-eqb (length x) storeSize (S .store-size), sound-passed s x S, lt-leb (length p) payloadLimit a)
 
-    module _ (n : ℕ) (a : length p ≤ 262144) (lent : n ≡ lentLength (signatureOf (answers .signature) bytes)) where
-      pub refuses-5 : (r : Called) → 2048 < n → r ≡ record { outcome = Refused 5; state = s } → Gives r x buffer
+    module _ (n : ℕ) (a : length p ≤ payloadLimit) (lent : n ≡ lentLength (signatureOf (answers .signature) bytes)) where
+      pub refuses-5 : (r : Called) → signatureLimit < n → r ≡ record { outcome = Refused 5; state = s } → Gives r x buffer
       unfolding refusalOf so lentOf
       refuses-5 r b f = refuses 5 r fifth f
         where
           fifth : refusalHere ≡ some 5
-          fifth = rw (le-leb 8265 (length buffer) h, eq-eqb (length x) 32768 (S .store-size), sound-passed s x S, le-leb (length p) 262144 a, ← lent, lt-leb n 2048 b)
+          fifth = rw (le-leb replyRoom (length buffer) h, eq-eqb (length x) storeSize (S .store-size), sound-passed s x S, le-leb (length p) payloadLimit a, ← lent, lt-leb n signatureLimit b)
 
-      pub none-applies : n ≤ 2048 → refusalHere ≡ none
+      pub none-applies : n ≤ signatureLimit → refusalHere ≡ none
       unfolding refusalOf so lentOf
-      none-applies b = rw (le-leb 8265 (length buffer) h, eq-eqb (length x) 32768 (S .store-size), sound-passed s x S, le-leb (length p) 262144 a, ← lent, le-leb n 2048 b)
+      none-applies b = rw (le-leb replyRoom (length buffer) h, eq-eqb (length x) storeSize (S .store-size), sound-passed s x S, le-leb (length p) payloadLimit a, ← lent, le-leb n signatureLimit b)
 
-      pub accepts : (r : Called) (y out : List ℕ) (raised : State) (z : List ℕ) → n ≤ 2048 → Means raised z (advance (t .count) (gatewayOf s x))
+      pub accepts : (r : Called) (y out : List ℕ) (raised : State) (z : List ℕ) → n ≤ signatureLimit → Means raised z (advance (t .count) (gatewayOf s x))
           → Ends buffer r y out (served (gatewayOf raised z) (record { payload = p }) (lentOf answers bytes)) → Gives r y out
       unfolding callOf
       accepts r y out raised z b m e =
@@ -102,6 +103,6 @@ module _ (s : State) (x p : List ℕ) (t : Millis) (answers : Answers) (bytes bu
           }
 
 -- a lent signature that the test lets through is short
-pub lent-short : (answers : Answers) (bytes : List ℕ) (n : ℕ) → n ≡ lentLength (signatureOf (answers .signature) bytes) → n ≤ 2048 → lentLength (lentOf answers bytes .signature) ≤ 2048
+pub lent-short : (answers : Answers) (bytes : List ℕ) (n : ℕ) → n ≡ lentLength (signatureOf (answers .signature) bytes) → n ≤ signatureLimit → lentLength (lentOf answers bytes .signature) ≤ signatureLimit
 unfolding lentOf
 lent-short answers bytes n e h = rw (← e) h

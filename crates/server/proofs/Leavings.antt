@@ -9,6 +9,7 @@ use mathlib.Core.List.{List, [], _∷_}
 use native.Mathlib.Omega.{arith}
 use lib.ListN.{length, getD, take, drop}
 use lib.Seq.{drop-at}
+use Rattle.wire.specs.Limits.{passphraseLimit, signatureLimit, replyRoom}
 use Rattle.wire.specs.Steps.{so}
 use Rattle.wire.specs.Write.{write}
 use Rattle.wire.proofs.Writing.{length-write}
@@ -135,14 +136,14 @@ ended-is k r e = rw (e .ended, e .bytes) (outcomes-read (r .outcome) (k .buffer)
 
 -- ## The refusals in order
 
-not-sound : (s : State) (x : List ℕ) → length (s .entries) ≡ 8 → length (s .lock .bytes) ≡ 1024 → (Sound s x → ⊥) → soundState s x ≡ false
+not-sound : (s : State) (x : List ℕ) → length (s .entries) ≡ 8 → length (s .lock .bytes) ≡ passphraseLimit → (Sound s x → ⊥) → soundState s x ≡ false
 not-sound s x eight long never = go (soundState s x) refl
   where
     go : (b : Bool) → soundState s x ≡ b → b ≡ false
     go true e = absurd (never (sound-state-rule s x eight long .0 e))
     go false e = refl
 
-lent-fits : (s : Signed) (bytes : List ℕ) → ((n : ℕ) → s ≡ Given n → length bytes ≤ 2048) → lentLength (signatureOf s bytes) ≤ 2048
+lent-fits : (s : Signed) (bytes : List ℕ) → ((n : ℕ) → s ≡ Given n → length bytes ≤ signatureLimit) → lentLength (signatureOf s bytes) ≤ signatureLimit
 unfolding lentLength
 lent-fits Missing bytes fits = omega arith
 lent-fits (Nothing n) bytes fits = omega arith
@@ -228,10 +229,10 @@ module _ (state : State) (store : List ℕ) (k : Step) (S : Sound state store) (
   unfolding code
   said-length bytes e = ends .ended ∙ ap (λ (o : calls.Outcome). outcomeValues (code o)) e
 
-  landed-room : (l : Landing) → ruled .outcome ≡ lands l → 8265 ≤ length (k .buffer)
+  landed-room : (l : Landing) → ruled .outcome ≡ lands l → replyRoom ≤ length (k .buffer)
   unfolding call
   landed-room l =
-      given-cases (λ (r : Result). r .outcome ≡ lands l → 8265 ≤ length (k .buffer)) (refusal g (asCall k))
+      given-cases (λ (r : Result). r .outcome ≡ lands l → replyRoom ≤ length (k .buffer)) (refusal g (asCall k))
       (λ none-here _. accepted g (asCall k) none-here .buffer)
       (λ n _ never. absurd (refused-not-lands n l never))
 

@@ -10,6 +10,7 @@ use mathlib.Core.List.{List, [], _∷_, _++_, map}
 use native.Mathlib.Omega.{arith}
 use borrow.Author.Tests.{lt-ltb}
 use lib.Dec.{leb}
+use Rattle.wire.specs.Limits.{payloadLimit, storeSize, signatureLimit, replyRoom}
 use Rattle.wire.specs.Steps.{so}
 use Rattle.rule.specs.Gateway.{Gateway, locked}
 use Rattle.rule.specs.Rule.{gate}
@@ -268,15 +269,15 @@ refused-steps n (k ∷ ks) g run all = (
 )
 
 -- a store of the right length is not refused
-not-2 : (buffer payload lentBytes : ℕ) (isSound : Bool) → refusalOf buffer 32768 isSound payload lentBytes ≢ some 2
+not-2 : (buffer payload lentBytes : ℕ) (isSound : Bool) → refusalOf buffer storeSize isSound payload lentBytes ≢ some 2
 unfolding refusalOf so
 not-2 buffer payload lentBytes isSound =
-    so-cases Not (leb 8265 buffer)
+    so-cases Not (leb replyRoom buffer)
     (λ _.
     so-cases Not isSound
     (λ _.
-    so-cases Not (leb payload 262144)
-    (λ _. so-cases Not (leb lentBytes 2048) (λ _ never. some-not-none (sym never)) (λ _. other 5 (omega arith)))
+    so-cases Not (leb payload payloadLimit)
+    (λ _. so-cases Not (leb lentBytes signatureLimit) (λ _ never. some-not-none (sym never)) (λ _. other 5 (omega arith)))
     (λ _. other 4 (omega arith)))
     (λ _. other 3 (omega arith)))
     (λ _. other 1 (omega arith))

@@ -6,6 +6,7 @@ use mathlib.Core.Logic.{_≢_}
 use mathlib.Core.Bool.{Bool, true, false}
 use mathlib.Core.List.{List, [], _∷_, _++_, map}
 use lib.ListN.{length, getD, take, drop}
+use Rattle.wire.specs.Limits.{payloadLimit, storeSize, passphraseLimit, signatureLimit, replyRoom}
 use Rattle.wire.specs.Numbers.{Bytes}
 use Rattle.wire.specs.Steps.{so}
 use Rattle.rule.specs.declared.Millis.{Millis}
@@ -93,7 +94,7 @@ asCall k = record {
   reading = k .reading .count;
   answers = lentOf (k .answers) (k .signature);
   buffer = length (k .buffer);
-  store = 32768;
+  store = storeSize;
 }
 
 -- ## Read off a run
@@ -143,14 +144,14 @@ acceptedOver before (k ∷ ks) = acceptedOver (so before (isAccepted (outcomeAft
 
 -- "Call refusals, first that applies"
 pub record RefusalsInOrder (state : State) (store : List ℕ) (k : Step) : Type 0 where
-  pub first : length (k .buffer) < 8265 → EndedWith (0 ∷ 1 ∷ []) k
-  pub second : 8265 ≤ length (k .buffer) → length store ≢ 32768 → EndedWith (0 ∷ 2 ∷ []) k
-  pub third : 8265 ≤ length (k .buffer) → length store ≡ 32768 → (Sound state store → ⊥) → EndedWith (0 ∷ 3 ∷ []) k
-  pub fourth : 8265 ≤ length (k .buffer) → Sound state store → 262144 < length (k .payload) → EndedWith (0 ∷ 4 ∷ []) k
-  pub fifth : 8265 ≤ length (k .buffer) → Sound state store → length (k .payload) ≤ 262144
-      → (n : ℕ) → k .answers .signature ≡ Given n → 2048 < length (k .signature) → EndedWith (0 ∷ 5 ∷ []) k
-  pub accepted : 8265 ≤ length (k .buffer) → Sound state store → length (k .payload) ≤ 262144
-      → ((n : ℕ) → k .answers .signature ≡ Given n → length (k .signature) ≤ 2048) → (n : ℕ) → ¬ (EndedWith (0 ∷ n ∷ []) k)
+  pub first : length (k .buffer) < replyRoom → EndedWith (0 ∷ 1 ∷ []) k
+  pub second : replyRoom ≤ length (k .buffer) → length store ≢ storeSize → EndedWith (0 ∷ 2 ∷ []) k
+  pub third : replyRoom ≤ length (k .buffer) → length store ≡ storeSize → (Sound state store → ⊥) → EndedWith (0 ∷ 3 ∷ []) k
+  pub fourth : replyRoom ≤ length (k .buffer) → Sound state store → payloadLimit < length (k .payload) → EndedWith (0 ∷ 4 ∷ []) k
+  pub fifth : replyRoom ≤ length (k .buffer) → Sound state store → length (k .payload) ≤ payloadLimit
+      → (n : ℕ) → k .answers .signature ≡ Given n → signatureLimit < length (k .signature) → EndedWith (0 ∷ 5 ∷ []) k
+  pub accepted : replyRoom ≤ length (k .buffer) → Sound state store → length (k .payload) ≤ payloadLimit
+      → ((n : ℕ) → k .answers .signature ≡ Given n → length (k .signature) ≤ signatureLimit) → (n : ℕ) → ¬ (EndedWith (0 ∷ n ∷ []) k)
 
 -- "state, clock and all buffers unchanged"
 pub record Unchanged (state : State) (store : List ℕ) (k : Step) : Type 0 where
@@ -180,8 +181,8 @@ pub record Failed (state : State) (store : List ℕ) (k : Step) : Type 0 where
 
 -- "A reply fills the first bytes of the reply buffer; all its other bytes .. stay."
 pub record Fills (n : ℕ) (k : Step) : Type 0 where
-  pub fits : n ≤ 8265
-  pub room : 8265 ≤ length (k .buffer)
+  pub fits : n ≤ replyRoom
+  pub room : replyRoom ≤ length (k .buffer)
   pub length-stays : length (k .gave .reply) ≡ length (k .buffer)
   pub others-stay : drop n (k .gave .reply) ≡ drop n (k .buffer)
 
@@ -259,7 +260,7 @@ module _ (Met : State → List ℕ → Step → Type 0) where
   -- on any state and store; the two lengths are the arrays'
   abbrev pub CodeRefusals : Type 0
   CodeRefusals =
-      (state : State) (store : List ℕ) (k : Step) → length (state .entries) ≡ 8 → length (state .lock .bytes) ≡ 1024 → Met state store k
+      (state : State) (store : List ℕ) (k : Step) → length (state .entries) ≡ 8 → length (state .lock .bytes) ≡ passphraseLimit → Met state store k
       → RefusalsInOrder state store k
 
   abbrev pub CodeRefusalLeaves : Type 0

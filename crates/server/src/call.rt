@@ -17,11 +17,13 @@ use table::State;
 use table::changes::advance;
 use table::locks::is_locked;
 use table::soundness::is_sound;
+use wire::limits;
 use wire::msg;
 ghost use mathlib.Core.Path.{_≡_};
 ghost use mathlib.Core.List.{List};
 ghost use Prim.Native.Nat.{_≤_};
 ghost use lib.ListN.{length};
+ghost use Rattle.wire.specs.Limits.{signatureLimit, replyRoom};
 ghost use Rattle.rule.specs.Calls.{lentLength, served};
 ghost use Rattle.table.specs.Meaning.{gatewayOf};
 ghost use Rattle.table.specs.Soundness.{Sound};
@@ -83,7 +85,7 @@ fn respond(
     signature: &[u8],
     reply: &mut [u8],
 ) -> Called
-    requires { ⌜ (8265 ≤ length (now reply)) × (lentLength (lentOf answers (now signature) .signature) ≤ 2048) × Sound state (now store) ⌝ }
+    requires { ⌜ (replyRoom ≤ length (now reply)) × (lentLength (lentOf answers (now signature) .signature) ≤ signatureLimit) × Sound state (now store) ⌝ }
     ensures { λ r. ⌜ Ends (now (reply .entry)) r (now (store .exit)) (now (reply .exit)) (served (gatewayOf state (now (store .entry))) (record { payload = now (payload .entry) }) (lentOf answers (now (signature .entry)))) ⌝ }
 {
     if payload.len() == 0 {
@@ -142,14 +144,14 @@ fn call_sound(
     requires { ⌜ Sound state (now store) ⌝ }
     ensures { λ r. ⌜ Meets state (now (store .entry)) (now (payload .entry)) reading answers (now (signature .entry)) (now (reply .entry)) (r .outcome) (r .state) (now (store .exit)) (now (reply .exit)) ⌝ }
 {
-    if reply.len() < 8265 {
+    if reply.len() < limits::REPLY_ROOM {
         return refused(1, state);
     }
-    if 262144 < payload.len() {
+    if limits::PAYLOAD_LIMIT < payload.len() {
         return refused(4, state);
     }
     let given = answers.signature;
-    if 2048 < lent_length(given, signature) {
+    if limits::SIGNATURE_LIMIT < lent_length(given, signature) {
         return refused(5, state);
     }
     let raised = advance(state, store, reading);
@@ -168,10 +170,10 @@ pub fn call(
 ) -> Called
     ensures { λ r. ⌜ Meets state (now (store .entry)) (now (payload .entry)) reading answers (now (signature .entry)) (now (reply .entry)) (r .outcome) (r .state) (now (store .exit)) (now (reply .exit)) ⌝ }
 {
-    if reply.len() < 8265 {
+    if reply.len() < limits::REPLY_ROOM {
         return refused(1, state);
     }
-    if store.len() != 32768 {
+    if store.len() != limits::STORE_SIZE {
         return refused(2, state);
     }
     if !is_sound(state, store) {

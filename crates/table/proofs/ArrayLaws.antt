@@ -5,6 +5,7 @@ use mir.Val.{Val}
 use denote.Laws.{Is}
 use denote.Struct.Laws as struct
 use lib.ListN.{length, length-map}
+use Rattle.wire.specs.Limits.{passphraseLimit}
 use Rattle.table.specs.declared.LockRecord.{LockRecord}
 use Rattle.table.specs.declared.State.{State}
 use Rattle.table.proofs.State as state
@@ -15,8 +16,8 @@ use Rattle.table.proofs.LockRecord.Laws as lock-laws
 pub eight-of : (s : State) (vs : List Val) → Is state.the-row s vs → length (s .entries) ≡ 8
 eight-of s vs is = simp length-map at (struct.owed state.the-type state-laws.the-laws s vs is .0 .1 .0 .1)
 
-pub lock-of : (l : LockRecord) (vs : List Val) → Is lock.the-row l vs → length (l .bytes) ≡ 1024
+pub lock-of : (l : LockRecord) (vs : List Val) → Is lock.the-row l vs → length (l .bytes) ≡ passphraseLimit
 lock-of l vs is = simp length-map at (struct.owed lock.the-type lock-laws.the-laws l vs is .0 .1 .0 .1)
 
-pub record-of : (s : State) (vs : List Val) → Is state.the-row s vs → length (s .lock .bytes) ≡ 1024
+pub record-of : (s : State) (vs : List Val) → Is state.the-row s vs → length (s .lock .bytes) ≡ passphraseLimit
 record-of s vs is = lock-of (s .lock) _ (struct.owed state.the-type state-laws.the-laws s vs is .1 .0)

@@ -12,11 +12,12 @@ use borrow.Rule.Slice.PartMut.{midOf, putMid}
 use lib.Dec.{eqb}
 use lib.ListN.{length, drop, getD, set, replicate, length-drop, length-map, length-set}
 use lib.Seq.{length-take-le}
+use Rattle.wire.specs.Limits.{placeSize, storeSize, blobLimit, fieldsLimit, passphraseLimit, lastNumber}
 use Rattle.wire.specs.Steps.{so}
 use Rattle.keys.specs.declared.constraints.Lifetime.{Lifetime}
 use Rattle.rule.specs.declared.Millis.{Millis}
 use Rattle.rule.specs.Gateway.{Entry as Key, Place, Gateway, dueAt, lasting, atClock, advance, vacate, withLock, without, withoutAll, newEntry, withEntry}
-use Rattle.rule.specs.Soundness.{lastNumber, EveryEntry, SoundEntry, Apart}
+use Rattle.rule.specs.Soundness.{EveryEntry, SoundEntry, Apart}
 use Rattle.rule.specs.Soundness as rule
 use Rattle.rule.proofs.Cases.{so-cases}
 use Rattle.rule.proofs.PlaceLaws.{Holds, every-at, every-imp, set-every, set-distinct, set-none-fewer, freed-fewer, vacate-frees, distinct-at, found-at, absent-differs, Placed, replacing, anew, placed, place-inside}
@@ -53,9 +54,9 @@ pub record New (g : Gateway) (k : Key) : Type 0 where
   pub number : k .number ≡ g .next
   pub reading : k .reading ≡ g .clock
   pub blob-some : 1 ≤ length (k .blob)
-  pub blob-fits : length (k .blob) ≤ 1024
+  pub blob-fits : length (k .blob) ≤ blobLimit
   pub fields-some : 1 ≤ length (k .fields)
-  pub fields-fit : length (k .fields) ≤ 3072
+  pub fields-fit : length (k .fields) ≤ fieldsLimit
 
 sound-put : (g : Gateway) (i : ℕ) (k : Key) → rule.Sound g → New g k → g .next < lastNumber → NoOther i (k .blob) (g .places) → rule.Sound (withEntry i k g)
 sound-put g i k G new left alone =
@@ -101,18 +102,18 @@ place-for-put s x i blob fields S for blob-some blob-fits fields-some fields-fit
 
 -- the part of the store from `from` up to `to` is place i
 pub record Spans (i from to : ℕ) : Type 0 where
-  pub start : from ≡ i * 4096
-  pub span : to - from ≡ 4096
+  pub start : from ≡ i * placeSize
+  pub span : to - from ≡ placeSize
 
 module _ (s : State) (x : List ℕ) (S : Sound s x) (i from to : ℕ) (h : i < 8) (spans : Spans i from to) where
   abbrev g : Gateway
   g = gatewayOf s x
 
-  place-whole : length (midOf from (to - from) x) ≡ 4096
+  place-whole : length (midOf from (to - from) x) ≡ placeSize
   place-whole =
       let l = S .store-size in
-      let room : 4096 ≤ length (drop (i * 4096) x) = rw length-drop (omega arith) in
-      rw (spans .span, spans .start) (length-take-le 4096 (drop (i * 4096) x) room)
+      let room : placeSize ≤ length (drop (i * placeSize) x) = rw length-drop (omega arith) in
+      rw (spans .span, spans .start) (length-take-le placeSize (drop (i * placeSize) x) room)
 
   -- one place is written anew
   changed : (q : Place) (e : Entry) (p : List ℕ) (n : ℕ) → Written e p q → rule.Sound (record { places = set (g .places) i q; lock = g .lock; clock = g .clock; next = n })
@@ -126,7 +127,7 @@ module _ (s : State) (x : List ℕ) (S : Sound s x) (i from to : ℕ) (h : i < 8
       let fit = every-imp (SoundEntry (s .clock .count) (s .next)) Fits (key-fits (s .clock .count) (s .next)) ps (old .keys) in
       let entries : set (s .entries) i e ≡ map entryFor (set ps i q) = (λ j. set (old .entries j) i (w .entry j)) ∙ entries-set ps i q in
       let store : putMid from (to - from) x p ≡ laid (set ps i q) =
-      rw (spans .span, spans .start) ((λ j. putMid (i * 4096) 4096 (old .store j) (w .bytes j)) ∙ laid-set ps fit i q (omega arith)) in
+      rw (spans .span, spans .start) ((λ j. putMid (i * placeSize) placeSize (old .store j) (w .bytes j)) ∙ laid-set ps fit i q (omega arith)) in
       written-means (record { places = set ps i q; lock = gatewayOf s x .lock; clock = s .clock .count; next = n }) _ _ _ G entries (lock-written (s .lock) (S .lock)) store
 
   -- 18: "removed and zeroed"
@@ -157,14 +158,14 @@ cleared s x y es S entries store =
     let g = gatewayOf s x in
     let G = sound-meaning s x S in
     let eight : length (view (s .entries) x) ≡ 8 = G .eight-places in
-    let size : length x ≡ length (view (s .entries) x) * 4096 = let l = S .store-size in omega arith in
+    let size : length x ≡ length (view (s .entries) x) * placeSize = let l = S .store-size in omega arith in
     written-means (withoutAll g) es (s .lock) y
     (sound-fewer g (withoutAll g) (length-map (g .places) vacate) (freed-fewer vacate vacate-frees (g .places)) refl (omega arith) refl G)
     (entries ∙ ap (λ (n : ℕ). replicate n (entryFor none)) (sym eight) ∙ sym (entries-free (view (s .entries) x)))
     (lock-written (s .lock) (S .lock))
     (store ∙ ap (λ (n : ℕ). replicate n 0) size ∙ sym (laid-free (view (s .entries) x)))
 
-pub relocked : (s : State) (x p : List ℕ) (l : LockRecord) → Sound s x → length p ≤ 1024 → l ≡ lockOf p
+pub relocked : (s : State) (x p : List ℕ) (l : LockRecord) → Sound s x → length p ≤ passphraseLimit → l ≡ lockOf p
     → Means (record { entries = s .entries; lock = l; clock = s .clock; next = s .next }) x (withLock p (gatewayOf s x))
 unfolding gatewayOf
 relocked s x p l S h lock =
@@ -281,10 +282,10 @@ written-stands clock next e p q (a-key k is sound) w =
     }
 
 -- a store of eight places
-pub writing-size : (clock next : ℕ) (es : List Entry) (x : List ℕ) (ps : List Place) → Writing clock next es x ps → length ps ≡ 8 → length x ≡ 32768
+pub writing-size : (clock next : ℕ) (es : List Entry) (x : List ℕ) (ps : List Place) → Writing clock next es x ps → length ps ≡ 8 → length x ≡ storeSize
 writing-size clock next es x ps w eight =
     let fit = every-imp (SoundEntry clock next) Fits (key-fits clock next) ps (w .keys) in
-    ap length (w .store) ∙ laid-size ps fit ∙ ap (λ (n : ℕ). n * 4096) eight
+    ap length (w .store) ∙ laid-size ps fit ∙ ap (λ (n : ℕ). n * placeSize) eight
 
 -- one turn of the sweep
 module _ (clock next : ℕ) (ps : List Place) (i from to : ℕ) (es : List Entry) (x : List ℕ) (e₀ : Entry)
@@ -313,7 +314,7 @@ module _ (clock next : ℕ) (ps : List Place) (i from to : ℕ) (es : List Entry
       let step = swept-step clock i ps h in
       record {
         entries = (λ j. set (w .entries j) i (new-is .entry j)) ∙ entries-set (swept clock i ps) i q ∙ ap (map entryFor) step;
-        store = rw (spans .span, spans .start) ((λ j. putMid (i * 4096) 4096 (w .store j) (new-is .bytes j)) ∙ laid-set (swept clock i ps) fit i q (omega arith) ∙ ap laid step);
+        store = rw (spans .span, spans .start) ((λ j. putMid (i * placeSize) placeSize (w .store j) (new-is .bytes j)) ∙ laid-set (swept clock i ps) fit i q (omega arith) ∙ ap laid step);
         keys = swept-every clock (SoundEntry clock next) (i + 1) ps all;
       }
 

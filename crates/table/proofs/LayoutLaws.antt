@@ -8,6 +8,7 @@ use native.Mathlib.Nat.{not-suc-le-zero, le-of-suc-le-suc, zero-mul, suc-mul}
 use borrow.Rule.Slice.PartMut.{putMid}
 use lib.ListN.{length, take, drop, getD, set, replicate, length-append, length-replicate, replicate-append-replicate}
 use lib.Seq.{take-at, drop-at, drop-drop, take-append-add, drop-append-add}
+use Rattle.wire.specs.Limits.{placeSize, blobLimit, fieldsLimit}
 use Rattle.rule.specs.Gateway.{Entry as Key, Place, vacate}
 use Rattle.rule.specs.Soundness.{EveryEntry}
 use Rattle.table.specs.declared.Entry.{Entry}
@@ -16,61 +17,61 @@ use Rattle.table.proofs.ByteLaws.{padded-size}
 
 -- a key whose bytes have room in a place
 pub record Fits (k : Key) : Type 0 where
-  pub blob-fits : length (k .blob) ≤ 1024
-  pub fields-fit : length (k .fields) ≤ 3072
+  pub blob-fits : length (k .blob) ≤ blobLimit
+  pub fields-fit : length (k .fields) ≤ fieldsLimit
 
-held-size : (blob fields : List ℕ) → length blob ≤ 1024 → length fields ≤ 3072 → length (heldBytes blob fields) ≡ 4096
+held-size : (blob fields : List ℕ) → length blob ≤ blobLimit → length fields ≤ fieldsLimit → length (heldBytes blob fields) ≡ placeSize
 unfolding heldBytes
-held-size blob fields h g = rw (length-append, padded-size 1024 blob h, padded-size 3072 fields g)
+held-size blob fields h g = rw (length-append, padded-size blobLimit blob h, padded-size fieldsLimit fields g)
 
-pub free-size : length (bytesFor none) ≡ 4096
+pub free-size : length (bytesFor none) ≡ placeSize
 unfolding bytesFor
-free-size = length-replicate {A = ℕ} 4096 0
+free-size = length-replicate {A = ℕ} placeSize 0
 
-pub key-size : (k : Key) → Fits k → length (bytesFor (some k)) ≡ 4096
+pub key-size : (k : Key) → Fits k → length (bytesFor (some k)) ≡ placeSize
 unfolding bytesFor
 key-size k fits = held-size (k .blob) (k .fields) (fits .blob-fits) (fits .fields-fit)
 
 -- the first place and the rest
 pub record FitsFirst (p : Place) (ps : List Place) : Type 0 where
-  pub first : length (bytesFor p) ≡ 4096
+  pub first : length (bytesFor p) ≡ placeSize
   pub rest : EveryEntry Fits ps
 
 fits-first : (p : Place) (ps : List Place) → EveryEntry Fits (p ∷ ps) → FitsFirst p ps
 fits-first none ps all = record { first = free-size; rest = all }
 fits-first (some k) ps all = record { first = key-size k (all .0); rest = all .1 }
 
-pub laid-size : (ps : List Place) → EveryEntry Fits ps → length (laid ps) ≡ length ps * 4096
+pub laid-size : (ps : List Place) → EveryEntry Fits ps → length (laid ps) ≡ length ps * placeSize
 unfolding laid
-laid-size [] all = sym (zero-mul 4096)
+laid-size [] all = sym (zero-mul placeSize)
 laid-size (p ∷ ps) all =
     let f = fits-first p ps all in
-    rw (length-append, f .first, laid-size ps (f .rest)) (omega (arith, suc-mul (length ps) 4096))
+    rw (length-append, f .first, laid-size ps (f .rest)) (omega (arith, suc-mul (length ps) placeSize))
 
 -- place i + 1 begins one place further on
-next-place : (i : ℕ) → suc i * 4096 ≡ 4096 + i * 4096
-next-place i = omega (arith, suc-mul i 4096)
+next-place : (i : ℕ) → suc i * placeSize ≡ placeSize + i * placeSize
+next-place i = omega (arith, suc-mul i placeSize)
 
-pub laid-at : (ps : List Place) → EveryEntry Fits ps → (i : ℕ) → i < length ps → take 4096 (drop (i * 4096) (laid ps)) ≡ bytesFor (getD ps i none)
+pub laid-at : (ps : List Place) → EveryEntry Fits ps → (i : ℕ) → i < length ps → take placeSize (drop (i * placeSize) (laid ps)) ≡ bytesFor (getD ps i none)
 unfolding laid
 laid-at [] all i h = absurd (not-suc-le-zero h)
-laid-at (p ∷ ps) all zero h = take-at (bytesFor p) (laid ps) 4096 (fits-first p ps all .first)
+laid-at (p ∷ ps) all zero h = take-at (bytesFor p) (laid ps) placeSize (fits-first p ps all .first)
 laid-at (p ∷ ps) all (suc i) h =
     let f = fits-first p ps all in
-    rw (next-place i, ← drop-drop, drop-at (bytesFor p) (laid ps) 4096 (f .first)) (laid-at ps (f .rest) i (le-of-suc-le-suc h))
+    rw (next-place i, ← drop-drop, drop-at (bytesFor p) (laid ps) placeSize (f .first)) (laid-at ps (f .rest) i (le-of-suc-le-suc h))
 
 -- ## A place put back
 
 put-behind : (a s b : List ℕ) (n k w : ℕ) → length a ≡ w → putMid (w + n) k (a ++ s) b ≡ a ++ putMid n k s b
 put-behind a s b n k w l = rw (← l, take-append-add, drop-append-add, append-assoc)
 
-pub laid-set : (ps : List Place) → EveryEntry Fits ps → (i : ℕ) (q : Place) → i < length ps → putMid (i * 4096) 4096 (laid ps) (bytesFor q) ≡ laid (set ps i q)
+pub laid-set : (ps : List Place) → EveryEntry Fits ps → (i : ℕ) (q : Place) → i < length ps → putMid (i * placeSize) placeSize (laid ps) (bytesFor q) ≡ laid (set ps i q)
 unfolding laid
 laid-set [] all i q h = absurd (not-suc-le-zero h)
-laid-set (p ∷ ps) all zero q h = rw (drop-at (bytesFor p) (laid ps) 4096 (fits-first p ps all .first))
+laid-set (p ∷ ps) all zero q h = rw (drop-at (bytesFor p) (laid ps) placeSize (fits-first p ps all .first))
 laid-set (p ∷ ps) all (suc i) q h =
     let f = fits-first p ps all in
-    rw (next-place i, put-behind (bytesFor p) (laid ps) (bytesFor q) (i * 4096) 4096 4096 (f .first))
+    rw (next-place i, put-behind (bytesFor p) (laid ps) (bytesFor q) (i * placeSize) placeSize placeSize (f .first))
     (ap (λ (r : List ℕ). bytesFor p ++ r) (laid-set ps (f .rest) i q (le-of-suc-le-suc h)))
 
 pub entries-set : (ps : List Place) (i : ℕ) (q : Place) → set (map entryFor ps) i (entryFor q) ≡ map entryFor (set ps i q)
@@ -80,11 +81,11 @@ entries-set (p ∷ ps) (suc i) q = ap (λ (es : List Entry). entryFor p ∷ es) 
 
 -- ## All places free
 
-pub laid-free : (ps : List Place) → laid (map vacate ps) ≡ replicate (length ps * 4096) 0
+pub laid-free : (ps : List Place) → laid (map vacate ps) ≡ replicate (length ps * placeSize) 0
 unfolding laid bytesFor
-laid-free [] = ap (λ (n : ℕ). replicate n 0) (sym (zero-mul 4096))
+laid-free [] = ap (λ (n : ℕ). replicate n 0) (sym (zero-mul placeSize))
 laid-free (p ∷ ps) =
-    rw (laid-free ps, next-place (length ps)) (replicate-append-replicate 4096 (length ps * 4096) 0)
+    rw (laid-free ps, next-place (length ps)) (replicate-append-replicate placeSize (length ps * placeSize) 0)
 
 pub entries-free : (ps : List Place) → map entryFor (map vacate ps) ≡ replicate (length ps) (entryFor none)
 entries-free [] = refl

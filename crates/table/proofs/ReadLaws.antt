@@ -9,6 +9,7 @@ use borrow.Author.Tests.{lt-ltb, eq-eqb, ne-eqb, eqb-true}
 use lib.Dec.{eqb, ltb}
 use lib.ListN.{length, take, drop, getD, length-drop}
 use lib.Seq.{length-take-le}
+use Rattle.wire.specs.Limits.{placeSize, storeSize, blobLimit}
 use Rattle.wire.specs.Steps.{so}
 use Rattle.rule.specs.Gateway.{isFree}
 use Rattle.rule.specs.Rule.{numberIn, confirmIn}
@@ -24,17 +25,17 @@ use Rattle.table.proofs.WritingLaws.{Seen, seen-free, seen-held, seen}
 
 -- the bytes of place i
 abbrev pub partAt : List ℕ → ℕ → List ℕ
-partAt x i = take 4096 (drop (i * 4096) x)
+partAt x i = take placeSize (drop (i * placeSize) x)
 
-pub part-size : (x : List ℕ) (i : ℕ) → length x ≡ 32768 → i < 8 → length (partAt x i) ≡ 4096
-part-size x i l h = let room : 4096 ≤ length (drop (i * 4096) x) = rw length-drop (omega arith) in length-take-le 4096 (drop (i * 4096) x) room
+pub part-size : (x : List ℕ) (i : ℕ) → length x ≡ storeSize → i < 8 → length (partAt x i) ≡ placeSize
+part-size x i l h = let room : placeSize ≤ length (drop (i * placeSize) x) = rw length-drop (omega arith) in length-take-le placeSize (drop (i * placeSize) x) room
 
 module _ (es : List Entry) (x : List ℕ) (eight : length es ≡ 8) where
   pub view-length : length (view es x) ≡ 8
   view-length = each-length size placeOf es x ∙ eight
 
-  start : (i : ℕ) → i < 8 → offset size es i ≡ i * 4096
-  start i h = offset-even size 4096 (λ e. refl) es i (omega arith)
+  start : (i : ℕ) → i < 8 → offset size es i ≡ i * placeSize
+  start i h = offset-even size placeSize (λ e. refl) es i (omega arith)
 
   pub view-at : (i : ℕ) → i < 8 → getD (view es x) i none ≡ placeOf (getD es i freeEntry) (partAt x i)
   view-at i h = each-at size placeOf es x i freeEntry none (omega arith) ∙ rw (start i h)
@@ -63,7 +64,7 @@ module _ (e : Entry) (p : List ℕ) where
 
 -- ## What soundness adds
 
-module _ (clock next : ℕ) (e : Entry) (p : List ℕ) (whole : length p ≡ 4096) where
+module _ (clock next : ℕ) (e : Entry) (p : List ℕ) (whole : length p ≡ placeSize) where
   pub sound-confirm : SoundPlace clock next e p → isSet (e .confirm) ≡ confirmIn (placeOf e p)
   unfolding entryFor
   sound-confirm S = by-seen (seen clock next e p whole S)
@@ -80,13 +81,13 @@ module _ (clock next : ℕ) (e : Entry) (p : List ℕ) (whole : length p ≡ 409
       by-seen (seen-free is entry _) = ap (λ (x : Entry). take (x .«blob_len») p) entry ∙ rw is
       by-seen (seen-held is _ _ _) = rw is
 
-sound-blob-fits : (clock next : ℕ) (e : Entry) (p : List ℕ) → SoundPlace clock next e p → e .«blob_len» ≤ 1024
+sound-blob-fits : (clock next : ℕ) (e : Entry) (p : List ℕ) → SoundPlace clock next e p → e .«blob_len» ≤ blobLimit
 sound-blob-fits clock next e p (free f _) = let h : e .«blob_len» ≡ 0 = ap (λ (x : Entry). x .«blob_len») f in omega arith
 sound-blob-fits clock next e p (held s) = s .blob-fits
 
 -- ## Of all places
 
-pub housed-by : (clock next : ℕ) (es : List Entry) (x : List ℕ) → length es ≡ 8 → length x ≡ 32768 → soundPlaces clock next es x ≡ true → Housed es x
+pub housed-by : (clock next : ℕ) (es : List Entry) (x : List ℕ) → length es ≡ 8 → length x ≡ storeSize → soundPlaces clock next es x ≡ true → Housed es x
 unfolding soundPlaces
 housed-by clock next es x eight size-x t =
     let every = each-says size (SoundPlace clock next) (soundPlace clock next) (place-says clock next) es x .0 t in
@@ -102,7 +103,7 @@ module _ (s : State) (x : List ℕ) (S : Sound s x) (i : ℕ) (h : i < 8) where
   unfolding gatewayOf
   state-blob = rw (view-at (s .entries) x (S .eight-entries) i h) (sound-blob _ _ _ _ (part-size x i (S .store-size) h) state-sound-at)
 
-  pub state-blob-fits : getD (s .entries) i freeEntry .«blob_len» ≤ 1024
+  pub state-blob-fits : getD (s .entries) i freeEntry .«blob_len» ≤ blobLimit
   state-blob-fits = sound-blob-fits _ _ _ _ state-sound-at
 
 -- as many elements as are asked for are there, so there are some exactly where some are asked for

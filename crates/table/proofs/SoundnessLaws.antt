@@ -11,6 +11,7 @@ use native.Mathlib.Nat.{not-suc-le-zero, le-of-suc-le-suc, sub-zero, suc-sub-suc
 use borrow.Author.Tests.{eq-eqb, ne-eqb}
 use lib.ListN.{length, take, drop, getD, length-drop, drop-of-length-le}
 use lib.Seq.{take-all, take-nil, drop-drop, drop-cons}
+use Rattle.wire.specs.Limits.{placeSize, blobLimit, fieldsAt, passphraseLimit}
 use Rattle.wire.specs.Read.{same}
 use Rattle.wire.proofs.Steps.{steps}
 use Rattle.rule.specs.Gateway.{Place}
@@ -71,14 +72,14 @@ drop-take (suc n) (suc m) (b ∷ l) h = rw suc-sub-suc (drop-take n m l (le-of-s
 all-behind : (n k : ℕ) (l : List ℕ) → length l ≡ k → take (k - n) (drop n l) ≡ drop n l
 all-behind n k l e = let size : length (drop n l) ≤ k - n = rw length-drop (omega arith) in take-all (k - n) (drop n l) size
 
-pub blob-rest-tested : (v b : Bool) (p : List ℕ) (n : ℕ) → not b ≡ not v → b ≡ allZero (take (1024 - n) (drop n p)) → n ≤ 1024 → v ≡ allZero (drop n (take 1024 p))
-blob-rest-tested v b p n q e h = turned v b _ q (e ∙ ap allZero (drop-take 1024 n p h))
+pub blob-rest-tested : (v b : Bool) (p : List ℕ) (n : ℕ) → not b ≡ not v → b ≡ allZero (take (fieldsAt - n) (drop n p)) → n ≤ blobLimit → v ≡ allZero (drop n (take fieldsAt p))
+blob-rest-tested v b p n q e h = turned v b _ q (e ∙ ap allZero (drop-take fieldsAt n p h))
 
-pub fields-rest-tested : (b : Bool) (p : List ℕ) (m : ℕ) → b ≡ allZero (take (length p - (1024 + m)) (drop (1024 + m) p)) → b ≡ allZero (drop m (drop 1024 p))
-fields-rest-tested b p m e = e ∙ ap allZero (all-behind (1024 + m) (length p) p refl ∙ sym (drop-drop m 1024 p))
+pub fields-rest-tested : (b : Bool) (p : List ℕ) (m : ℕ) → b ≡ allZero (take (length p - (fieldsAt + m)) (drop (fieldsAt + m) p)) → b ≡ allZero (drop m (drop fieldsAt p))
+fields-rest-tested b p m e = e ∙ ap allZero (all-behind (fieldsAt + m) (length p) p refl ∙ sym (drop-drop m fieldsAt p))
 
-pub lock-rest-tested : (b : Bool) (p : List ℕ) (n : ℕ) → length p ≡ 1024 → b ≡ allZero (take (1024 - n) (drop n p)) → b ≡ allZero (drop n p)
-lock-rest-tested b p n long e = e ∙ ap allZero (all-behind n 1024 p long)
+pub lock-rest-tested : (b : Bool) (p : List ℕ) (n : ℕ) → length p ≡ passphraseLimit → b ≡ allZero (take (passphraseLimit - n) (drop n p)) → b ≡ allZero (drop n p)
+lock-rest-tested b p n long e = e ∙ ap allZero (all-behind n passphraseLimit p long)
 
 pub ruleset tests = (steps, and-yes, and-no, or-yes, or-no, flag-tested, flags-tested, lifetime-tested, lock-tested, places-tested, blob-rest-tested, fields-rest-tested, lock-rest-tested)
 
@@ -120,7 +121,7 @@ module _ (clock next : ℕ) (es : List Entry) (x : List ℕ) (eight : length es 
 
   module _ (i : ℕ) (p : List ℕ) (b : Bool) (i-in : i < 8) (p-is : p ≡ partAt x i) (e : b ≡ soundPlace clock next (getD es i freeEntry) p) where
     test-at : b ≡ getD (each (soundPlace clock next) size es x) i true
-    test-at = e ∙ rw (p-is, each-at size (soundPlace clock next) es x i freeEntry true (omega arith), offset-even size 4096 (λ _. refl) es i (omega arith))
+    test-at = e ∙ rw (p-is, each-at size (soundPlace clock next) es x i freeEntry true (omega arith), offset-even size placeSize (λ _. refl) es i (omega arith))
 
     pub place-on : not b ≡ false → PlacesLeft clock next es x i → PlacesLeft clock next es x (i + 1)
     place-on t = walk-on all (λ t _. t) all-none all-goes true _ _ i b (rw eight-tests i-in) t test-at
@@ -192,7 +193,7 @@ module _ (es : List Entry) (x : List ℕ) (housed : Housed es x) where
 
   pub blob-inside : (i : ℕ) (p : List ℕ) → i < 8 → p ≡ partAt x i → getD es i freeEntry .«blob_len» ≤ length p
   blob-inside i p h p-is =
-      let whole : length p ≡ 4096 = rw p-is (part-size x i (housed .store-size) h) in
+      let whole : length p ≡ placeSize = rw p-is (part-size x i (housed .store-size) h) in
       let fits = housed .blobs-fit i h in
       omega arith
 

@@ -7,9 +7,9 @@ use native.Mathlib.Omega.{arith}
 use borrow.Author.Tests.{eqb-true, eqb-false, eq-eqb}
 use lib.Dec.{eqb}
 use lib.ListN.{length, take, drop}
+use Rattle.wire.specs.Limits.{storeSize, blobLimit, fieldsLimit, fieldsAt, passphraseLimit, lastNumber}
 use Rattle.wire.specs.Steps.{so}
 use Rattle.rule.proofs.SoundLaws.{Says, both-say, le-says, lt-says, eq-says, within-says, distinct-says}
-use Rattle.rule.specs.Soundness.{lastNumber}
 use Rattle.table.specs.declared.Entry.{Entry}
 use Rattle.table.specs.declared.LockRecord.{LockRecord}
 use Rattle.table.specs.Bytes.{Zeros}
@@ -84,9 +84,9 @@ held-says clock next e p number =
     (both-say _ _ _ _ (le-says (e .reading .count) clock)
     (both-say _ _ _ _ (flags-say e)
     (both-say _ _ _ _ (lifetime-says e)
-    (both-say _ _ _ _ (within-says 1 1024 (e .«blob_len»))
-    (both-say _ _ _ _ (within-says 1 3072 (e .«fields_len»))
-    (both-say _ _ _ _ (zeros-say (drop (e .«blob_len») (take 1024 p))) (zeros-say (drop (e .«fields_len») (drop 1024 p))))))))) in (
+    (both-say _ _ _ _ (within-says 1 blobLimit (e .«blob_len»))
+    (both-say _ _ _ _ (within-says 1 fieldsLimit (e .«fields_len»))
+    (both-say _ _ _ _ (zeros-say (drop (e .«blob_len») (take fieldsAt p))) (zeros-say (drop (e .«fields_len») (drop fieldsAt p))))))))) in (
       (λ t.
           let (taken, (reading, (flags, (seconds, (blob, (fields, (blob-rest, fields-rest))))))) = tests .0 t in
           record {
@@ -129,10 +129,10 @@ place-says clock next e p = by-number (eqb (e .number) 0) refl
         says-held says (free f z) = absurd (eqb-false (e .number) 0 b (number-of f))
         says-held says (held s) = says .1 s
 
-lock-says : (l : LockRecord) → length (l .bytes) ≡ 1024 → Says (soundLock l) (SoundLock l)
+lock-says : (l : LockRecord) → length (l .bytes) ≡ passphraseLimit → Says (soundLock l) (SoundLock l)
 unfolding soundLock
 lock-says l long =
-    let tests = both-say _ _ _ _ (le-says (l .len) 1024) (zeros-say (drop (l .len) (l .bytes))) in (
+    let tests = both-say _ _ _ _ (le-says (l .len) passphraseLimit) (zeros-say (drop (l .len) (l .bytes))) in (
       (λ t. let (fits, rest) = tests .0 t in record { record-size = long; lock-fits = fits; lock-rest = rest }),
       (λ s. tests .1 (s .lock-fits, s .lock-rest)),
     )
@@ -141,7 +141,7 @@ pub sound-state-rule : SoundStateRule
 unfolding soundState soundPlaces
 sound-state-rule s x eight long =
     let tests =
-    both-say _ _ _ _ (eq-says (length x) 32768)
+    both-say _ _ _ _ (eq-says (length x) storeSize)
     (both-say _ _ _ _ (within-says 1 lastNumber (s .next))
     (both-say _ _ _ _ (lock-says (s .lock) long)
     (both-say _ _ _ _ (each-says size _ _ (place-says (s .clock .count) (s .next)) (s .entries) x) (distinct-says (view (s .entries) x))))) in (

@@ -10,6 +10,7 @@ use native.Mathlib.Nat.{zero-mul, suc-mul}
 use borrow.Author.Tests.{ne-eqb}
 use lib.ListN.{length, take, drop, replicate, length-drop, length-map, length-take, length-replicate, take-append-drop}
 use lib.Seq.{length-take-le, take-take, take-at, drop-at, take-append-le}
+use Rattle.wire.specs.Limits.{placeSize, storeSize, blobLimit, fieldsLimit, fieldsAt, passphraseLimit}
 use Rattle.wire.specs.Steps.{so}
 use Rattle.keys.specs.declared.constraints.Lifetime.{Lifetime}
 use Rattle.keys.specs.declared.constraints.Lifetime.the-variants.{Forever, For}
@@ -56,21 +57,21 @@ pub data Seen (clock next : ℕ) (e : Entry) (p : List ℕ) : Type 0 where
   seen-free : placeOf e p ≡ none → e ≡ entryFor none → p ≡ bytesFor none → Seen clock next e p
   seen-held : placeOf e p ≡ some (keyOf e p) → e ≡ entryFor (some (keyOf e p)) → p ≡ bytesFor (some (keyOf e p)) → SoundEntry clock next (keyOf e p) → Seen clock next e p
 
-module _ (clock next : ℕ) (e : Entry) (p : List ℕ) (whole : length p ≡ 4096) where
+module _ (clock next : ℕ) (e : Entry) (p : List ℕ) (whole : length p ≡ placeSize) where
   pub seen : SoundPlace clock next e p → Seen clock next e p
   unfolding placeOf entryFor bytesFor heldEntry heldBytes so
   seen (free f z) = seen-free (rw f) f (z ∙ ap (λ (n : ℕ). replicate n 0) whole)
   seen (held s) =
       let number : e .number ≡ 0 → ⊥ = λ (n : e .number ≡ 0). let h = s .number-first in omega arith in
       let blob-size : length (take (e .«blob_len») p) ≡ e .«blob_len» = let h = s .blob-fits in length-take-le _ p (omega arith) in
-      let front : length (take 1024 p) ≡ 1024 = length-take-le 1024 p (omega arith) in
-      let back : length (drop 1024 p) ≡ 3072 = rw (length-drop, whole) in
-      let fields-size : length (take (e .«fields_len») (drop 1024 p)) ≡ e .«fields_len» = let h = s .fields-fit in length-take-le _ (drop 1024 p) (omega arith) in
+      let front : length (take fieldsAt p) ≡ fieldsAt = length-take-le fieldsAt p (omega arith) in
+      let back : length (drop fieldsAt p) ≡ fieldsLimit = rw (length-drop, whole) in
+      let fields-size : length (take (e .«fields_len») (drop fieldsAt p)) ≡ e .«fields_len» = let h = s .fields-fit in length-take-le _ (drop fieldsAt p) (omega arith) in
       let lifetime = lifetime-kept e (s .limited-flag) (s .no-seconds) in
       let confirm = flag-kept (e .confirm) (s .confirm-flag) in
-      let blob : take 1024 p ≡ padded 1024 (take (e .«blob_len») p) =
-      zeros-padded 1024 (e .«blob_len») (take 1024 p) front (s .blob-fits) (s .blob-rest) ∙ ap (padded 1024) (take-take (e .«blob_len») 1024 p (s .blob-fits)) in
-      let fields : drop 1024 p ≡ padded 3072 (take (e .«fields_len») (drop 1024 p)) = zeros-padded 3072 (e .«fields_len») (drop 1024 p) back (s .fields-fit) (s .fields-rest) in
+      let blob : take fieldsAt p ≡ padded blobLimit (take (e .«blob_len») p) =
+      zeros-padded blobLimit (e .«blob_len») (take fieldsAt p) front (s .blob-fits) (s .blob-rest) ∙ ap (padded blobLimit) (take-take (e .«blob_len») fieldsAt p (s .blob-fits)) in
+      let fields : drop fieldsAt p ≡ padded fieldsLimit (take (e .«fields_len») (drop fieldsAt p)) = zeros-padded fieldsLimit (e .«fields_len») (drop fieldsAt p) back (s .fields-fit) (s .fields-rest) in
       seen-held
       (rw (ne-eqb (e .number) 0 number))
       (λ j. record {
@@ -82,7 +83,7 @@ module _ (clock next : ℕ) (e : Entry) (p : List ℕ) (whole : length p ≡ 409
         «blob_len» = sym blob-size j;
         «fields_len» = sym fields-size j;
       })
-      (sym (take-append-drop 1024 p) ∙ (λ j. blob j ++ fields j))
+      (sym (take-append-drop fieldsAt p) ∙ (λ j. blob j ++ fields j))
       (record {
         blob-some = rw blob-size (s .blob-some);
         blob-fits = rw blob-size (s .blob-fits);
@@ -109,16 +110,16 @@ module _ (clock next : ℕ) where
   writing-first e p es x ps (seen-held is entry bytes key) w =
       rw is (record { entries = (λ j. entry j ∷ w .entries j); store = (λ j. bytes j ++ w .store j); keys = (key, w .keys) })
 
-  writing : (es : List Entry) (x : List ℕ) → length es * 4096 ≡ length x → Each (SoundPlace clock next) size es x → Writing clock next es x (view es x)
+  writing : (es : List Entry) (x : List ℕ) → length es * placeSize ≡ length x → Each (SoundPlace clock next) size es x → Writing clock next es x (view es x)
   unfolding each laid
   writing [] [] l all = record { entries = refl; store = refl; keys = tt }
-  writing [] (b ∷ x) l all = absurd (omega (arith, zero-mul 4096))
+  writing [] (b ∷ x) l all = absurd (omega (arith, zero-mul placeSize))
   writing (e ∷ es) x l all =
-      let n : length es * 4096 + 4096 ≡ length x = sym (suc-mul (length es) 4096) ∙ l in
-      let whole : length (take 4096 x) ≡ 4096 = length-take-le 4096 x (omega arith) in
-      let rest : length es * 4096 ≡ length (drop 4096 x) = rw length-drop (omega arith) in
-      let first = seen clock next e (take 4096 x) whole (all .0) in
-      let w = writing-first e (take 4096 x) es (drop 4096 x) (view es (drop 4096 x)) first (writing es (drop 4096 x) rest (all .1)) in
+      let n : length es * placeSize + placeSize ≡ length x = sym (suc-mul (length es) placeSize) ∙ l in
+      let whole : length (take placeSize x) ≡ placeSize = length-take-le placeSize x (omega arith) in
+      let rest : length es * placeSize ≡ length (drop placeSize x) = rw length-drop (omega arith) in
+      let first = seen clock next e (take placeSize x) whole (all .0) in
+      let w = writing-first e (take placeSize x) es (drop placeSize x) (view es (drop placeSize x)) first (writing es (drop placeSize x) rest (all .1)) in
       rw take-append-drop at w
 
 pub sound-writing : (s : State) (x : List ℕ) → Sound s x → Writing (s .clock .count) (s .next) (s .entries) x (view (s .entries) x)
@@ -142,7 +143,7 @@ pub lock-written : (l : LockRecord) → SoundLock l → l ≡ lockOf (passphrase
 unfolding lockOf
 lock-written l L =
     let n : length (take (l .len) (l .bytes)) ≡ l .len = let h = L .lock-fits in let g = L .record-size in length-take-le (l .len) (l .bytes) (omega arith) in
-    let bytes = zeros-padded 1024 (l .len) (l .bytes) (L .record-size) (L .lock-fits) (L .lock-rest) in
+    let bytes = zeros-padded passphraseLimit (l .len) (l .bytes) (L .record-size) (L .lock-fits) (L .lock-rest) in
     λ j. record { bytes = bytes j; len = sym n j }
 
 pub sound-canonical : SoundCanonical
@@ -181,25 +182,25 @@ pub key-fits : (clock next : ℕ) (k : Key) → SoundEntry clock next k → Fits
 key-fits clock next k s = record { blob-fits = s .blob-fits; fields-fit = s .fields-fit }
 
 module _ (clock next : ℕ) (k : Key) (s : SoundEntry clock next k) where
-  blob-padded : length (padded 1024 (k .blob)) ≡ 1024
-  blob-padded = padded-size 1024 (k .blob) (s .blob-fits)
+  blob-padded : length (padded blobLimit (k .blob)) ≡ blobLimit
+  blob-padded = padded-size blobLimit (k .blob) (s .blob-fits)
 
-  blob-part : take 1024 (heldBytes (k .blob) (k .fields)) ≡ padded 1024 (k .blob)
+  blob-part : take fieldsAt (heldBytes (k .blob) (k .fields)) ≡ padded blobLimit (k .blob)
   unfolding heldBytes
-  blob-part = take-at (padded 1024 (k .blob)) (padded 3072 (k .fields)) 1024 blob-padded
+  blob-part = take-at (padded blobLimit (k .blob)) (padded fieldsLimit (k .fields)) fieldsAt blob-padded
 
-  fields-part : drop 1024 (heldBytes (k .blob) (k .fields)) ≡ padded 3072 (k .fields)
+  fields-part : drop fieldsAt (heldBytes (k .blob) (k .fields)) ≡ padded fieldsLimit (k .fields)
   unfolding heldBytes
-  fields-part = drop-at (padded 1024 (k .blob)) (padded 3072 (k .fields)) 1024 blob-padded
+  fields-part = drop-at (padded blobLimit (k .blob)) (padded fieldsLimit (k .fields)) fieldsAt blob-padded
 
   blob-back : take (length (k .blob)) (heldBytes (k .blob) (k .fields)) ≡ k .blob
   unfolding heldBytes
   blob-back =
-      let h : length (k .blob) ≤ length (padded 1024 (k .blob)) = rw blob-padded (s .blob-fits) in
-      take-append-le (length (k .blob)) (padded 1024 (k .blob)) (padded 3072 (k .fields)) h ∙ padded-front 1024 (k .blob)
+      let h : length (k .blob) ≤ length (padded blobLimit (k .blob)) = rw blob-padded (s .blob-fits) in
+      take-append-le (length (k .blob)) (padded blobLimit (k .blob)) (padded fieldsLimit (k .fields)) h ∙ padded-front blobLimit (k .blob)
 
-  fields-back : take (length (k .fields)) (drop 1024 (heldBytes (k .blob) (k .fields))) ≡ k .fields
-  fields-back = rw fields-part (padded-front 3072 (k .fields))
+  fields-back : take (length (k .fields)) (drop fieldsAt (heldBytes (k .blob) (k .fields))) ≡ k .fields
+  fields-back = rw fields-part (padded-front fieldsLimit (k .fields))
 
   pub key-back : placeOf (entryFor (some k)) (bytesFor (some k)) ≡ some k
   unfolding placeOf entryFor bytesFor heldEntry so
@@ -220,8 +221,8 @@ module _ (clock next : ℕ) (k : Key) (s : SoundEntry clock next k) where
     blob-fits = s .blob-fits;
     fields-some = s .fields-some;
     fields-fit = s .fields-fit;
-    blob-rest = rw blob-part (padded-rest 1024 (k .blob));
-    fields-rest = rw fields-part (padded-rest 3072 (k .fields));
+    blob-rest = rw blob-part (padded-rest blobLimit (k .blob));
+    fields-rest = rw fields-part (padded-rest fieldsLimit (k .fields));
   })
     where
       no-seconds : (l : Lifetime) → isSet (limitedFlag l) ≡ false → keptSeconds l .count ≡ 0
@@ -234,35 +235,35 @@ free-back = refl
 
 free-sound : (clock next : ℕ) → SoundPlace clock next (entryFor none) (bytesFor none)
 unfolding entryFor bytesFor
-free-sound clock next = free refl (ap (λ (n : ℕ). replicate n 0) (sym (length-replicate {A = ℕ} 4096 0)))
+free-sound clock next = free refl (ap (λ (n : ℕ). replicate n 0) (sym (length-replicate {A = ℕ} placeSize 0)))
 
 module _ (clock next : ℕ) where
   view-back : (ps : List Place) → EveryEntry (SoundEntry clock next) ps → view (map entryFor ps) (laid ps) ≡ ps
   unfolding each laid
   view-back [] all = refl
-  view-back (none ∷ ps) all = rw (take-at (bytesFor none) (laid ps) 4096 free-size, drop-at (bytesFor none) (laid ps) 4096 free-size, view-back ps all, free-back)
+  view-back (none ∷ ps) all = rw (take-at (bytesFor none) (laid ps) placeSize free-size, drop-at (bytesFor none) (laid ps) placeSize free-size, view-back ps all, free-back)
   view-back (some k ∷ ps) all =
       let l = key-size k (key-fits clock next k (all .0)) in
-      rw (take-at (bytesFor (some k)) (laid ps) 4096 l, drop-at (bytesFor (some k)) (laid ps) 4096 l, view-back ps (all .1), key-back clock next k (all .0))
+      rw (take-at (bytesFor (some k)) (laid ps) placeSize l, drop-at (bytesFor (some k)) (laid ps) placeSize l, view-back ps (all .1), key-back clock next k (all .0))
 
   each-back : (ps : List Place) → EveryEntry (SoundEntry clock next) ps → Each (SoundPlace clock next) size (map entryFor ps) (laid ps)
   unfolding laid
   each-back [] all = tt
-  each-back (none ∷ ps) all = rw (take-at (bytesFor none) (laid ps) 4096 free-size, drop-at (bytesFor none) (laid ps) 4096 free-size) (free-sound clock next, each-back ps all)
+  each-back (none ∷ ps) all = rw (take-at (bytesFor none) (laid ps) placeSize free-size, drop-at (bytesFor none) (laid ps) placeSize free-size) (free-sound clock next, each-back ps all)
   each-back (some k ∷ ps) all =
       let l = key-size k (key-fits clock next k (all .0)) in
-      rw (take-at (bytesFor (some k)) (laid ps) 4096 l, drop-at (bytesFor (some k)) (laid ps) 4096 l) (key-sound clock next k (all .0), each-back ps (all .1))
+      rw (take-at (bytesFor (some k)) (laid ps) placeSize l, drop-at (bytesFor (some k)) (laid ps) placeSize l) (key-sound clock next k (all .0), each-back ps (all .1))
 
 keys-fit : (g : Gateway) → rule.Sound g → EveryEntry Fits (g .places)
 keys-fit g G = every-imp (SoundEntry (g .clock) (g .next)) Fits (key-fits (g .clock) (g .next)) (g .places) (G .entries)
 
-lock-sound : (p : List ℕ) → length p ≤ 1024 → SoundLock (lockOf p)
+lock-sound : (p : List ℕ) → length p ≤ passphraseLimit → SoundLock (lockOf p)
 unfolding lockOf
-lock-sound p h = record { record-size = padded-size 1024 p h; lock-fits = h; lock-rest = padded-rest 1024 p }
+lock-sound p h = record { record-size = padded-size passphraseLimit p h; lock-fits = h; lock-rest = padded-rest passphraseLimit p }
 
 lock-back : (p : List ℕ) → passphrase (lockOf p) ≡ p
 unfolding lockOf
-lock-back p = padded-front 1024 p
+lock-back p = padded-front passphraseLimit p
 
 pub every-gateway : EveryGateway
 unfolding gatewayOf stateOf layout
@@ -272,7 +273,7 @@ every-gateway g G =
       gateway = λ j. record { places = view-is j; lock = lock-back (g .lock) j; clock = g .clock; next = g .next };
       sound = record {
         eight-entries = length-map (g .places) entryFor ∙ G .eight-places;
-        store-size = laid-size (g .places) (keys-fit g G) ∙ ap (λ (n : ℕ). n * 4096) (G .eight-places);
+        store-size = laid-size (g .places) (keys-fit g G) ∙ ap (λ (n : ℕ). n * placeSize) (G .eight-places);
         next-first = G .next-first;
         next-last = G .next-last;
         lock = lock-sound (g .lock) (G .lock-fits);
@@ -287,4 +288,4 @@ means-of s x g G a b = rw (a, b) (every-gateway g G)
 
 pub fresh-means : FreshMeans
 unfolding layout
-fresh-means = means-of (stateOf fresh) (replicate 32768 0) fresh fresh-sound refl (sym (laid-free (replicate 8 none)))
+fresh-means = means-of (stateOf fresh) (replicate storeSize 0) fresh fresh-sound refl (sym (laid-free (replicate 8 none)))

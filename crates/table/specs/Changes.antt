@@ -5,8 +5,8 @@ use mathlib.Core.Logic.{_≢_}
 use mathlib.Core.Option.{none, some}
 use mathlib.Core.List.{List}
 use lib.ListN.{length, getD}
+use Rattle.wire.specs.Limits.{placeSize, blobLimit, fieldsLimit, lastNumber}
 use Rattle.rule.specs.Gateway.{Entry as Key, Place}
-use Rattle.rule.specs.Soundness.{lastNumber}
 use Rattle.table.specs.declared.Entry.{Entry}
 use Rattle.table.specs.declared.State.{State}
 use Rattle.table.specs.Meaning.{placeOf, gatewayOf, Written}
@@ -14,7 +14,7 @@ use Rattle.table.specs.Soundness.{Sound}
 
 -- an entry and the bytes of its place, as a sound state and store have them
 pub record Standing (clock : ℕ) (e : Entry) (p : List ℕ) : Type 0 where
-  pub whole : length p ≡ 4096
+  pub whole : length p ≡ placeSize
   pub reading-past : e .reading .count ≤ clock
   pub written : Written e p (placeOf e p)
 
@@ -27,7 +27,7 @@ pub record MayPut (s : State) (x : List ℕ) (i : ℕ) (blob fields : List ℕ) 
   pub place : i < 8
   pub numbers-left : s .next < lastNumber
   pub blob-some : 1 ≤ length blob
-  pub blob-fits : length blob ≤ 1024
+  pub blob-fits : length blob ≤ blobLimit
   pub fields-some : 1 ≤ length fields
-  pub fields-fit : length fields ≤ 3072
+  pub fields-fit : length fields ≤ fieldsLimit
   pub alone : NoOther i blob (gatewayOf s x .places)

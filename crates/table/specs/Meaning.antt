@@ -6,6 +6,7 @@ use mathlib.Core.Option.{none, some}
 use mathlib.Core.List.{List, [], _∷_, _++_, map}
 use lib.ListN.{length, take, drop, replicate}
 use lib.Dec.{eqb}
+use Rattle.wire.specs.Limits.{placeSize, blobLimit, fieldsLimit, fieldsAt, passphraseLimit}
 use Rattle.wire.specs.declared.Seconds.{Seconds}
 use Rattle.wire.specs.Steps.{so}
 use Rattle.keys.specs.declared.constraints.Lifetime.{Lifetime}
@@ -20,7 +21,7 @@ use Rattle.table.specs.Each.{each}
 
 -- "Eight places, 4,096 bytes each in the store"
 abbrev pub size : Entry → ℕ
-size e = 4096
+size e = placeSize
 
 -- ## What is meant
 
@@ -40,7 +41,7 @@ keyOf e p = record {
   lifetime = lifetimeOf e;
   confirm = isSet (e .confirm);
   blob = take (e .«blob_len») p;
-  fields = take (e .«fields_len») (drop 1024 p);
+  fields = take (e .«fields_len») (drop fieldsAt p);
 }
 
 -- an entry and the bytes of its place; the number 0 is no key's
@@ -101,14 +102,14 @@ heldEntry number reading lifetime confirm blobLen fieldsLen = record {
 
 -- "unused bytes are zero"
 unfoldable pub heldBytes : List ℕ → List ℕ → List ℕ
-heldBytes blob fields = padded 1024 blob ++ padded 3072 fields
+heldBytes blob fields = padded blobLimit blob ++ padded fieldsLimit fields
 
 unfoldable pub entryFor : Place → Entry
 entryFor none = freeEntry
 entryFor (some k) = heldEntry (k .number) (record { count = k .reading }) (k .lifetime) (k .confirm) (length (k .blob)) (length (k .fields))
 
 unfoldable pub bytesFor : Place → List ℕ
-bytesFor none = replicate 4096 0
+bytesFor none = replicate placeSize 0
 bytesFor (some k) = heldBytes (k .blob) (k .fields)
 
 -- an entry and its bytes, written as this place is
@@ -122,7 +123,7 @@ laid (p ∷ ps) = bytesFor p ++ laid ps
 
 -- "at most 1,024 bytes, the rest zero"
 unfoldable pub lockOf : List ℕ → LockRecord
-lockOf p = record { bytes = padded 1024 p; len = length p }
+lockOf p = record { bytes = padded passphraseLimit p; len = length p }
 
 unfoldable pub stateOf : Gateway → State
 stateOf g = record { entries = map entryFor (g .places); lock = lockOf (g .lock); clock = record { count = g .clock }; next = g .next }

@@ -6,13 +6,13 @@ use mathlib.Core.List.{List}
 use mathlib.Core.Logic.{_↔_, _⊎_, _≢_}
 use mathlib.Core.Option.{Option, none, some}
 use lib.ListN.{length, getD, replicate}
+use Rattle.wire.specs.Limits.{storeSize, blobLimit, fieldsLimit, passphraseLimit, lastNumber}
 use Rattle.wire.specs.Promises.{OneToOne}
 use Rattle.keys.specs.declared.constraints.Lifetime.the-variants.{Forever, For}
 use Rattle.rule.specs.declared.Found.{Found}
 use Rattle.rule.specs.Gateway.{Entry as Key, Place, Gateway, fresh, seek, holds, placeFor}
 use Rattle.rule.specs.Searches.{foundPlace}
 use Rattle.rule.specs.Soundness as rule
-use Rattle.rule.specs.Soundness.{lastNumber}
 use Rattle.table.specs.declared.Entry.{Entry}
 use Rattle.table.specs.declared.State.{State}
 use Rattle.table.specs.Meaning.{keyOf, gatewayOf, stateOf, layout}
@@ -21,7 +21,7 @@ use Rattle.table.specs.Changes.{MayPut}
 
 -- the test says the facts; the two lengths are the arrays'
 abbrev pub SoundStateRule : Type 0
-SoundStateRule = (s : State) (x : List ℕ) → length (s .entries) ≡ 8 → length (s .lock .bytes) ≡ 1024 → (soundState s x ≡ true) ↔ Sound s x
+SoundStateRule = (s : State) (x : List ℕ) → length (s .entries) ≡ 8 → length (s .lock .bytes) ≡ passphraseLimit → (soundState s x ≡ true) ↔ Sound s x
 
 -- what an entry's flags say: 1 is yes, 0 is no
 pub record FlagsSay (e : Entry) (p : List ℕ) : Type 0 where
@@ -55,7 +55,7 @@ EveryGateway = (g : Gateway) → rule.Sound g → Means (stateOf g) (layout g) g
 
 -- "Fresh: all zero, next insertion number 1."
 abbrev pub FreshMeans : Type 0
-FreshMeans = Means (stateOf fresh) (replicate 32768 0) fresh
+FreshMeans = Means (stateOf fresh) (replicate storeSize 0) fresh
 
 -- ## Searches
 
@@ -83,5 +83,5 @@ PlaceForRule =
 abbrev pub PlaceForPut : Type 0
 PlaceForPut =
     (s : State) (x : List ℕ) (i : ℕ) (blob fields : List ℕ) → Sound s x → foundPlace (placeFor blob (gatewayOf s x .places)) ≡ some i
-    → 1 ≤ length blob → length blob ≤ 1024 → 1 ≤ length fields → length fields ≤ 3072 → gatewayOf s x .next < lastNumber
+    → 1 ≤ length blob → length blob ≤ blobLimit → 1 ≤ length fields → length fields ≤ fieldsLimit → gatewayOf s x .next < lastNumber
     → MayPut s x i blob fields

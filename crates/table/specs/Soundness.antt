@@ -6,10 +6,11 @@ use mathlib.Core.Option.{none, some}
 use mathlib.Core.List.{List, [], _∷_}
 use lib.ListN.{length, getD, take, drop}
 use lib.Dec.{leb, ltb, eqb}
+use Rattle.wire.specs.Limits.{storeSize, blobLimit, fieldsLimit, fieldsAt, passphraseLimit, lastNumber}
 use Rattle.wire.specs.Numbers.{within}
 use Rattle.wire.specs.Steps.{so}
 use Rattle.rule.specs.Gateway.{Place, Gateway}
-use Rattle.rule.specs.Soundness.{lastNumber, everyEntry, apart, distinct, Distinct}
+use Rattle.rule.specs.Soundness.{everyEntry, apart, distinct, Distinct}
 use Rattle.table.specs.declared.Entry.{Entry}
 use Rattle.table.specs.declared.LockRecord.{LockRecord}
 use Rattle.table.specs.declared.State.{State}
@@ -49,10 +50,10 @@ soundHeld clock next e p =
     && (leb (e .reading .count) clock
     && (soundFlags e
     && (soundLifetime e
-    && (within 1 1024 (e .«blob_len»)
-    && (within 1 3072 (e .«fields_len»)
-    && (allZero (drop (e .«blob_len») (take 1024 p))
-    && allZero (drop (e .«fields_len») (drop 1024 p))))))))
+    && (within 1 blobLimit (e .«blob_len»)
+    && (within 1 fieldsLimit (e .«fields_len»)
+    && (allZero (drop (e .«blob_len») (take fieldsAt p))
+    && allZero (drop (e .«fields_len») (drop fieldsAt p))))))))
 
 unfoldable pub soundPlace : ℕ → ℕ → Entry → List ℕ → Bool
 soundPlace clock next e p = so (soundHeld clock next e p) (eqb (e .number) 0) (soundFree e p)
@@ -66,7 +67,7 @@ soundPlaces clock next es x = all (each (soundPlace clock next) size es x)
 
 -- "The passphrase is kept with its length, at most 1,024 bytes, the rest zero."
 unfoldable pub soundLock : LockRecord → Bool
-soundLock l = leb (l .len) 1024 && allZero (drop (l .len) (l .bytes))
+soundLock l = leb (l .len) passphraseLimit && allZero (drop (l .len) (l .bytes))
 
 -- the blob and the number of a place are no other's
 unfoldable pub unlike : Place → List Place → Bool
@@ -75,7 +76,7 @@ unlike (some e) ps = everyEntry (apart e) ps
 
 unfoldable pub soundState : State → List ℕ → Bool
 soundState s x =
-    eqb (length x) 32768
+    eqb (length x) storeSize
     && (within 1 lastNumber (s .next)
     && (soundLock (s .lock)
     && (soundPlaces (s .clock .count) (s .next) (s .entries) x
@@ -94,24 +95,24 @@ pub record SoundHeld (clock next : ℕ) (e : Entry) (p : List ℕ) : Type 0 wher
   pub confirm-flag : Flag (e .confirm)
   pub no-seconds : isSet (e .limited) ≡ false → e .seconds .count ≡ 0
   pub blob-some : 1 ≤ e .«blob_len»
-  pub blob-fits : e .«blob_len» ≤ 1024
+  pub blob-fits : e .«blob_len» ≤ blobLimit
   pub fields-some : 1 ≤ e .«fields_len»
-  pub fields-fit : e .«fields_len» ≤ 3072
-  pub blob-rest : Zeros (drop (e .«blob_len») (take 1024 p))
-  pub fields-rest : Zeros (drop (e .«fields_len») (drop 1024 p))
+  pub fields-fit : e .«fields_len» ≤ fieldsLimit
+  pub blob-rest : Zeros (drop (e .«blob_len») (take fieldsAt p))
+  pub fields-rest : Zeros (drop (e .«fields_len») (drop fieldsAt p))
 
 pub data SoundPlace (clock next : ℕ) (e : Entry) (p : List ℕ) : Type 0 where
   free : e ≡ freeEntry → Zeros p → SoundPlace clock next e p
   held : SoundHeld clock next e p → SoundPlace clock next e p
 
 pub record SoundLock (l : LockRecord) : Type 0 where
-  pub record-size : length (l .bytes) ≡ 1024
-  pub lock-fits : l .len ≤ 1024
+  pub record-size : length (l .bytes) ≡ passphraseLimit
+  pub lock-fits : l .len ≤ passphraseLimit
   pub lock-rest : Zeros (drop (l .len) (l .bytes))
 
 pub record Sound (s : State) (x : List ℕ) : Type 0 where
   pub eight-entries : length (s .entries) ≡ 8
-  pub store-size : length x ≡ 32768
+  pub store-size : length x ≡ storeSize
   pub next-first : 1 ≤ s .next
   pub next-last : s .next ≤ lastNumber
   pub lock : SoundLock (s .lock)
@@ -121,8 +122,8 @@ pub record Sound (s : State) (x : List ℕ) : Type 0 where
 -- entries whose blobs lie within their places
 pub record Housed (es : List Entry) (x : List ℕ) : Type 0 where
   pub eight-entries : length es ≡ 8
-  pub store-size : length x ≡ 32768
-  pub blobs-fit : (i : ℕ) → i < 8 → getD es i freeEntry .«blob_len» ≤ 1024
+  pub store-size : length x ≡ storeSize
+  pub blobs-fit : (i : ℕ) → i < 8 → getD es i freeEntry .«blob_len» ≤ blobLimit
 
 -- a state and store that mean this gateway, and are sound
 pub record Means (s : State) (x : List ℕ) (g : Gateway) : Type 0 where

@@ -10,9 +10,11 @@ use crate::places::start_of;
 use keys::constraints::Lifetime;
 use rule::Millis;
 use wire::Seconds;
+use wire::limits;
 ghost use mathlib.Core.Path.{_≡_};
 ghost use Prim.Native.Nat.{_≤_, _<_, max};
 ghost use lib.ListN.{length};
+ghost use Rattle.wire.specs.Limits.{placeSize, blobLimit, fieldsLimit};
 ghost use Rattle.rule.specs.Gateway.{millisOf, dueAt, lasting, advance, without, withoutAll, newEntry, withEntry};
 ghost use Rattle.table.specs.Meaning.{lifetimeOf, gatewayOf, placeOf, heldEntry, heldBytes, Written};
 ghost use Rattle.table.specs.Soundness.{Sound, Means};
@@ -160,11 +162,11 @@ fn held_entry(
 
 // The bytes of a key's place: the blob and zeros up to 1,024, the fields and zeros up to the end.
 fn fill_place(p: &mut [u8], blob: &[u8], fields: &[u8])
-    requires { ⌜ (length (now p) ≡ 4096) × (length (now blob) ≤ 1024) × (length (now fields) ≤ 3072) ⌝ }
+    requires { ⌜ (length (now p) ≡ placeSize) × (length (now blob) ≤ blobLimit) × (length (now fields) ≤ fieldsLimit) ⌝ }
     ensures { λ r. ⌜ now (p .exit) ≡ heldBytes (now (blob .entry)) (now (fields .entry)) ⌝ }
 {
-    pad(&mut p[..1024], blob);
-    pad(&mut p[1024..], fields);
+    pad(&mut p[..limits::FIELDS_AT], blob);
+    pad(&mut p[limits::FIELDS_AT..], fields);
 }
 
 // Place i takes a key, with the next number and the kept clock. Who adds has tested lengths and number, and has i from `places::place_for`.

@@ -8,6 +8,7 @@ pub mod soundness;
 
 use rule::Millis;
 use wire::Seconds;
+use wire::limits;
 ghost use mathlib.Core.Path.{_≡_};
 ghost use mathlib.Core.List.{[]};
 ghost use mathlib.Core.Option.{none};
@@ -29,7 +30,7 @@ pub struct Entry {
 // The passphrase and its length; the rest is zero. A length of 0 is open.
 #[repr(C)]
 pub struct LockRecord {
-    pub bytes: [u8; 1024],
+    pub bytes: [u8; limits::PASSPHRASE_LIMIT],
     pub len: usize,
 }
 

@@ -2,25 +2,27 @@
 use crate::LockRecord;
 use crate::State;
 use crate::bytes::copy_in;
+use wire::limits;
 use wire::read::is_same;
 ghost use mathlib.Core.Path.{_≡_};
 ghost use mathlib.Core.List.{List};
 ghost use Prim.Native.Nat.{ℕ, _≤_};
 ghost use lib.ListN.{length, replicate};
+ghost use Rattle.wire.specs.Limits.{passphraseLimit};
 ghost use Rattle.wire.specs.Read.{same};
 ghost use Rattle.rule.specs.Gateway.{locked, withLock};
 ghost use Rattle.table.specs.Meaning.{gatewayOf, lockOf};
 ghost use Rattle.table.specs.Soundness.{Sound, Means};
 
-fn zeros() -> [u8; 1024]
-    ensures { λ r. ⌜ r ≡ replicate 1024 0 ⌝ }
+fn zeros() -> [u8; limits::PASSPHRASE_LIMIT]
+    ensures { λ r. ⌜ r ≡ replicate passphraseLimit 0 ⌝ }
 {
-    [0u8; 1024]
+    [0u8; limits::PASSPHRASE_LIMIT]
 }
 
 // The record of a passphrase: its bytes, and zeros behind them. Who locks has tested the length.
 pub(crate) fn locked_by(p: &[u8]) -> LockRecord
-    requires { ⌜ length (now p) ≤ 1024 ⌝ }
+    requires { ⌜ length (now p) ≤ passphraseLimit ⌝ }
     ensures { λ r. ⌜ r ≡ lockOf (now (p .entry)) ⌝ }
 {
     let mut bytes = zeros();
@@ -37,7 +39,7 @@ pub fn is_locked(state: State) -> bool
 
 // Is this the passphrase that is kept? Only of a record whose length is within it, as a sound state's is.
 pub fn is_passphrase(state: State, p: &[u8]) -> bool
-    requires { ⌜ state .lock .len ≤ 1024 ⌝ }
+    requires { ⌜ state .lock .len ≤ passphraseLimit ⌝ }
     ensures { λ r. ⌜ ((x : List ℕ) → r ≡ same (gatewayOf state x .lock) (now (p .entry))) ⌝ }
 {
     let bytes = state.lock.bytes;
@@ -47,7 +49,7 @@ pub fn is_passphrase(state: State, p: &[u8]) -> bool
 
 // The state with this passphrase; an empty one opens. Who locks has tested the length.
 pub fn with_lock(state: State, p: &[u8]) -> State
-    requires { ⌜ length (now p) ≤ 1024 ⌝ }
+    requires { ⌜ length (now p) ≤ passphraseLimit ⌝ }
     ensures { λ r. ⌜ (r ≡ record { entries = state .entries; lock = lockOf (now (p .entry)); clock = state .clock; next = state .next }) × ((x : List ℕ) → Sound state x → Means r x (withLock (now (p .entry)) (gatewayOf state x))) ⌝ }
 {
     let entries = state.entries;

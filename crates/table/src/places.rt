@@ -5,12 +5,14 @@ use crate::State;
 use crate::bytes::is_equal;
 use crate::is_set;
 use rule::Found;
+use wire::limits;
 ghost use mathlib.Core.Path.{_≡_};
 ghost use mathlib.Core.Bool.{not};
 ghost use mathlib.Core.Option.{none};
 ghost use mathlib.Core.List.{List};
 ghost use Prim.Native.Nat.{ℕ, _*_, _≤_, _<_};
 ghost use lib.ListN.{length, getD, take, drop};
+ghost use Rattle.wire.specs.Limits.{placeSize, storeSize};
 ghost use Rattle.wire.specs.Parts.{PartOf};
 ghost use Rattle.rule.specs.Gateway.{seek, holds, isFree, placeFor};
 ghost use Rattle.rule.specs.Rule.{numberIn, confirmIn};
@@ -20,15 +22,15 @@ ghost use Rattle.table.specs.Soundness.{Sound};
 // Where the bytes of place i begin; those of the last end where a ninth place would begin.
 pub(crate) fn start_of(i: usize) -> usize
     requires { ⌜ i ≤ 8 ⌝ }
-    ensures { λ r. ⌜ r ≡ i * 4096 ⌝ }
+    ensures { λ r. ⌜ r ≡ i * placeSize ⌝ }
 {
-    i * 4096
+    i * limits::PLACE_SIZE
 }
 
 // The bytes of place i.
 pub fn bytes_at(store: &[u8], i: usize) -> &[u8]
-    requires { ⌜ (i < 8) × (length (now store) ≡ 32768) ⌝ }
-    ensures { λ r. ⌜ PartOf (store .entry) (i * 4096) (take 4096 (drop (i * 4096) (now (store .entry)))) r ⌝ }
+    requires { ⌜ (i < 8) × (length (now store) ≡ storeSize) ⌝ }
+    ensures { λ r. ⌜ PartOf (store .entry) (i * placeSize) (take placeSize (drop (i * placeSize) (now (store .entry)))) r ⌝ }
 {
     let from = start_of(i);
     let to = start_of(i + 1);
@@ -68,7 +70,7 @@ pub fn confirm_at(state: State, i: usize) -> bool
 // The blob of a place's key, empty where the place is free; it begins where the place does.
 pub fn blob_at(state: State, store: &[u8], i: usize) -> &[u8]
     requires { ⌜ (i < 8) × Sound state (now store) ⌝ }
-    ensures { λ r. ⌜ PartOf (store .entry) (i * 4096) (blobIn (getD (gatewayOf state (now (store .entry)) .places) i none)) r ⌝ }
+    ensures { λ r. ⌜ PartOf (store .entry) (i * placeSize) (blobIn (getD (gatewayOf state (now (store .entry)) .places) i none)) r ⌝ }
 {
     let es = state.entries;
     let e = es[i];

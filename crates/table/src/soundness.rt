@@ -7,11 +7,13 @@ use crate::bytes::is_zero;
 use crate::is_set;
 use crate::places::bytes_at;
 use rule::Millis;
+use wire::limits;
 ghost use mathlib.Core.Path.{_≡_};
 ghost use mathlib.Core.Option.{none};
 ghost use mathlib.Core.List.{[], _∷_};
 ghost use Prim.Native.Nat.{_+_, _≤_, _<_};
 ghost use lib.ListN.{length, getD, drop};
+ghost use Rattle.wire.specs.Limits.{placeSize, storeSize};
 ghost use Rattle.rule.specs.Soundness.{distinct};
 ghost use Rattle.table.specs.Meaning.{placeOf, view};
 ghost use Rattle.table.specs.Soundness.{isFlag, soundFree, soundHeld, soundPlace, soundPlaces, soundFlags, soundLifetime, soundLock, soundState, unlike, Housed};
@@ -67,7 +69,7 @@ fn is_lifetime_sound(e: Entry) -> bool
 }
 
 fn is_held_sound(e: Entry, p: &[u8], clock: Millis, next: u64) -> bool
-    requires { ⌜ length (now p) ≡ 4096 ⌝ }
+    requires { ⌜ length (now p) ≡ placeSize ⌝ }
     ensures { λ r. ⌜ r ≡ soundHeld (clock .count) next e (now (p .entry)) ⌝ }
 {
     if next <= e.number {
@@ -86,25 +88,25 @@ fn is_held_sound(e: Entry, p: &[u8], clock: Millis, next: u64) -> bool
     if n < 1 {
         return false;
     }
-    if 1024 < n {
+    if limits::BLOB_LIMIT < n {
         return false;
     }
     let m = e.fields_len;
     if m < 1 {
         return false;
     }
-    if 3072 < m {
+    if limits::FIELDS_LIMIT < m {
         return false;
     }
-    if !is_zero(&p[n..1024]) {
+    if !is_zero(&p[n..limits::FIELDS_AT]) {
         return false;
     }
-    let end = 1024 + m;
+    let end = limits::FIELDS_AT + m;
     is_zero(&p[end..])
 }
 
 fn is_place_sound(e: Entry, p: &[u8], clock: Millis, next: u64) -> bool
-    requires { ⌜ length (now p) ≡ 4096 ⌝ }
+    requires { ⌜ length (now p) ≡ placeSize ⌝ }
     ensures { λ r. ⌜ r ≡ soundPlace (clock .count) next e (now (p .entry)) ⌝ }
 {
     if e.number == 0 {
@@ -114,7 +116,7 @@ fn is_place_sound(e: Entry, p: &[u8], clock: Millis, next: u64) -> bool
 }
 
 fn are_places_sound(es: [Entry; 8], store: &[u8], clock: Millis, next: u64) -> bool
-    requires { ⌜ length (now store) ≡ 32768 ⌝ }
+    requires { ⌜ length (now store) ≡ storeSize ⌝ }
     ensures { λ r. ⌜ r ≡ soundPlaces (clock .count) next es (now (store .entry)) ⌝ }
 {
     let mut i = 0;
@@ -183,7 +185,7 @@ fn is_lock_sound(l: LockRecord) -> bool
     ensures { λ r. ⌜ r ≡ soundLock l ⌝ }
 {
     let n = l.len;
-    if 1024 < n {
+    if limits::PASSPHRASE_LIMIT < n {
         return false;
     }
     let b = l.bytes;
@@ -193,7 +195,7 @@ fn is_lock_sound(l: LockRecord) -> bool
 pub fn is_sound(state: State, store: &[u8]) -> bool
     ensures { λ r. ⌜ r ≡ soundState state (now (store .entry)) ⌝ }
 {
-    if store.len() != 32768 {
+    if store.len() != limits::STORE_SIZE {
         return false;
     }
     if state.next < 1 {

@@ -1,4 +1,5 @@
 -- The definitions that contracts cite, and the statements of what is promised.
+pub mod Limits
 pub mod Numbers
 pub mod Steps
 pub mod Texts

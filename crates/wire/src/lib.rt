@@ -1,4 +1,5 @@
 // The wire: what the other crates read and write a message with.
+pub mod limits;
 pub mod msg;
 pub mod read;
 pub mod utf8;

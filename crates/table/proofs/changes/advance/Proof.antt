@@ -4,6 +4,7 @@ use borrow.Author.Needs.{needs}
 use Prim.Native.Nat.{_≤_, _-_}
 use mathlib.Core.Path.{_≡_, sym, _∙_}
 use lib.ListN.{length}
+use Rattle.wire.specs.Limits.{storeSize}
 use Rattle.table.specs.Meaning.{view, freeEntry}
 use Rattle.table.proofs.WritingLaws.{Writing, view-eight}
 use Rattle.table.proofs.ChangeLaws.{swept, swept-length, writing-size, sweep-keys, sweep-start, sweep-stands, sweep-step, sweep-end}
@@ -12,7 +13,7 @@ use Rattle.table.proofs.changes.advance.Tie as tie
 
 abbrev Inv-loop : tie.InvT-loop
 Inv-loop state store₀ clock es₀ i₀ store es i =
-    (i ≤ 8) × (length store ≡ 32768) × Writing (clock .count) (state .next) es store (swept (clock .count) i (view (state .entries) store₀))
+    (i ≤ 8) × (length store ≡ storeSize) × Writing (clock .count) (state .next) es store (swept (clock .count) i (view (state .entries) store₀))
 
 abbrev μ-loop : tie.MeasureT-loop
 μ-loop state store₀ clock es₀ i₀ store es i = 8 - i

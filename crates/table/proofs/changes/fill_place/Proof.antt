@@ -4,16 +4,17 @@ use borrow.Author.Needs.{needs}
 use mathlib.Core.Path.{_≡_, sym, _∙_}
 use lib.ListN.{length, take}
 use lib.Seq.{length-take-le}
+use Rattle.wire.specs.Limits.{fieldsAt}
 use Rattle.table.specs.Meaning.{heldBytes}
 use Rattle.table.proofs.ByteLaws.{halves, half-size}
 use Rattle.table.proofs.changes.fill_place.Statement.{statement}
 use Rattle.table.proofs.changes.fill_place.Tie as tie
 
 front : tie.Need-slice-aggregate-pad
-front c = sym (length-take-le 1024 (c .before .before .before .before .args .p .now) (omega arith))
+front c = sym (length-take-le fieldsAt (c .before .before .before .before .args .p .now) (omega arith))
 
 room : tie.Need-pad-requires
-room c κs = rw (length-take-le 1024 (c .before .before .before .before .args .p .now) (omega arith)) (search needs)
+room c κs = rw (length-take-le fieldsAt (c .before .before .before .before .args .p .now) (omega arith)) (search needs)
 
 returns : tie.Need-returns
 unfolding heldBytes
@@ -22,9 +23,9 @@ returns c =
     let p = st .args .p .now in
     let x = c .before .before .before .before .before .before .pad in
     let y = c .before .before .pad2 in
-    let h : length (take 1024 p) ≡ 1024 = length-take-le 1024 p (omega arith) in
-    let l : length (x .last .0) ≡ 1024 = x .kept .0 ∙ h in
-    halves 1024 p (x .last .0) l (y .last .0) ∙ rw (x .ensures, y .ensures, half-size 1024 p (x .last .0) l, h, st .pre .0)
+    let h : length (take fieldsAt p) ≡ fieldsAt = length-take-le fieldsAt p (omega arith) in
+    let l : length (x .last .0) ≡ fieldsAt = x .kept .0 ∙ h in
+    halves fieldsAt p (x .last .0) l (y .last .0) ∙ rw (x .ensures, y .ensures, half-size fieldsAt p (x .last .0) l, h, st .pre .0)
 
 pub fill-place-spec : {M : Type 1} → statement M
 fill-place-spec =

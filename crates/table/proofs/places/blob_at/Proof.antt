@@ -4,6 +4,7 @@ use borrow.Author.Needs.{needs}
 use mathlib.Core.Path.{_≡_, sym, ap, _∙_}
 use lib.ListN.{length}
 use lib.Seq.{length-take-le}
+use Rattle.wire.specs.Limits.{placeSize}
 use Rattle.table.proofs.ReadLaws.{part-size, state-blob, state-blob-fits}
 use Rattle.table.proofs.places.blob_at.Statement.{statement}
 use Rattle.table.proofs.places.blob_at.Tie as tie
@@ -13,7 +14,7 @@ front c =
     let p = c .before in
     let st = p .before .before .before .before in
     let a = st .args in
-    let whole : length (p .bytes-at .result .now) ≡ 4096 = ap length (p .bytes-at .ensures .bytes) ∙ part-size (a .store .now) (a .i) (st .pre .1 .store-size) (st .pre .0) in
+    let whole : length (p .bytes-at .result .now) ≡ placeSize = ap length (p .bytes-at .ensures .bytes) ∙ part-size (a .store .now) (a .i) (st .pre .1 .store-size) (st .pre .0) in
     let fits = state-blob-fits (a .state) (a .store .now) (st .pre .1) (a .i) (st .pre .0) in
     sym (length-take-le _ (p .bytes-at .result .now) (omega arith))
 

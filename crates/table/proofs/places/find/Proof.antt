@@ -4,6 +4,7 @@ use borrow.Author.Needs.{needs}
 use Prim.Native.Nat.{_≤_, _-_}
 use mathlib.Core.Path.{_≡_, refl, sym, ap, _∙_}
 use lib.ListN.{length, drop}
+use Rattle.wire.specs.Limits.{placeSize}
 use Rattle.rule.specs.Gateway.{seek, holds}
 use Rattle.table.specs.Meaning.{view, gatewayOf}
 use Rattle.table.proofs.ReadLaws.{view-length, view-at, part-size, state-blob-fits}
@@ -23,7 +24,7 @@ is-holding-requires c κs =
     let loop = turn .loop in
     let st = turn .before .before .before .before in
     let x = st .args .store .now in
-    let whole : length (c .bytes-at .result .now) ≡ 4096 = ap length (c .bytes-at .ensures .bytes) ∙ part-size x (loop .i) (st .pre .store-size) (omega arith) in
+    let whole : length (c .bytes-at .result .now) ≡ placeSize = ap length (c .bytes-at .ensures .bytes) ∙ part-size x (loop .i) (st .pre .store-size) (omega arith) in
     let fits = state-blob-fits (st .args .state) x (st .pre) (loop .i) (omega arith) in
     omega arith
 

@@ -4,7 +4,7 @@ use native.Mathlib.Omega.{arith}
 use borrow.Author.Tests.{not-false}
 use Prim.Native.Nat.{_≤_}
 use mathlib.Core.Path.{sym, _∙_}
-use Rattle.rule.specs.Soundness.{lastNumber}
+use Rattle.wire.specs.Limits.{lastNumber}
 use Rattle.table.specs.Soundness.{soundState}
 use Rattle.table.proofs.ArrayLaws.{eight-of}
 use Rattle.table.proofs.ReadLaws.{housed-by}
