@@ -15,7 +15,7 @@ use Rattle.keys.specs.Kinds.{keyAt}
 use Rattle.keys.specs.Constraints.{walkOf}
 
 unfoldable pub limitsOf : Places → Walk → Addition
-limitsOf p (Done l c) = Addition.Whole p l c
+limitsOf p (Done l c) = Addition.Whole (record { places = p; lifetime = l; confirm = c })
 limitsOf p (Duplicate at) = Addition.Fault at
 limitsOf p (Unknown at) = Addition.Fault at
 limitsOf p (Cut at) = Addition.Fault at

@@ -70,5 +70,6 @@ pub record Added : Type 0 where
   pub limits : Limits
 
 abbrev pub additionReads : List ℕ → ℕ → Addition → Reading Added
-additionReads s at (Addition.Whole p l c) = read (record { blob = blobOf s at p; limits = record { seconds = secondsIn l; confirm = c } }) (p .end)
+additionReads s at (Addition.Whole c) =
+    read (record { blob = blobOf s at (c .places); limits = record { seconds = secondsIn (c .lifetime); confirm = c .confirm } }) (c .places .end)
 additionReads s at (Addition.Fault place) = fault place

@@ -10,12 +10,15 @@ use wire::read::Part;
 ghost use mathlib.Core.Path.{_≡_};
 ghost use Rattle.keys.specs.Additions.{limitsOf, commentedAt, additionAt};
 
+// What an add request carries: where its key fields lie, its lifetime and Confirm.
+pub struct Carried {
+    pub places: Places,
+    pub lifetime: Lifetime,
+    pub confirm: bool,
+}
+
 pub enum Addition {
-    Whole {
-        places: Places,
-        lifetime: Lifetime,
-        confirm: bool,
-    },
+    Whole(Carried),
     Fault(usize),
 }
 
@@ -24,11 +27,11 @@ fn limited(places: Places, walk: Walk) -> Addition
     ensures { λ r. ⌜ r ≡ limitsOf places walk ⌝ }
 {
     match walk {
-        Walk::Done { lifetime, confirm } => Addition::Whole {
+        Walk::Done { lifetime, confirm } => Addition::Whole(Carried {
             places,
             lifetime,
             confirm,
-        },
+        }),
         Walk::Duplicate(place) => Addition::Fault(place),
         Walk::Unknown(place) => Addition::Fault(place),
         Walk::Cut(place) => Addition::Fault(place),
@@ -50,11 +53,11 @@ fn commented(s: &[u8], places: Places, constrained: bool) -> Addition
             if constrained {
                 limited(places, constraints(s, next.at))
             } else {
-                Addition::Whole {
+                Addition::Whole(Carried {
                     places,
                     lifetime: Lifetime::Forever,
                     confirm: false,
-                }
+                })
             }
         }
         Part::Fault(place) => Addition::Fault(place),

@@ -10,20 +10,19 @@ use borrow.Author.Tests.{le-leb, leb-true, lt-ltb}
 use lib.Dec.{leb}
 use lib.ListN.{length}
 use lib.Seq.{getD-set-same, getD-set-other}
-use Rattle.wire.specs.Limits.{blobLimit, fieldsLimit}
-use Rattle.wire.specs.Numbers.{Bytes, within}
+use Rattle.wire.specs.Numbers.{Bytes}
 use Rattle.wire.specs.Read.{cutOf}
 use Rattle.wire.specs.Steps.{so}
-use Rattle.keys.specs.declared.kinds.Places.{Places}
-use Rattle.keys.specs.declared.constraints.Lifetime.{Lifetime}
+use Rattle.keys.specs.declared.addition.Carried.{Carried}
 use Rattle.keys.specs.declared.addition.Addition.{Addition}
 use Rattle.keys.specs.Kinds.{blobOf}
 use Rattle.keys.specs.Additions.{additionAt}
 use Rattle.keys.specs.Forms.{ed25519-key, ecdsa-key, rsa-key, KeyFields, as-ed25519, as-nistp256, as-nistp384, as-nistp521, as-rsa}
 use Rattle.rule.specs.declared.Found.{Found}
 use Rattle.rule.specs.declared.Found.the-variants.{At, Nothing}
-use Rattle.rule.specs.Gateway.{Entry, Place, Gateway, locked, atClock, advance, seek, holds, isFree, found, placeFor, withEntry}
-use Rattle.rule.specs.Rule.{Question, gate, check, Answer, SUCCESS, added, entryOf, storing, adding}
+use Rattle.rule.specs.Gateway.{Entry, Place, Gateway, locked, atClock, advance, seek, holds, isFree, found, placeFor, NewKey, newEntry, withEntry}
+use Rattle.rule.specs.Soundness.{fit}
+use Rattle.rule.specs.Rule.{Question, gate, check, Answer, SUCCESS, added, brought, entryOf, storing, adding}
 use Rattle.rule.specs.Calls.{lent, Call, Outcome, asks, lands, Result, follow, call}
 use Rattle.rule.specs.Order.{Begins}
 use Rattle.rule.specs.Content.{HeldAt, FreeAt, atCall, payloadOf, PastGate, add, add-constrained, addByte, AddRequest, madeBy, Put, MayStore, AddedOnly, AddedAlways, CheckAsks}
@@ -31,6 +30,7 @@ use Rattle.rule.proofs.Cases.{true-not-false, and-right, both-true}
 use Rattle.rule.proofs.Clock.{advance-next}
 use Rattle.rule.proofs.PlaceLaws.{every-at, seek-first, seek-none, found-at, absent-differs, Placed, replacing, anew, placed, no-place, place-inside}
 use Rattle.rule.proofs.Effects.{Storable}
+use Rattle.rule.proofs.SoundLaws.{fit-says}
 use Rattle.rule.proofs.RefusalLaws.{accepted}
 use Rattle.rule.proofs.AnswerLaws.{numbered-answers}
 use Rattle.rule.proofs.RowLaws.{past-gate, Beyond, success-beyond, through, failure-shows, same-landing}
@@ -49,11 +49,17 @@ add-past : (constrained : Bool) (g : Gateway) (c : Call) → PastGate g c → lo
 add-past false g c past state begins = past-gate add g c past state begins
 add-past true g c past state begins = past-gate add-constrained g c past state begins
 
+-- what is read of a request
+abbrev read-key : Call → Carried → NewKey
+read-key c carried = brought (payloadOf c) carried (blobOf (payloadOf c) 1 (carried .places))
+
+abbrev read-entry : Gateway → Call → Carried → Entry
+read-entry g c carried = entryOf (atCall g c) (payloadOf c) carried (blobOf (payloadOf c) 1 (carried .places))
+
 -- the entry that is read is the entry that the request makes
-read-made : (g : Gateway) (c : Call) (p : Places) (fields blob : List ℕ) (l : Lifetime) (confirm : Bool)
-    → cutOf (payloadOf c) 1 (p .end) ≡ fields → blobOf (payloadOf c) 1 p ≡ blob → entryOf (atCall g c) (payloadOf c) p l confirm ≡ madeBy g c fields blob l confirm
+read-made : (g : Gateway) (c : Call) (carried : Carried) (k : NewKey) → read-key c carried ≡ k → read-entry g c carried ≡ madeBy g c k
 unfolding advance atClock
-read-made g c p fields blob l confirm cut public = rw (cut, public)
+read-made g c carried k brings = ap (madeBy g c) brings
 
 -- ## What SUCCESS did
 
@@ -94,23 +100,21 @@ room-of : (g : Gateway) (blob : List ℕ) (i : ℕ) → Placed blob (g .places) 
 room-of g blob i (replacing at) = let held = found-at blob (g .places) i at in inl (i, held .entry, held .there, held .is)
 room-of g blob i (anew absent at) = let first = seek-first isFree (g .places) i at in inr (i, (first .inside, free-place _ (first .passes)))
 
-within-high : (low high n : ℕ) → within low high n ≡ true → n ≤ high
-within-high low high n t = leb-true n high (and-right (leb low n) (leb n high) t)
-
--- what may be stored, by its blob and fields
-may-store : (g : Gateway) (e : Entry) (i : ℕ) → Storable g e i → MayStore g (e .fields) (e .blob)
-may-store g e i s = record {
-  blob-fits = within-high 1 blobLimit (length (e .blob)) (s .blob);
-  fields-fit = within-high 1 fieldsLimit (length (e .fields)) (s .fields);
-  numbers-left = s .numbers-left;
-  room = room-of g (e .blob) i (placed (e .blob) (g .places) i (s .place));
-}
+may-store : (g : Gateway) (number reading : ℕ) (k : NewKey) (i : ℕ) → Storable g (newEntry number reading k) i → MayStore g k
+may-store g number reading k i s =
+    let lengths = fit-says (k .blob) (k .fields) .0 (s .fits) in
+    record {
+      blob-fits = lengths .blob-fits;
+      fields-fit = lengths .fields-fit;
+      numbers-left = s .numbers-left;
+      room = room-of g (k .blob) i (placed (k .blob) (g .places) i (s .place));
+    }
 
 -- a request in the draft's form was stored
 abbrev Added : Gateway → Call → Gateway → Type 0
 Added g c after =
-    (fields : List ℕ) × (blob : List ℕ) × (lifetime : Lifetime) × (confirm : Bool) × (i : ℕ) × AddRequest (payloadOf c) fields blob lifetime confirm
-    × Put (atCall g c) after i (madeBy g c fields blob lifetime confirm) × MayStore (atCall g c) fields blob × (c .answers .check ≡ some true)
+    (k : NewKey) × (i : ℕ) × AddRequest (payloadOf c) k × Put (atCall g c) after i (madeBy g c k) × MayStore (atCall g c) k
+    × (c .answers .check ≡ some true)
 
 add-success : (constrained : Bool) (g : Gateway) (c : Call) → Bytes (payloadOf c) → Begins (addByte constrained) (payloadOf c) → call g c .outcome ≡ lands SUCCESS
     → Added g c (call g c .gateway)
@@ -121,12 +125,13 @@ add-success constrained g c bytes begins e =
     (adding-cases (lent (c .answers)) now (payloadOf c) (λ r. r .outcome ≡ lands SUCCESS → Added g c (r .gateway))
     (λ never. failure-shows (same-landing never))
     constrained
-    (λ p l confirm i read storable never. absurd (asks-not-lands _ SUCCESS never))
-    (λ p l confirm i read storable checked _.
-    let (fields, blob, request, r) = add-in (payloadOf c) bytes constrained p l confirm begins read in
-    let made = read-made g c p fields blob l confirm (r .cut) (r .public) in
-    let entry = entryOf now (payloadOf c) p l confirm in
-    (fields, blob, l, confirm, i, request, subst (Put now (withEntry i entry now) i) made (put now entry i storable), rw (r .cut, r .public) at (may-store now entry i storable), sym (numbered-answers (c .answers) .checks 1 (p .end)) ∙ checked))
+    (λ carried i read storable never. absurd (asks-not-lands _ SUCCESS never))
+    (λ carried i read storable checked _.
+    let (k, request, r) = add-in (payloadOf c) bytes constrained carried begins read in
+    let entry = read-entry g c carried in
+    let stored = subst (Put now (withEntry i entry now) i) (read-made g c carried k (r .brings)) (put now entry i storable) in
+    let may = subst (MayStore now) (r .brings) (may-store now _ _ (read-key c carried) i storable) in
+    (k, i, request, stored, may, sym (numbered-answers (c .answers) .checks 1 (carried .places .end)) ∙ checked))
     (rw result at e))
 
 pub added-only : AddedOnly
@@ -161,29 +166,28 @@ room-place g blob room = by-place (placeFor blob (g .places)) refl
 storing-succeeds : (answer : (q : Question) → Option (Answer q)) (g : Gateway) (e : Entry) (i to : ℕ) → Storable g e i → answer (check 1 to) ≡ some true
     → follow answer g (storing g e to) .outcome ≡ lands SUCCESS
 unfolding storing so found follow
-storing-succeeds answer g e i to s checked = rw (s .blob, s .fields, lt-ltb _ _ (s .numbers-left), s .place, checked)
-
-within-true : (low high n : ℕ) → low ≤ n → n ≤ high → within low high n ≡ true
-within-true low high n l h = both-true _ _ (le-leb low n l) (le-leb n high h)
+storing-succeeds answer g e i to s checked = rw (s .fits, lt-ltb _ _ (s .numbers-left), s .place, checked)
 
 pub added-always : AddedAlways
 unfolding adding added lent
-added-always g c fields blob l confirm bytes past state request blob-fits fields-fit numbers-left room checked =
-    let fits = accepted g c (past .accepted) .payload in
-    let (constrained, p, r) = add-out (payloadOf c) bytes fields blob l confirm (omega arith) request in
+added-always g c k bytes past state request may checked =
+    let short = accepted g c (past .accepted) .payload in
+    let (constrained, carried, r) = add-out (payloadOf c) bytes k (omega arith) request in
     let now = atCall g c in
-    let (i, place) = room-place now blob room in
+    let (i, place) = room-place now (k .blob) (may .room) in
     let some-byte = some-bytes (request .key) in
-    let storable : Storable now (entryOf now (payloadOf c) p l confirm) i
+    let fits : fit (k .blob) (k .fields) ≡ true
+    = fit-says (k .blob) (k .fields) .1
+    (record { blob-some = some-byte .blob-some; blob-fits = may .blob-fits; fields-some = some-byte .fields-some; fields-fit = may .fields-fit }) in
+    let storable : Storable now (read-entry g c carried) i
     = record {
-      blob = rw (r .public) (within-true 1 blobLimit (length blob) (some-byte .blob-some) blob-fits);
-      fields = rw (r .cut) (within-true 1 fieldsLimit (length fields) (some-byte .fields-some) fields-fit);
-      numbers-left = rw (advance-next (c .reading) g) numbers-left;
-      place = rw (r .public) place;
+      fits = subst (λ n. fit (n .blob) (n .fields) ≡ true) (sym (r .brings)) fits;
+      numbers-left = may .numbers-left;
+      place = subst (λ n. placeFor (n .blob) (now .places) ≡ At i) (sym (r .brings)) place;
       number = refl;
       reading = refl;
     } in
-    rw (add-past constrained g c past state (r .begins), r .read) (storing-succeeds (lent (c .answers)) now (entryOf now (payloadOf c) p l confirm) i (p .end) storable checked)
+    rw (add-past constrained g c past state (r .begins), r .read) (storing-succeeds (lent (c .answers)) now (read-entry g c carried) i (carried .places .end) storable checked)
 
 -- ## What the key check sees
 
@@ -192,8 +196,7 @@ check-asks g c from to bytes e = by-row (asks-in g c (check from to) (λ class n
   where
     Seen : Type 0
     Seen =
-        PastGate g c × (locked g ≡ false) × (fields : List ℕ) × (blob : List ℕ) × (lifetime : Lifetime) × (confirm : Bool)
-        × AddRequest (payloadOf c) fields blob lifetime confirm × (from ≡ 1) × (to ≡ 1 + length fields) × MayStore (atCall g c) fields blob
+        PastGate g c × (locked g ≡ false) × (k : NewKey) × AddRequest (payloadOf c) k × (from ≡ 1) × (to ≡ 1 + length (k .fields)) × MayStore (atCall g c) k
 
     check-not-gate : {class : ℕ} → check from to ≡ gate class → ⊥
     check-not-gate never = let z : _≡_ {A = ℕ} 0 1 = cc in omega arith
@@ -201,19 +204,20 @@ check-asks g c from to bytes e = by-row (asks-in g c (check from to) (λ class n
     Asks : Result → Type 0
     Asks r = r .outcome ≡ asks (check from to) → Seen
 
-    asked : PastGate g c → locked g ≡ false → (constrained : Bool) (p : Places) (l : Lifetime) (confirm : Bool) (i : ℕ) → Begins (addByte constrained) (payloadOf c)
-        → additionAt (payloadOf c) 1 constrained ≡ Addition.Whole p l confirm → Storable (atCall g c) (entryOf (atCall g c) (payloadOf c) p l confirm) i → asks (check 1 (p .end)) ≡ asks (check from to) → Seen
-    asked past state constrained p l confirm i begins read storable is =
-        let (fields, blob, request, r) = add-in (payloadOf c) bytes constrained p l confirm begins read in
+    asked : PastGate g c → locked g ≡ false → (constrained : Bool) (carried : Carried) (i : ℕ) → Begins (addByte constrained) (payloadOf c)
+        → additionAt (payloadOf c) 1 constrained ≡ Addition.Whole carried → Storable (atCall g c) (read-entry g c carried) i
+        → asks (check 1 (carried .places .end)) ≡ asks (check from to) → Seen
+    asked past state constrained carried i begins read storable is =
+        let (k, request, r) = add-in (payloadOf c) bytes constrained carried begins read in
         let same-from : from ≡ 1 = cc in
-        let same-to : to ≡ p .end = cc in
-        (past, state, fields, blob, l, confirm, request, same-from, same-to ∙ r .end, rw (r .cut, r .public) at (may-store (atCall g c) (entryOf (atCall g c) (payloadOf c) p l confirm) i storable))
+        let same-to : to ≡ carried .places .end = cc in
+        (past, state, k, request, same-from, same-to ∙ r .end, subst (MayStore (atCall g c)) (r .brings) (may-store (atCall g c) _ _ (read-key c carried) i storable))
 
     by-row : AsksIn g c (check from to) → Seen
     by-row (in-add past state constrained begins is) =
         adding-cases (lent (c .answers)) (atCall g c) (payloadOf c) Asks silent constrained
-        (λ p l confirm i read storable. asked past state constrained p l confirm i begins read storable)
-        (λ p l confirm i _ _ _. silent)
+        (λ carried i read storable. asked past state constrained carried i begins read storable)
+        (λ carried i _ _ _. silent)
         is
     by-row (in-sign past state begins is) =
         signing-cases (lent (c .answers)) (atCall g c) (payloadOf c) Asks (λ _. silent) (λ _. silent)

@@ -9,19 +9,19 @@ use mathlib.Core.List.{List, []}
 use borrow.Author.Tests.{ltb-true}
 use lib.ListN.{length}
 use lib.Dec.{leb, ltb}
-use Rattle.wire.specs.Limits.{blobLimit, fieldsLimit, passphraseLimit, lastNumber}
-use Rattle.wire.specs.Numbers.{within}
+use Rattle.wire.specs.Limits.{passphraseLimit, lastNumber}
 use Rattle.wire.specs.declared.read.Cursor.{Cursor}
 use Rattle.wire.specs.declared.read.Number.{Number}
 use Rattle.wire.specs.declared.read.Part.{Part}
 use Rattle.wire.specs.declared.read.Part.the-variants.{Whole}
 use Rattle.wire.specs.Read.{cutOf, same, stringAt, numberAt}
-use Rattle.keys.specs.declared.kinds.Places.{Places}
-use Rattle.keys.specs.declared.constraints.Lifetime.{Lifetime}
+use Rattle.keys.specs.declared.addition.Carried.{Carried}
 use Rattle.keys.specs.declared.addition.Addition.{Addition}
+use Rattle.keys.specs.Kinds.{blobOf}
 use Rattle.keys.specs.Additions.{additionAt}
 use Rattle.rule.specs.declared.Found.the-variants.{Nothing}
 use Rattle.rule.specs.Gateway.{Entry, Gateway, locked, seek, holds, placeFor, withLock, without, withEntry}
+use Rattle.rule.specs.Soundness.{fit}
 use Rattle.rule.specs.Rule.{Question, gate, check, confirmation, signature, Answer, Landing, reply, close, FAILURE, SUCCESS, Plan, land, fails, closes, listing, removing, removingAll, locking, unlocking, hashOf, signatureReply, signed, signingData, confirming, signing, entryOf, storing, adding}
 use Rattle.rule.specs.Calls.{lent, Call, asks, lands, Result, follow, call}
 use Rattle.rule.specs.Order.{Begins, Carries}
@@ -105,23 +105,25 @@ module _ (answer : (q : Question) → Option (Answer q)) (g : Gateway) (payload 
         part-cases Follows (stringAt payload 1) (λ _ _. failure) λ f t k _.
         so-gives answer g P (same (g .lock) (cutOf payload f t)) _ failing λ _. success _ (unlocked [])
 
+    abbrev made : Carried → Entry
+    made c = entryOf g payload c (blobOf payload 1 (c .places))
+
     pub adding-cases : (constrained : Bool)
-        → ((p : Places) (l : Lifetime) (c : Bool) (i : ℕ) → additionAt payload 1 constrained ≡ Addition.Whole p l c → Storable g (entryOf g payload p l c) i → Asks (check 1 (p .end)))
-        → ((p : Places) (l : Lifetime) (c : Bool) (i : ℕ) → additionAt payload 1 constrained ≡ Addition.Whole p l c → Storable g (entryOf g payload p l c) i
-        → answer (check 1 (p .end)) ≡ some true → Lands SUCCESS (withEntry i (entryOf g payload p l c) g))
+        → ((c : Carried) (i : ℕ) → additionAt payload 1 constrained ≡ Addition.Whole c → Storable g (made c) i → Asks (check 1 (c .places .end)))
+        → ((c : Carried) (i : ℕ) → additionAt payload 1 constrained ≡ Addition.Whole c → Storable g (made c) i
+        → answer (check 1 (c .places .end)) ≡ some true → Lands SUCCESS (withEntry i (made c) g))
         → Follows (adding constrained g payload)
     unfolding adding storing
     adding-cases constrained asking stored =
-        added-cases Follows (additionAt payload 1 constrained) failure λ p l c read.
-        let e = entryOf g payload p l c in
-        so-gives answer g P (within 1 blobLimit (length (e .blob))) _ failing λ blob.
-        so-gives answer g P (within 1 fieldsLimit (length (e .fields))) _ failing λ fields.
+        added-cases Follows (additionAt payload 1 constrained) failure λ c read.
+        let e = made c in
+        so-gives answer g P (fit (e .blob) (e .fields)) _ failing λ fits.
         so-gives answer g P (ltb (g .next) lastNumber) _ failing λ left.
         found-cases Follows (placeFor (e .blob) (g .places)) (λ _. failure) λ i place.
-        let storable : Storable g e i = record { blob = blob; fields = fields; numbers-left = ltb-true _ _ left; place = place; number = refl; reading = refl } in
-        ask-gives answer g P (check 1 (p .end)) _
-        (λ _. asking p l c i read storable)
-        (λ granted says. so-gives answer g P granted _ failing λ agreed. success _ (stored p l c i read storable (says ∙ ap some agreed)))
+        let storable : Storable g e i = record { fits = fits; numbers-left = ltb-true _ _ left; place = place; number = refl; reading = refl } in
+        ask-gives answer g P (check 1 (c .places .end)) _
+        (λ _. asking c i read storable)
+        (λ granted says. so-gives answer g P granted _ failing λ agreed. success _ (stored c i read storable (says ∙ ap some agreed)))
 
   pub signing-cases : (Failing answer g payload → Lands FAILURE g) → (Closing answer g payload → Lands close g)
       → ((i : ℕ) (e : Entry) → Chosen g payload i e → e .confirm ≡ true → Asks (confirmation (e .number)))

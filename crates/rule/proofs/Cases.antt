@@ -9,8 +9,7 @@ use Rattle.wire.specs.declared.read.Number.{Number}
 use Rattle.wire.specs.declared.read.Part.{Part}
 use Rattle.wire.specs.declared.read.Part.the-variants.{Whole}
 use Rattle.wire.specs.Steps.{so, part, number}
-use Rattle.keys.specs.declared.kinds.Places.{Places}
-use Rattle.keys.specs.declared.constraints.Lifetime.{Lifetime}
+use Rattle.keys.specs.declared.addition.Carried.{Carried}
 use Rattle.keys.specs.declared.addition.Addition.{Addition}
 use Rattle.rule.specs.declared.Found.{Found}
 use Rattle.rule.specs.declared.Found.the-variants.{At, Nothing}
@@ -39,9 +38,9 @@ module _ {A : Type 0} (P : A → Type 0) where
   found-cases (At i) g h = h i refl
   found-cases Nothing g h = g refl
 
-  pub added-cases : (a : Addition) {z : A} {next : Places → Lifetime → Bool → A} → P z → ((p : Places) (l : Lifetime) (c : Bool) → a ≡ Addition.Whole p l c → P (next p l c)) → P (added z a next)
+  pub added-cases : (a : Addition) {z : A} {next : Carried → A} → P z → ((c : Carried) → a ≡ Addition.Whole c → P (next c)) → P (added z a next)
   unfolding added
-  added-cases (Addition.Whole p l c) g h = h p l c refl
+  added-cases (Addition.Whole c) g h = h c refl
   added-cases (Addition.Fault at) g h = g
 
   pub given-cases : {B : Type 0} (o : Option B) {z : A} {f : B → A} → (o ≡ none → P z) → ((b : B) → o ≡ some b → P (f b)) → P (given o z f)

@@ -47,8 +47,8 @@ success-or-failure g c l no-list no-sign =
     by-add : (constrained : Bool) → Either (addResult constrained g c)
     by-add constrained =
         adding-cases (lent (c .answers)) (atCall g c) (payloadOf c) Either failed constrained
-        (λ p lifetime confirm i _ _ never. absurd (asks-not-lands _ l never))
-        (λ p lifetime confirm i _ _ _. succeeded)
+        (λ k i _ _ never. absurd (asks-not-lands _ l never))
+        (λ k i _ _ _. succeeded)
 
     by-row : {byte : ℕ} {needs : Bool} {class : ℕ} (r : Row byte needs class) → Begins byte (payloadOf c) → Either (bodyResult r g c)
     by-row list begins = absurd (no-list begins)

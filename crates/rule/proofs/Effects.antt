@@ -8,22 +8,22 @@ use mathlib.Core.List.{List, []}
 use borrow.Author.Tests.{leb-true, ltb-true}
 use lib.ListN.{length, getD}
 use lib.Dec.{leb, ltb, eqb}
-use Rattle.wire.specs.Limits.{blobLimit, fieldsLimit, passphraseLimit, lastNumber}
-use Rattle.wire.specs.Numbers.{within}
+use Rattle.wire.specs.Limits.{passphraseLimit, lastNumber}
 use Rattle.wire.specs.Read.{cutOf, same, stringAt, numberAt}
 use Rattle.wire.proofs.Reading.{string-read}
 use Rattle.wire.proofs.Format.{part-length}
+use Rattle.keys.specs.Kinds.{blobOf}
 use Rattle.keys.specs.Additions.{additionAt}
 use Rattle.rule.specs.declared.Found.the-variants.{At}
 use Rattle.rule.specs.Gateway.{Entry, Gateway, locked, opened, seek, holds, placeFor, withLock, without, withoutAll, withEntry}
+use Rattle.rule.specs.Soundness.{fit}
 use Rattle.rule.specs.Rule.{Landing, FAILURE, SUCCESS, Plan, listing, removing, removingAll, locking, unlocking, signed, signingData, numberIn, confirmIn, confirming, signing, entryOf, storing, adding, gated, row, table, rule}
 use Rattle.rule.proofs.Cases.{so-cases, part-cases, number-cases, found-cases, added-cases}
 use Rattle.rule.proofs.Plans.{EveryLanding}
 
 -- an entry that may be stored, at a place for it
 pub record Storable (g : Gateway) (e : Entry) (i : ℕ) : Type 0 where
-  pub blob : within 1 blobLimit (length (e .blob)) ≡ true
-  pub fields : within 1 fieldsLimit (length (e .fields)) ≡ true
+  pub fits : fit (e .blob) (e .fields) ≡ true
   pub numbers-left : g .next < lastNumber
   pub place : placeFor (e .blob) (g .places) ≡ At i
   pub number : e .number ≡ g .next
@@ -88,18 +88,15 @@ module _ (g : Gateway) where
   adding-effect : (constrained : Bool) (payload : List ℕ) → Lands (adding constrained g payload)
   unfolding adding storing
   adding-effect constrained payload =
-      added-cases Lands (additionAt payload 1 constrained) (leaves refl) λ p l c _.
-      let e = entryOf g payload p l c in
-      so-cases Lands (within 1 blobLimit (length (e .blob)))
-      (λ blob.
-      so-cases Lands (within 1 fieldsLimit (length (e .fields)))
-      (λ fields.
+      added-cases Lands (additionAt payload 1 constrained) (leaves refl) λ c _.
+      let e = entryOf g payload c (blobOf payload 1 (c .places)) in
+      so-cases Lands (fit (e .blob) (e .fields))
+      (λ fits.
       so-cases Lands (ltb (g .next) lastNumber)
       (λ left.
       found-cases Lands (placeFor (e .blob) (g .places)) (λ _. leaves refl) λ i place granted.
       so-cases Lands granted
-      (λ _. stores e i (record { blob = blob; fields = fields; numbers-left = ltb-true _ _ left; place = place; number = refl; reading = refl }) refl refl)
-      (λ _. leaves refl))
+      (λ _. stores e i (record { fits = fits; numbers-left = ltb-true _ _ left; place = place; number = refl; reading = refl }) refl refl)
       (λ _. leaves refl))
       (λ _. leaves refl))
       (λ _. leaves refl)

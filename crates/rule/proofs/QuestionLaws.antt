@@ -7,12 +7,13 @@ use mathlib.Core.Option.{Option, none, some}
 use mathlib.Core.List.{List}
 use lib.ListN.{length, getD}
 use lib.Dec.{leb, ltb, eqb}
-use Rattle.wire.specs.Limits.{blobLimit, fieldsLimit, passphraseLimit, lastNumber}
-use Rattle.wire.specs.Numbers.{within}
+use Rattle.wire.specs.Limits.{passphraseLimit, lastNumber}
 use Rattle.wire.specs.Read.{cutOf, same, stringAt, numberAt}
 use Rattle.wire.specs.Steps.{so}
+use Rattle.keys.specs.Kinds.{blobOf}
 use Rattle.keys.specs.Additions.{additionAt}
 use Rattle.rule.specs.Gateway.{Gateway, locked, opened, advance, seek, holds, placeFor}
+use Rattle.rule.specs.Soundness.{fit}
 use Rattle.rule.specs.Rule.{Question, gate, check, confirmation, signature, Answer, Landing, Plan, land, ask, fails, listing, removing, removingAll, locking, unlocking, hashOf, signed, signingData, numberIn, confirmIn, confirming, signing, entryOf, storing, adding, gated, row, table, rule}
 use Rattle.rule.specs.Calls.{given, lent, asks, Result, follow, served, refusal, call}
 use Rattle.rule.specs.Runs.{Oracle}
@@ -60,13 +61,12 @@ module _ (oracle : Oracle) (g : Gateway) where
   adding-asks : (constrained : Bool) (payload : List ℕ) → AtMost 2 (adding constrained g payload)
   unfolding adding storing
   adding-asks constrained payload =
-      added-cases (AtMost 2) (additionAt payload 1 constrained) (land-asks 2 _ g) λ p l c _.
-      let e = entryOf g payload p l c in
-      so-asks 2 (within 1 blobLimit (length (e .blob))) _
-      (so-asks 2 (within 1 fieldsLimit (length (e .fields))) _
+      added-cases (AtMost 2) (additionAt payload 1 constrained) (land-asks 2 _ g) λ c _.
+      let e = entryOf g payload c (blobOf payload 1 (c .places)) in
+      so-asks 2 (fit (e .blob) (e .fields)) _
       (so-asks 2 (ltb (g .next) lastNumber) _
       (found-cases (AtMost 2) (placeFor (e .blob) (g .places)) (λ _. land-asks 2 _ g) λ i _.
-      ask-asks 1 (check 1 (p .end)) _ (λ granted. so-asks 1 granted _ (land-asks 1 _ _)))))
+      ask-asks 1 (check 1 (c .places .end)) _ (λ granted. so-asks 1 granted _ (land-asks 1 _ _))))
 
   removing-asks : (payload : List ℕ) → AtMost 2 (removing g payload)
   unfolding removing

@@ -7,15 +7,15 @@ use mathlib.Core.Option.{Option, none, some}
 use mathlib.Core.List.{List, [], _∷_}
 use lib.ListN.{length, getD, length-append}
 use lib.Dec.{leb, ltb, eqb}
-use Rattle.wire.specs.Limits.{blobLimit, fieldsLimit, passphraseLimit, signatureLimit, replyRoom, itemRoom, lastNumber}
-use Rattle.wire.specs.Numbers.{within}
+use Rattle.wire.specs.Limits.{blobLimit, passphraseLimit, signatureLimit, replyRoom, itemRoom, lastNumber}
 use Rattle.wire.specs.Read.{cutOf, same, stringAt, numberAt}
 use Rattle.wire.specs.Steps.{so}
 use Rattle.wire.specs.Write.{string}
+use Rattle.keys.specs.Kinds.{blobOf}
 use Rattle.keys.specs.Additions.{additionAt}
 use Rattle.rule.specs.declared.Hash.{Hash}
 use Rattle.rule.specs.Gateway.{Place, Gateway, locked, opened, advance, seek, holds, placeFor, withEntry}
-use Rattle.rule.specs.Soundness.{EveryEntry, SoundEntry, Sound}
+use Rattle.rule.specs.Soundness.{EveryEntry, SoundEntry, Sound, fit}
 use Rattle.rule.specs.Rule.{Question, gate, check, confirmation, signature, Answer, Landing, reply, close, FAILURE, SUCCESS, Plan, land, ask, fails, closes, live, items, listed, listing, removing, removingAll, locking, unlocking, hashOf, signatureReply, signed, signingData, numberIn, confirmIn, confirming, signing, entryOf, storing, adding, gated, row, table, rule}
 use Rattle.rule.specs.Calls.{given, Numbered, forNumber, lent, lentLength, Call, lands, Result, follow, served, refusal, call}
 use Rattle.rule.specs.Order.{RepliesFit}
@@ -40,7 +40,7 @@ items-length (some e ∷ ps) h = let r = items-length ps (h .1) in let b = h .0 
 list-size : (g : Gateway) → Sound g → length (listed (g .places)) ≤ replyRoom
 unfolding listed
 list-size g s =
-    let blobs = every-imp (SoundEntry (g .clock) (g .next)) (λ e. length (e .blob) ≤ blobLimit) (λ e h. h .blob-fits) (g .places) (s .entries) in
+    let blobs = every-imp (SoundEntry (g .clock) (g .next)) (λ e. length (e .blob) ≤ blobLimit) (λ e h. h .lengths .blob-fits) (g .places) (s .entries) in
     let l = items-length (g .places) blobs in
     let eight : length (g .places) ≡ 8 = s .eight-places in
     omega arith
@@ -102,13 +102,12 @@ module _ (lent : (q : Question) → Option (Answer q)) (g : Gateway)
   adding-fits : (constrained : Bool) (payload : List ℕ) → Fits (adding constrained g payload)
   unfolding adding storing
   adding-fits constrained payload =
-      added-cases Fits (additionAt payload 1 constrained) fails-fits λ p l c _.
-      let e = entryOf g payload p l c in
-      so-fits (within 1 blobLimit (length (e .blob))) _
-      (so-fits (within 1 fieldsLimit (length (e .fields))) _
+      added-cases Fits (additionAt payload 1 constrained) fails-fits λ c _.
+      let e = entryOf g payload c (blobOf payload 1 (c .places)) in
+      so-fits (fit (e .blob) (e .fields)) _
       (so-fits (ltb (g .next) lastNumber) _
       (found-cases Fits (placeFor (e .blob) (g .places)) (λ _. fails-fits) λ i _.
-      ask-fits (check 1 (p .end)) _ (λ granted _. so-fits granted _ (success-fits (withEntry i e g))))))
+      ask-fits (check 1 (c .places .end)) _ (λ granted _. so-fits granted _ (success-fits (withEntry i e g)))))
 
   removing-fits : (payload : List ℕ) → Fits (removing g payload)
   unfolding removing

@@ -25,15 +25,18 @@ use Rattle.keys.specs.declared.constraints.Lifetime.{Lifetime}
 use Rattle.keys.specs.declared.constraints.Lifetime.the-variants.{Forever}
 use Rattle.keys.specs.declared.constraints.Walk.{Walk}
 use Rattle.keys.specs.declared.constraints.Walk.the-variants.{Done, Duplicate, Unknown, Cut}
+use Rattle.keys.specs.declared.addition.Carried.{Carried}
 use Rattle.keys.specs.declared.addition.Addition.{Addition}
 use Rattle.keys.specs.Kinds.{keyAt, blobOf}
 use Rattle.keys.specs.Additions.{limitsOf, constraintsAt, commentedAt, key, additionAt}
-use Rattle.keys.specs.Values.{secondsIn, Added, additionReads}
+use Rattle.keys.specs.Values.{Added, additionReads}
 use Rattle.keys.proofs.KeyLaws.{only-keys, every-key}
 use Rattle.keys.proofs.FieldLaws.{lies-at, lies-cut}
 use Rattle.keys.proofs.SettleLaws.{walk-rule}
+use Rattle.rule.specs.Gateway.{NewKey}
+use Rattle.rule.specs.Rule.{brought}
 use Rattle.rule.specs.Order.{Begins, Carries}
-use Rattle.rule.specs.Content.{LimitForm, plain, constrained, AddRequest, addByte, AdditionRule, SignRequest}
+use Rattle.rule.specs.Content.{LimitForm, plain, constrained, AddRequest, addByte, addedOf, AdditionRule, SignRequest}
 use Rattle.rule.proofs.Cases.{part-cases}
 
 -- ## A payload and its first byte
@@ -57,17 +60,17 @@ one-carried s t =
 -- ## The steps of an add request
 
 -- what was read one behind the other
-record Steps (s : List ℕ) (c : Bool) (p : Places) (l : Lifetime) (confirm : Bool) : Type 0 where
-  fields : keyAt s 1 ≡ Key.Whole p
+record Steps (s : List ℕ) (c : Bool) (k : Carried) : Type 0 where
+  fields : keyAt s 1 ≡ Key.Whole (k .places)
   from : ℕ
   to : ℕ
   next : Cursor
-  comment : textAt s (p .end) ≡ Whole from to next
-  limits : constraintsAt s (next .at) c ≡ Done l confirm
+  comment : textAt s (k .places .end) ≡ Whole from to next
+  limits : constraintsAt s (next .at) c ≡ Done (k .lifetime) (k .confirm)
 
-module _ (s : List ℕ) (c : Bool) (p : Places) (l : Lifetime) (confirm : Bool) where
+module _ (s : List ℕ) (c : Bool) (k : Carried) where
   abbrev Went : Addition → Type 0
-  Went a = a ≡ Addition.Whole p l confirm → Steps s c p l confirm
+  Went a = a ≡ Addition.Whole k → Steps s c k
 
   faulty : (at : ℕ) → Went (Addition.Fault at)
   faulty at e = let z : _≡_ {A = ℕ} 0 1 = cc in absurd (omega arith)
@@ -76,20 +79,22 @@ module _ (s : List ℕ) (c : Bool) (p : Places) (l : Lifetime) (confirm : Bool) 
   unfolding additionAt key commentedAt limitsOf
   steps = by-key (keyAt s 1) refl
     where
-      by-walk : (q : Places) (w : Walk) → limitsOf q w ≡ Addition.Whole p l confirm → (q ≡ p) × (w ≡ Done l confirm)
-      by-walk q (Done m b) e = let x : m ≡ l = cc in let y : b ≡ confirm = cc in ((cc), (cc))
+      by-walk : (q : Places) (w : Walk) → limitsOf q w ≡ Addition.Whole k → (q ≡ k .places) × (w ≡ Done (k .lifetime) (k .confirm))
+      by-walk q (Done m b) e =
+          let is : _≡_ {A = Carried} (record { places = q; lifetime = m; confirm = b }) k = cc in
+          (ap (λ (x : Carried). x .places) is, λ i. Done (is i .lifetime) (is i .confirm))
       by-walk q (Duplicate at) e = let z : _≡_ {A = ℕ} 0 1 = cc in absurd (omega arith)
       by-walk q (Unknown at) e = let z : _≡_ {A = ℕ} 0 1 = cc in absurd (omega arith)
       by-walk q (Cut at) e = let z : _≡_ {A = ℕ} 0 1 = cc in absurd (omega arith)
 
-      by-key : (k : Key) → keyAt s 1 ≡ k → Went (key Addition.Fault k (λ p. commentedAt s p c))
+      by-key : (read : Key) → keyAt s 1 ≡ read → Went (key Addition.Fault read (λ p. commentedAt s p c))
       by-key (Key.Whole q) h =
-          part-cases Went (textAt s (q .end)) (λ at _. faulty at) λ f t k e w.
-          let (x, y) = by-walk q (constraintsAt s (k .at) c) w in
-          record { fields = h ∙ ap Key.Whole x; from = f; to = t; next = k; comment = rw x at e; limits = y }
+          part-cases Went (textAt s (q .end)) (λ at _. faulty at) λ f t next e w.
+          let (x, y) = by-walk q (constraintsAt s (next .at) c) w in
+          record { fields = h ∙ ap Key.Whole x; from = f; to = t; next = next; comment = rw x at e; limits = y }
       by-key (Key.Fault at) h = faulty at
 
-  steps-back : Steps s c p l confirm → additionAt s 1 c ≡ Addition.Whole p l confirm
+  steps-back : Steps s c k → additionAt s 1 c ≡ Addition.Whole k
   unfolding additionAt key commentedAt part limitsOf
   steps-back r = rw (r .fields, r .comment, r .limits)
 
@@ -114,13 +119,12 @@ text-there s at v rest bytes small octets e =
 
 -- ## Add requests
 
--- what the reader of an add request says of these fields, blob and limits
-pub record AddRead (payload : List ℕ) (c : Bool) (p : Places) (fields blob : List ℕ) (l : Lifetime) (confirm : Bool) : Type 0 where
+-- what is read of an add request that brings this key
+pub record AddRead (payload : List ℕ) (c : Bool) (carried : Carried) (k : NewKey) : Type 0 where
   pub begins : Begins (addByte c) payload
-  pub read : additionAt payload 1 c ≡ Addition.Whole p l confirm
-  pub cut : cutOf payload 1 (p .end) ≡ fields
-  pub end : p .end ≡ 1 + length fields
-  pub public : blobOf payload 1 p ≡ blob
+  pub read : additionAt payload 1 c ≡ Addition.Whole carried
+  pub brings : brought payload carried (blobOf payload 1 (carried .places)) ≡ k
+  pub end : carried .places .end ≡ 1 + length (k .fields)
 
 module _ (payload : List ℕ) (bytes : Bytes payload) where
   limits-in : (c : Bool) (at : ℕ) (l : Lifetime) (confirm : Bool) → constraintsAt payload at c ≡ Done l confirm → LimitForm (addByte c) (drop at payload) l confirm
@@ -138,48 +142,50 @@ module _ (payload : List ℕ) (bytes : Bytes payload) where
   limits-out (constrained cs l confirm adds) = (true, refl, λ at e. walk-rule at (drop at payload) l confirm (drop-bytes at payload bytes) .1 (cs, e, adds))
 
   -- what is read is a request as the draft writes it
-  pub add-in : (c : Bool) (p : Places) (l : Lifetime) (confirm : Bool) → Begins (addByte c) payload → additionAt payload 1 c ≡ Addition.Whole p l confirm
-      → (fields : List ℕ) × (blob : List ℕ) × AddRequest payload fields blob l confirm × AddRead payload c p fields blob l confirm
-  add-in c p l confirm begins e =
-      let w = steps payload c p l confirm e in
+  pub add-in : (c : Bool) (carried : Carried) → Begins (addByte c) payload → additionAt payload 1 c ≡ Addition.Whole carried
+      → (k : NewKey) × AddRequest payload k × AddRead payload c carried k
+  add-in c carried begins e =
+      let p = carried .places in
+      let w = steps payload c carried e in
       let (fields, blob, form, shape, found) = only-keys payload 1 p bytes (w .fields) in
       let (octets, commented) = text-shape payload (p .end) (w .from) (w .to) (w .next) bytes (w .comment) in
-      let lies = lies-at payload 1 fields (drop (p .end) payload) (begins .some-byte) shape .0 in (
-        fields,
-        blob,
+      let lies = lies-at payload 1 fields (drop (p .end) payload) (begins .some-byte) shape .0 in
+      let cut : cutOf payload 1 (p .end) ≡ fields = ap (cutOf payload 1) (found .end) ∙ lies-cut lies in (
+        record { blob = blob; fields = fields; lifetime = carried .lifetime; confirm = carried .confirm },
         record {
           byte = addByte c;
           comment = cutOf payload (w .from) (w .to);
           rest = drop (w .next .at) payload;
           key = form;
           text = octets;
-          limits = limits-in c (w .next .at) l confirm (w .limits);
+          limits = limits-in c (w .next .at) (carried .lifetime) (carried .confirm) (w .limits);
           shape = first-shape begins ∙ ap (λ (rest : List ℕ). addByte c ∷ rest) (shape ∙ ap (λ (rest : List ℕ). fields ++ rest) commented);
         },
-        record { begins = begins; read = e; cut = ap (cutOf payload 1) (found .end) ∙ lies-cut lies; end = found .end; public = found .public },
+        record { begins = begins; read = e; brings = λ i. record { blob = found .public i; fields = cut i; lifetime = carried .lifetime; confirm = carried .confirm }; end = found .end },
       )
 
   -- what the draft writes is read
-  pub add-out : (fields blob : List ℕ) (l : Lifetime) (confirm : Bool) → length payload < 2 ^ 32 → AddRequest payload fields blob l confirm
-      → (c : Bool) × (p : Places) × AddRead payload c p fields blob l confirm
-  add-out fields blob l confirm small r =
+  pub add-out : (k : NewKey) → length payload < 2 ^ 32 → AddRequest payload k → (c : Bool) × (carried : Carried) × AddRead payload c carried k
+  add-out k small r =
+      let fields = k .fields in
       let (c, byte, limits) = limits-out (r .limits) in
       let size = simp length-append at (ap length (r .shape)) in
       let rest : List ℕ = string (r .comment) ++ r .rest in
       let shape : drop 1 payload ≡ fields ++ rest = ap (drop 1) (r .shape) in
-      let (p, found) = every-key payload 1 fields blob rest bytes (r .key) (omega arith) shape in
+      let (p, found) = every-key payload 1 fields (k .blob) rest bytes (r .key) (omega arith) shape in
       let begins : Begins (addByte c) payload = rw (← byte) (shape-first (r .shape)) in
       let (lies, behind) = lies-at payload 1 fields rest (begins .some-byte) shape in
       let commented : drop (p .end) payload ≡ rest = rw (found .end) behind in
-      let (text, left) = text-there payload (p .end) (r .comment) (r .rest) bytes (omega arith) (r .text) commented in (
+      let (text, left) = text-there payload (p .end) (r .comment) (r .rest) bytes (omega arith) (r .text) commented in
+      let carried : Carried = record { places = p; lifetime = k .lifetime; confirm = k .confirm } in
+      let cut : cutOf payload 1 (p .end) ≡ fields = ap (cutOf payload 1) (found .end) ∙ lies-cut lies in (
         c,
-        p,
+        carried,
         record {
           begins = begins;
-          read = steps-back payload c p l confirm (record { fields = found .read-so; from = _; to = _; next = _; comment = text; limits = limits _ left });
-          cut = ap (cutOf payload 1) (found .end) ∙ lies-cut lies;
+          read = steps-back payload c carried (record { fields = found .read-so; from = _; to = _; next = _; comment = text; limits = limits _ left });
+          brings = λ i. record { blob = found .public i; fields = cut i; lifetime = k .lifetime; confirm = k .confirm };
           end = found .end;
-          public = found .public;
         },
       )
 
@@ -190,23 +196,21 @@ module _ (payload : List ℕ) (bytes : Bytes payload) where
   same-byte true true e = refl
 
   abbrev Requests : Added → ℕ → Type 0
-  Requests a end =
-      (fields : List ℕ) × (l : Lifetime) × (confirm : Bool) × AddRequest payload fields (a .blob) l confirm × (end ≡ 1 + length fields)
-      × (a .limits ≡ record { seconds = secondsIn l; confirm = confirm })
+  Requests a end = (k : NewKey) × AddRequest payload k × (a ≡ addedOf k) × (end ≡ 1 + length (k .fields))
 
   said-request : (c : Bool) → Begins (addByte c) payload → (r : Addition) → additionAt payload 1 c ≡ r → (a : Added) (end : ℕ) → additionReads payload 1 r ≡ read a end → Requests a end
-  said-request c begins (Addition.Whole p l confirm) e a end says =
-      let (fields, blob, request, r) = add-in c p l confirm begins e in
-      let is : _≡_ {A = Added} (record { blob = blobOf payload 1 p; limits = record { seconds = secondsIn l; confirm = confirm } }) a = cc in
-      let ends : p .end ≡ end = cc in
-      rw (← is, ← ends) (fields, l, confirm, rw (r .public) request, r .end, refl)
+  said-request c begins (Addition.Whole carried) e a end says =
+      let (k, request, r) = add-in c carried begins e in
+      let is : addedOf (brought payload carried (blobOf payload 1 (carried .places))) ≡ a = cc in
+      let ends : carried .places .end ≡ end = cc in
+      (k, request, sym is ∙ ap addedOf (r .brings), sym ends ∙ r .end)
   said-request c begins (Addition.Fault at) e a end says = let z : _≡_ {A = ℕ} 0 1 = cc in absurd (omega arith)
 
   request-said : (c : Bool) → Begins (addByte c) payload → length payload < 2 ^ 32 → (a : Added) (end : ℕ) → Requests a end → additionReads payload 1 (additionAt payload 1 c) ≡ read a end
-  request-said c begins small a end (fields, l, confirm, request, ends, limits) =
-      let (d, p, r) = add-out fields (a .blob) l confirm small request in
+  request-said c begins small a end (k, request, is, ends) =
+      let (d, carried, r) = add-out k small request in
       let same : d ≡ c = same-byte d c (sym (r .begins .first) ∙ begins .first) in
-      rw (← same, r .read) (λ i. read (record { blob = r .public i; limits = sym limits i }) ((r .end ∙ sym ends) i))
+      rw (← same, r .read) (λ i. read ((ap addedOf (r .brings) ∙ sym is) i) ((r .end ∙ sym ends) i))
 
 pub addition-rule : AdditionRule
 addition-rule payload c a end bytes small begins =

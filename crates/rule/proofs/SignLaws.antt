@@ -70,8 +70,8 @@ signature-asks g c n from to hash bytes e = by-row (asks-in g c (signature n fro
     by-row : AsksIn g c (signature n from to hash) → Asked
     by-row (in-add past state constrained begins is) =
         adding-cases (lent (c .answers)) (atCall g c) (payloadOf c) Asks silent constrained
-        (λ p l confirm i _ _ never. let z : _≡_ {A = ℕ} 0 1 = cc in absurd (omega arith))
-        (λ p l confirm i _ _ _. silent)
+        (λ k i _ _ never. let z : _≡_ {A = ℕ} 0 1 = cc in absurd (omega arith))
+        (λ k i _ _ _. silent)
         is
     by-row (in-sign past state begins is) =
         signing-cases (lent (c .answers)) (atCall g c) (payloadOf c) Asks (λ _. silent) (λ _. silent)
@@ -184,8 +184,8 @@ confirmation-asks g c n e = by-row (asks-in g c (confirmation n) (λ class never
     by-row : AsksIn g c (confirmation n) → Asked
     by-row (in-add past state constrained begins is) =
         adding-cases (lent (c .answers)) (atCall g c) (payloadOf c) Asks silent constrained
-        (λ p l confirm i _ _ never. let z : _≡_ {A = ℕ} 0 1 = cc in absurd (omega arith))
-        (λ p l confirm i _ _ _. silent)
+        (λ k i _ _ never. let z : _≡_ {A = ℕ} 0 1 = cc in absurd (omega arith))
+        (λ k i _ _ _. silent)
         is
     by-row (in-sign past state begins is) =
         signing-cases (lent (c .answers)) (atCall g c) (payloadOf c) Asks (λ _. silent) (λ _. silent)

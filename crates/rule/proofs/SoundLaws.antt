@@ -13,7 +13,7 @@ use Rattle.wire.specs.Limits.{blobLimit, fieldsLimit, passphraseLimit, lastNumb
 use Rattle.wire.specs.Numbers.{within}
 use Rattle.wire.specs.Read.{same}
 use Rattle.rule.specs.Gateway.{Entry, Place, Gateway, lasting, atClock, advance, withLock, without, withoutAll, withEntry, vacate}
-use Rattle.rule.specs.Soundness.{EveryEntry, Apart, Distinct, SoundEntry, Sound, everyEntry, apart, distinct, soundEntry, sound}
+use Rattle.rule.specs.Soundness.{EveryEntry, Apart, Distinct, Fits, SoundEntry, Sound, everyEntry, apart, distinct, fit, soundEntry, sound}
 use Rattle.rule.specs.Rule.{Question, Answer, Landing, Plan, land, ask, rule}
 use Rattle.rule.specs.Calls.{lent, Call, refusal, refused, Result, follow, served, call}
 use Rattle.rule.specs.Runs.{endOf}
@@ -70,23 +70,27 @@ distinct-says [] = ((λ _. tt), (λ _. refl))
 distinct-says (none ∷ ps) = distinct-says ps
 distinct-says (some e ∷ ps) = both-say _ _ _ _ (every-says (apart e) (Apart e) (apart-says e) ps) (distinct-says ps)
 
+pub fit-says : (blob fields : List ℕ) → Says (fit blob fields) (Fits blob fields)
+unfolding fit
+fit-says blob fields =
+    let all = both-say _ _ _ _ (within-says 1 blobLimit (length blob)) (within-says 1 fieldsLimit (length fields)) in (
+      (λ t. let h = all .0 t in record { blob-some = h .0 .0; blob-fits = h .0 .1; fields-some = h .1 .0; fields-fit = h .1 .1 }),
+      (λ s. all .1 ((s .blob-some, s .blob-fits), (s .fields-some, s .fields-fit))),
+    )
+
 entry-says : (clock next : ℕ) (e : Entry) → Says (soundEntry clock next e) (SoundEntry clock next e)
 entry-says clock next e =
-    let b = both-say _ _ _ _ (within-says 1 blobLimit (length (e .blob))) (within-says 1 fieldsLimit (length (e .fields))) in
     let n = both-say _ _ _ _ (both-say _ _ _ _ (le-says 1 (e .number)) (lt-says (e .number) next)) (le-says (e .reading) clock) in
-    let all = both-say _ _ _ _ b n in (
+    let all = both-say _ _ _ _ (fit-says (e .blob) (e .fields)) n in (
       (λ t.
           let h = all .0 t in
           record {
-            blob-some = h .0 .0 .0;
-            blob-fits = h .0 .0 .1;
-            fields-some = h .0 .1 .0;
-            fields-fit = h .0 .1 .1;
+            lengths = h .0;
             number-first = h .1 .0 .0;
             number-taken = h .1 .0 .1;
             reading-past = h .1 .1;
           }),
-      (λ s. all .1 (((s .blob-some, s .blob-fits), (s .fields-some, s .fields-fit)), ((s .number-first, s .number-taken), s .reading-past))),
+      (λ s. all .1 (s .lengths, ((s .number-first, s .number-taken), s .reading-past))),
     )
 
 pub sound-rule : SoundRule
@@ -159,13 +163,12 @@ new-apart g e i s n p j x d h =
 
 sound-entry : (g : Gateway) (e : Entry) (i : ℕ) → Storable g e i → Sound g → Sound (withEntry i e g)
 sound-entry g e i h s =
-    let blob = within-says 1 blobLimit (length (e .blob)) .0 (h .blob) in
-    let fields = within-says 1 fieldsLimit (length (e .fields)) .0 (h .fields) in
     let left : g .next < lastNumber = h .numbers-left in
     let number : e .number ≡ g .next = h .number in
     let reading : e .reading ≡ g .clock = h .reading in
     let first : 1 ≤ g .next = s .next-first in
-    let new : SoundEntry (g .clock) (g .next + 1) e = omega arith in
+    let new : SoundEntry (g .clock) (g .next + 1) e
+    = record { lengths = fit-says (e .blob) (e .fields) .0 (h .fits); number-first = omega arith; number-taken = omega arith; reading-past = omega arith } in
     let old = every-imp (SoundEntry (g .clock) (g .next)) (SoundEntry (g .clock) (g .next + 1)) (λ x k. omega arith) (g .places) (s .entries) in
     record {
       eight-places = length-set (g .places) i (some e) ∙ s .eight-places;

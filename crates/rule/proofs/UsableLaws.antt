@@ -67,11 +67,11 @@ module _ (g : Gateway) (c : Call) (bytes : Bytes (payloadOf c)) (i : ℕ) (e : E
 
   add-keeps : (constrained : Bool) → Begins (addByte constrained) (payloadOf c) → Keeps (addResult constrained g c)
   add-keeps constrained begins =
-      adding-cases (lent (c .answers)) (atCall g c) (payloadOf c) Keeps stays constrained (λ p l confirm j _ _. stays) λ p l confirm j read storable _ success.
+      adding-cases (lent (c .answers)) (atCall g c) (payloadOf c) Keeps stays constrained (λ k j _ _. stays) λ k j read storable _ success.
       set-elsewhere (atCall g c .places) i j _ e held λ there.
-      let (fields, blob, request, r) = add-in (payloadOf c) bytes constrained p l confirm begins read in
-      let same-blob = stored-over (blobOf (payloadOf c) 1 p) j (placed _ _ j (storable .place)) there in
-      replaced fields l confirm (subst (λ b. AddRequest (payloadOf c) fields b l confirm) (sym (r .public) ∙ same-blob) request) (sym success)
+      let (new, request, r) = add-in (payloadOf c) bytes constrained k begins read in
+      let same-blob = stored-over (blobOf (payloadOf c) 1 (k .places)) j (placed _ _ j (storable .place)) there in
+      replaced new request (sym (ap (λ n. n .blob) (r .brings)) ∙ same-blob) (sym success)
 
   row-keeps : {byte : ℕ} {needs : Bool} {class : ℕ} (r : Row byte needs class) → Begins byte (payloadOf c) → Keeps (bodyResult r g c)
   unfolding listing removingAll follow

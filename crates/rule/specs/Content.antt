@@ -20,7 +20,7 @@ use Rattle.keys.specs.Values.{secondsIn, Added, additionReads}
 use Rattle.keys.specs.Forms.{KeyFields, constraintForms, Adds}
 use Rattle.rule.specs.declared.Hash.{Hash}
 use Rattle.rule.specs.declared.Hash.the-variants.{Plain, Sha256, Sha512}
-use Rattle.rule.specs.Gateway.{Entry, Place, Gateway, locked, advance}
+use Rattle.rule.specs.Gateway.{Entry, Place, Gateway, locked, advance, NewKey, newEntry}
 use Rattle.rule.specs.Soundness.{Sound}
 use Rattle.rule.specs.Rule.{gate, check, confirmation, signature, Landing, reply, close, FAILURE, SUCCESS, Plan, land, ask, rule}
 use Rattle.rule.specs.Calls.{Numbered, Answers, lent, Call, refusal, asks, lands, call}
@@ -135,22 +135,21 @@ pub data LimitForm : ℕ → List ℕ → Lifetime → Bool → Type 0 where
   plain : (rest : List ℕ) → LimitForm 17 rest Forever false
   constrained : (cs : List Constraint) (l : Lifetime) (c : Bool) → Adds Forever false cs l c → LimitForm 25 (constraintForms cs) l c
 
-pub record AddRequest (payload fields blob : List ℕ) (lifetime : Lifetime) (confirm : Bool) : Type 0 where
+pub record AddRequest (payload : List ℕ) (k : NewKey) : Type 0 where
   pub byte : ℕ
   pub comment : List ℕ
   pub rest : List ℕ
-  pub key : KeyFields fields blob
+  pub key : KeyFields (k .fields) (k .blob)
   pub text : Octets comment
-  pub limits : LimitForm byte rest lifetime confirm
-  pub shape : payload ≡ byte ∷ (fields ++ (string comment ++ rest))
+  pub limits : LimitForm byte rest (k .lifetime) (k .confirm)
+  pub shape : payload ≡ byte ∷ (k .fields ++ (string comment ++ rest))
 
 -- why an entry may leave at a call
 pub data Leaves (g : Gateway) (c : Call) (e : Entry) : Type 0 where
   expired : (seconds : Seconds) → e .lifetime ≡ For seconds → 1000 * seconds .count ≤ max (g .clock) (c .reading) - e .reading → Leaves g c e
   removed : Begins 18 (payloadOf c) → Carries (e .blob) (payloadOf c) → call g c .outcome ≡ lands SUCCESS → Leaves g c e
   cleared : Begins 19 (payloadOf c) → call g c .outcome ≡ lands SUCCESS → Leaves g c e
-  replaced : (fields : List ℕ) (lifetime : Lifetime) (confirm : Bool) → AddRequest (payloadOf c) fields (e .blob) lifetime confirm
-      → call g c .outcome ≡ lands SUCCESS → Leaves g c e
+  replaced : (k : NewKey) → AddRequest (payloadOf c) k → k .blob ≡ e .blob → call g c .outcome ≡ lands SUCCESS → Leaves g c e
 
 abbrev pub UsableUntil : Type 0
 UsableUntil =
@@ -216,17 +215,20 @@ abbrev pub addByte : Bool → ℕ
 addByte false = 17
 addByte true = 25
 
+-- what a reader says of a request that brings this
+abbrev pub addedOf : NewKey → Added
+addedOf k = record { blob = k .blob; limits = record { seconds = secondsIn (k .lifetime); confirm = k .confirm } }
+
 -- An add request is read exactly where it is one as the draft writes it: its blob, where its key fields end, and its limits.
 abbrev pub AdditionRule : Type 0
 AdditionRule =
     (payload : List ℕ) (constrained : Bool) (a : Added) (end : ℕ) → Bytes payload → length payload < 2 ^ 32 → Begins (addByte constrained) payload
     → (additionReads payload 1 (additionAt payload 1 constrained) ≡ read a end)
-    ↔ ((fields : List ℕ) × (lifetime : Lifetime) × (confirm : Bool) × AddRequest payload fields (a .blob) lifetime confirm
-    × (end ≡ 1 + length fields) × (a .limits ≡ record { seconds = secondsIn lifetime; confirm = confirm }))
+    ↔ ((k : NewKey) × AddRequest payload k × (a ≡ addedOf k) × (end ≡ 1 + length (k .fields)))
 
 -- the entry that an add request makes at a call
-abbrev pub madeBy : Gateway → Call → List ℕ → List ℕ → Lifetime → Bool → Entry
-madeBy g c fields blob lifetime confirm = record { number = g .next; reading = max (g .clock) (c .reading); lifetime = lifetime; confirm = confirm; blob = blob; fields = fields }
+abbrev pub madeBy : Gateway → Call → NewKey → Entry
+madeBy g c k = newEntry (g .next) (max (g .clock) (c .reading)) k
 
 -- e stands in place i, everything else is as it was, and the next number is taken. A blob that was held keeps its place; a new one has the
 -- lowest free place.
@@ -240,34 +242,30 @@ pub record Put (before after : Gateway) (i : ℕ) (e : Entry) : Type 0 where
       ⊎ (FreeAt before i × ((j : ℕ) → j < i → FreeAt before j → ⊥) × ((j : ℕ) (old : Entry) → HeldAt before j old → old .blob ≢ e .blob))
 
 -- what is decided before the key check is asked: the limits, the numbers that are left, and a place
-pub record MayStore (before : Gateway) (fields blob : List ℕ) : Type 0 where
-  pub blob-fits : length blob ≤ blobLimit
-  pub fields-fit : length fields ≤ fieldsLimit
+pub record MayStore (before : Gateway) (k : NewKey) : Type 0 where
+  pub blob-fits : length (k .blob) ≤ blobLimit
+  pub fields-fit : length (k .fields) ≤ fieldsLimit
   pub numbers-left : before .next < 2 ^ 64 - 1
-  pub room : ((i : ℕ) × (old : Entry) × HeldAt before i old × (old .blob ≡ blob)) ⊎ ((i : ℕ) × FreeAt before i)
+  pub room : ((i : ℕ) × (old : Entry) × HeldAt before i old × (old .blob ≡ k .blob)) ⊎ ((i : ℕ) × FreeAt before i)
 
 -- what an add's SUCCESS did, and that the key check said yes
 abbrev pub AddedOnly : Type 0
 AddedOnly =
     (g : Gateway) (c : Call) → Bytes (payloadOf c) → Begins 17 (payloadOf c) ⊎ Begins 25 (payloadOf c) → call g c .outcome ≡ lands SUCCESS
-    → (fields blob : List ℕ) × (lifetime : Lifetime) × (confirm : Bool) × (i : ℕ) × AddRequest (payloadOf c) fields blob lifetime confirm
-    × Put (atCall g c) (call g c .gateway) i (madeBy g c fields blob lifetime confirm) × MayStore (atCall g c) fields blob × (c .answers .check ≡ some true)
+    → (k : NewKey) × (i : ℕ) × AddRequest (payloadOf c) k × Put (atCall g c) (call g c .gateway) i (madeBy g c k) × MayStore (atCall g c) k
+    × (c .answers .check ≡ some true)
 
 -- a well-formed add request within the limits, past gate and key check, is stored where the blob is held or a place is free
 abbrev pub AddedAlways : Type 0
 AddedAlways =
-    (g : Gateway) (c : Call) (fields blob : List ℕ) (lifetime : Lifetime) (confirm : Bool) → Bytes (payloadOf c) → PastGate g c → locked g ≡ false
-    → AddRequest (payloadOf c) fields blob lifetime confirm → length blob ≤ blobLimit → length fields ≤ fieldsLimit → g .next < 2 ^ 64 - 1
-    → ((i : ℕ) × (old : Entry) × HeldAt (atCall g c) i old × (old .blob ≡ blob)) ⊎ ((i : ℕ) × FreeAt (atCall g c) i)
-    → c .answers .check ≡ some true
-    → call g c .outcome ≡ lands SUCCESS
+    (g : Gateway) (c : Call) (k : NewKey) → Bytes (payloadOf c) → PastGate g c → locked g ≡ false → AddRequest (payloadOf c) k → MayStore (atCall g c) k
+    → c .answers .check ≡ some true → call g c .outcome ≡ lands SUCCESS
 
 -- past the gate of an open gateway, the key check is asked of the fields alone, comment left out, and only where its yes would store the key
 abbrev pub CheckAsks : Type 0
 CheckAsks =
     (g : Gateway) (c : Call) (from to : ℕ) → Bytes (payloadOf c) → call g c .outcome ≡ asks (check from to)
-    → PastGate g c × (locked g ≡ false) × (fields blob : List ℕ) × (lifetime : Lifetime) × (confirm : Bool) × AddRequest (payloadOf c) fields blob lifetime confirm
-    × (from ≡ 1) × (to ≡ 1 + length fields) × MayStore (atCall g c) fields blob
+    → PastGate g c × (locked g ≡ false) × (k : NewKey) × AddRequest (payloadOf c) k × (from ≡ 1) × (to ≡ 1 + length (k .fields)) × MayStore (atCall g c) k
 
 -- ## Removing
 

@@ -107,15 +107,22 @@ vacate p = none
 abbrev pub withoutAll : Gateway → Gateway
 withoutAll g = withPlaces (map vacate (g .places)) g
 
--- the entry of a new key: the next number, the kept clock as reading
-abbrev pub newEntry : Gateway → Lifetime → Bool → List ℕ → List ℕ → Entry
-newEntry g lifetime confirm blob fields = record {
-  number = g .next;
-  reading = g .clock;
-  lifetime = lifetime;
-  confirm = confirm;
-  blob = blob;
-  fields = fields;
+-- what an add request brings, and the entry keeps of it
+pub record NewKey : Type 0 where
+  pub blob : List ℕ
+  pub fields : List ℕ
+  pub lifetime : Lifetime
+  pub confirm : Bool
+
+-- the entry of a new key, by its number and reading
+abbrev pub newEntry : ℕ → ℕ → NewKey → Entry
+newEntry number reading k = record {
+  number = number;
+  reading = reading;
+  lifetime = k .lifetime;
+  confirm = k .confirm;
+  blob = k .blob;
+  fields = k .fields;
 }
 
 -- "stored, next number taken"

@@ -5,19 +5,19 @@ use mathlib.Core.Option.{Option, none, some}
 use mathlib.Core.List.{List, [], _∷_, _++_}
 use lib.ListN.{length, getD}
 use lib.Dec.{leb, ltb, eqb}
-use Rattle.wire.specs.Limits.{blobLimit, fieldsLimit, passphraseLimit, lastNumber}
-use Rattle.wire.specs.Numbers.{be32, within}
+use Rattle.wire.specs.Limits.{passphraseLimit, lastNumber}
+use Rattle.wire.specs.Numbers.{be32}
 use Rattle.wire.specs.Read.{cutOf, same, stringAt, numberAt}
 use Rattle.wire.specs.Steps.{so, part, number}
 use Rattle.wire.specs.Write.{string}
-use Rattle.keys.specs.declared.kinds.Places.{Places}
-use Rattle.keys.specs.declared.constraints.Lifetime.{Lifetime}
+use Rattle.keys.specs.declared.addition.Carried.{Carried}
 use Rattle.keys.specs.declared.addition.Addition.{Addition}
 use Rattle.keys.specs.Kinds.{blobOf}
 use Rattle.keys.specs.Additions.{additionAt}
 use Rattle.rule.specs.declared.Hash.{Hash}
 use Rattle.rule.specs.declared.Hash.the-variants.{Plain, Sha256, Sha512}
-use Rattle.rule.specs.Gateway.{Entry, Place, Gateway, locked, opened, seek, holds, found, placeFor, withLock, without, withoutAll, newEntry, withEntry}
+use Rattle.rule.specs.Gateway.{Entry, Place, Gateway, locked, opened, seek, holds, found, placeFor, withLock, without, withoutAll, NewKey, newEntry, withEntry}
+use Rattle.rule.specs.Soundness.{fit}
 
 -- ## Questions, landings, plans ("One call, six outcomes")
 
@@ -142,29 +142,32 @@ signing g payload =
     confirming g payload (getD (g .places) i none) (next .at)
 
 -- going on with what an add request carries
-unfoldable pub added : {A : Type 0} → A → Addition → (Places → Lifetime → Bool → A) → A
-added z (Addition.Whole p lifetime confirm) next = next p lifetime confirm
+unfoldable pub added : {A : Type 0} → A → Addition → (Carried → A) → A
+added z (Addition.Whole c) next = next c
 added z (Addition.Fault at) next = z
 
--- the entry that an add request makes
-abbrev pub entryOf : Gateway → List ℕ → Places → Lifetime → Bool → Entry
-entryOf g payload p lifetime confirm = newEntry g lifetime confirm (blobOf payload 1 p) (cutOf payload 1 (p .end))
+-- what it brings, with the blob that was made of its fields
+abbrev pub brought : List ℕ → Carried → List ℕ → NewKey
+brought payload c blob = record { blob = blob; fields = cutOf payload 1 (c .places .end); lifetime = c .lifetime; confirm = c .confirm }
+
+-- the entry that it makes: the next number, the kept clock as reading
+abbrev pub entryOf : Gateway → List ℕ → Carried → List ℕ → Entry
+entryOf g payload c blob = newEntry (g .next) (g .clock) (brought payload c blob)
 
 -- "FAILURE if a length limit is passed, the next insertion number is 2^64-1, or the blob is new and no place is free. Then the key
 -- check; no is FAILURE. Else stored, next number taken, SUCCESS."
 unfoldable pub storing : Gateway → Entry → ℕ → Plan
 storing g e to =
-    so (fails g) (within 1 blobLimit (length (e .blob)))
-    (so (fails g) (within 1 fieldsLimit (length (e .fields)))
+    so (fails g) (fit (e .blob) (e .fields))
     (so (fails g) (ltb (g .next) lastNumber)
     (found (fails g) (placeFor (e .blob) (g .places)) λ i.
-    ask (check 1 to) λ granted. so (fails g) granted (land SUCCESS (withEntry i e g)))))
+    ask (check 1 to) λ granted. so (fails g) granted (land SUCCESS (withEntry i e g))))
 
 -- 17, 25: "key fields, comment string .., and for 25 constraints; any fault is FAILURE"
 unfoldable pub adding : Bool → Gateway → List ℕ → Plan
 adding constrained g payload =
-    added (fails g) (additionAt payload 1 constrained) λ p lifetime confirm.
-    storing g (entryOf g payload p lifetime confirm) (p .end)
+    added (fails g) (additionAt payload 1 constrained) λ c.
+    storing g (entryOf g payload c (blobOf payload 1 (c .places))) (c .places .end)
 
 -- ## The table by first byte
 

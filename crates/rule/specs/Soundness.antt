@@ -29,11 +29,15 @@ Distinct [] = Unit {0}
 Distinct (none ∷ ps) = Distinct ps
 Distinct (some e ∷ ps) = EveryEntry (Apart e) ps × Distinct ps
 
+-- "lengths within limits"
+pub record Fits (blob fields : List ℕ) : Type 0 where
+  pub blob-some : 1 ≤ length blob
+  pub blob-fits : length blob ≤ blobLimit
+  pub fields-some : 1 ≤ length fields
+  pub fields-fit : length fields ≤ fieldsLimit
+
 pub record SoundEntry (clock next : ℕ) (e : Entry) : Type 0 where
-  pub blob-some : 1 ≤ length (e .blob)
-  pub blob-fits : length (e .blob) ≤ blobLimit
-  pub fields-some : 1 ≤ length (e .fields)
-  pub fields-fit : length (e .fields) ≤ fieldsLimit
+  pub lengths : Fits (e .blob) (e .fields)
   pub number-first : 1 ≤ e .number
   pub number-taken : e .number < next
   pub reading-past : e .reading ≤ clock
@@ -61,9 +65,12 @@ distinct [] = true
 distinct (none ∷ ps) = distinct ps
 distinct (some e ∷ ps) = everyEntry (apart e) ps && distinct ps
 
+unfoldable pub fit : List ℕ → List ℕ → Bool
+fit blob fields = within 1 blobLimit (length blob) && within 1 fieldsLimit (length fields)
+
 abbrev pub soundEntry : ℕ → ℕ → Entry → Bool
 soundEntry clock next e =
-    (within 1 blobLimit (length (e .blob)) && within 1 fieldsLimit (length (e .fields)))
+    fit (e .blob) (e .fields)
     && ((leb 1 (e .number) && ltb (e .number) next) && leb (e .reading) clock)
 
 unfoldable pub sound : Gateway → Bool

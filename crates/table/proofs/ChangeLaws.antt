@@ -12,12 +12,11 @@ use borrow.Rule.Slice.PartMut.{midOf, putMid}
 use lib.Dec.{eqb}
 use lib.ListN.{length, drop, getD, set, replicate, length-drop, length-map, length-set}
 use lib.Seq.{length-take-le}
-use Rattle.wire.specs.Limits.{placeSize, storeSize, blobLimit, fieldsLimit, passphraseLimit, lastNumber}
+use Rattle.wire.specs.Limits.{placeSize, storeSize, passphraseLimit, lastNumber}
 use Rattle.wire.specs.Steps.{so}
-use Rattle.keys.specs.declared.constraints.Lifetime.{Lifetime}
 use Rattle.rule.specs.declared.Millis.{Millis}
-use Rattle.rule.specs.Gateway.{Entry as Key, Place, Gateway, dueAt, lasting, atClock, advance, vacate, withLock, without, withoutAll, newEntry, withEntry}
-use Rattle.rule.specs.Soundness.{EveryEntry, SoundEntry, Apart}
+use Rattle.rule.specs.Gateway.{Entry as Key, Place, Gateway, dueAt, lasting, atClock, advance, vacate, withLock, without, withoutAll, NewKey, newEntry, withEntry}
+use Rattle.rule.specs.Soundness.{EveryEntry, Fits, SoundEntry, Apart}
 use Rattle.rule.specs.Soundness as rule
 use Rattle.rule.proofs.Cases.{so-cases}
 use Rattle.rule.proofs.PlaceLaws.{Holds, every-at, every-imp, set-every, set-distinct, set-none-fewer, freed-fewer, vacate-frees, distinct-at, found-at, absent-differs, Placed, replacing, anew, placed, place-inside}
@@ -25,12 +24,12 @@ use Rattle.rule.proofs.SoundLaws.{sound-fewer, sound-lock, sound-advance}
 use Rattle.table.specs.declared.Entry.{Entry}
 use Rattle.table.specs.declared.LockRecord.{LockRecord}
 use Rattle.table.specs.declared.State.{State}
-use Rattle.table.specs.Meaning.{lifetimeOf, placeOf, view, gatewayOf, heldEntry, heldBytes, entryFor, bytesFor, laid, lockOf, stateOf, layout, Written}
+use Rattle.table.specs.Meaning.{lifetimeOf, placeOf, view, gatewayOf, heldBytes, entryFor, bytesFor, laid, lockOf, stateOf, layout, Written}
 use Rattle.table.specs.Soundness.{Sound, Means}
 use Rattle.table.specs.Changes.{Standing, NoOther, MayPut}
 use Rattle.table.specs.Promises.{PlaceForPut}
 use Rattle.table.proofs.FoundLaws.{at-place}
-use Rattle.table.proofs.LayoutLaws.{Fits, free-size, key-size, laid-size, laid-at, laid-set, entries-set, laid-free, entries-free}
+use Rattle.table.proofs.LayoutLaws.{KeyFits, free-size, key-size, laid-size, laid-at, laid-set, entries-set, laid-free, entries-free}
 use Rattle.table.proofs.WritingLaws.{Writing, sound-writing, sound-meaning, key-fits, key-back, free-back, lock-written, means-of}
 
 -- a state written field by field as a sound gateway is means it
@@ -53,17 +52,15 @@ no-other g blob i G (anew absent _) j k n h same = every-at (λ x. x .blob ≢ b
 pub record New (g : Gateway) (k : Key) : Type 0 where
   pub number : k .number ≡ g .next
   pub reading : k .reading ≡ g .clock
-  pub blob-some : 1 ≤ length (k .blob)
-  pub blob-fits : length (k .blob) ≤ blobLimit
-  pub fields-some : 1 ≤ length (k .fields)
-  pub fields-fit : length (k .fields) ≤ fieldsLimit
+  pub lengths : Fits (k .blob) (k .fields)
 
 sound-put : (g : Gateway) (i : ℕ) (k : Key) → rule.Sound g → New g k → g .next < lastNumber → NoOther i (k .blob) (g .places) → rule.Sound (withEntry i k g)
 sound-put g i k G new left alone =
     let number : k .number ≡ g .next = new .number in
     let reading : k .reading ≡ g .clock = new .reading in
     let first : 1 ≤ g .next = G .next-first in
-    let later : SoundEntry (g .clock) (g .next + 1) k = omega arith in
+    let later : SoundEntry (g .clock) (g .next + 1) k
+    = record { lengths = new .lengths; number-first = omega arith; number-taken = omega arith; reading-past = omega arith } in
     record {
       eight-places = length-set (g .places) i (some k) ∙ G .eight-places;
       entries = set-every (SoundEntry (g .clock) (g .next + 1)) (g .places) i k later
@@ -82,20 +79,17 @@ sound-put g i k G new left alone =
 
 pub place-for-put : PlaceForPut
 unfolding gatewayOf
-place-for-put s x i blob fields S for blob-some blob-fits fields-some fields-fit left =
+place-for-put s x i k S for lengths left =
     let G = sound-meaning s x S in
-    let at = placed blob (gatewayOf s x .places) i (at-place _ i for) in
+    let at = placed (k .blob) (gatewayOf s x .places) i (at-place _ i for) in
     let eight = G .eight-places in
-    let inside = place-inside blob (gatewayOf s x .places) i at in
+    let inside = place-inside (k .blob) (gatewayOf s x .places) i at in
     record {
       sound = S;
       place = omega arith;
       numbers-left = left;
-      blob-some = blob-some;
-      blob-fits = blob-fits;
-      fields-some = fields-some;
-      fields-fit = fields-fit;
-      alone = no-other (gatewayOf s x) blob i G at;
+      lengths = lengths;
+      alone = no-other (gatewayOf s x) (k .blob) i G at;
     }
 
 -- ## One place
@@ -124,7 +118,7 @@ module _ (s : State) (x : List ℕ) (S : Sound s x) (i from to : ℕ) (h : i < 8
       let old = sound-writing s x S in
       let ps = view (s .entries) x in
       let eight : length ps ≡ 8 = sound-meaning s x S .eight-places in
-      let fit = every-imp (SoundEntry (s .clock .count) (s .next)) Fits (key-fits (s .clock .count) (s .next)) ps (old .keys) in
+      let fit = every-imp (SoundEntry (s .clock .count) (s .next)) KeyFits (key-fits (s .clock .count) (s .next)) ps (old .keys) in
       let entries : set (s .entries) i e ≡ map entryFor (set ps i q) = (λ j. set (old .entries j) i (w .entry j)) ∙ entries-set ps i q in
       let store : putMid from (to - from) x p ≡ laid (set ps i q) =
       rw (spans .span, spans .start) ((λ j. putMid (i * placeSize) placeSize (old .store j) (w .bytes j)) ∙ laid-set ps fit i q (omega arith)) in
@@ -140,13 +134,14 @@ module _ (s : State) (x : List ℕ) (S : Sound s x) (i from to : ℕ) (h : i < 8
       (sound-fewer g (without i g) (length-set (g .places) i none) (set-none-fewer (g .places) i) refl (omega arith) refl G)
 
   -- "stored, next number taken"
-  pub stored : (lifetime : Lifetime) (confirm : Bool) (blob fields : List ℕ) (e : Entry) (p : List ℕ) → MayPut s x i blob fields
-      → e ≡ heldEntry (s .next) (s .clock) lifetime confirm (length blob) (length fields) → p ≡ heldBytes blob fields
-      → Means (record { entries = set (s .entries) i e; lock = s .lock; clock = s .clock; next = s .next + 1 }) (putMid from (to - from) x p) (withEntry i (newEntry g lifetime confirm blob fields) g)
-  unfolding gatewayOf entryFor bytesFor
-  stored lifetime confirm blob fields e p may entry bytes =
-      let k = newEntry g lifetime confirm blob fields in
-      changed (some k) e p (s .next + 1) (record { entry = entry; bytes = bytes }) (sound-put g i k (sound-meaning s x S) (record { number = refl; reading = refl; blob-some = may .blob-some; blob-fits = may .blob-fits; fields-some = may .fields-some; fields-fit = may .fields-fit }) (may .numbers-left) (may .alone))
+  pub stored : (new : NewKey) (e : Entry) (p : List ℕ) → MayPut s x i new → e ≡ entryFor (some (newEntry (s .next) (s .clock .count) new)) → p ≡ heldBytes (new .blob) (new .fields)
+      → Means (record { entries = set (s .entries) i e; lock = s .lock; clock = s .clock; next = s .next + 1 }) (putMid from (to - from) x p)
+      (withEntry i (newEntry (g .next) (g .clock) new) g)
+  unfolding gatewayOf bytesFor
+  stored new e p may entry bytes =
+      let k = newEntry (s .next) (s .clock .count) new in
+      let sound = sound-put g i k (sound-meaning s x S) (record { number = refl; reading = refl; lengths = may .lengths }) (may .numbers-left) (may .alone) in
+      changed (some k) e p (s .next + 1) (record { entry = entry; bytes = bytes }) sound
 
 -- ## All places, and the lock
 
@@ -259,7 +254,7 @@ pub record Stands (clock : ℕ) (e : Entry) (p : List ℕ) (q : Place) : Type 0 
   pub standing : Standing clock e p
 
 written-stands : (clock next : ℕ) (e : Entry) (p : List ℕ) (q : Place) → KeyIn clock next q → Written e p q → Stands clock e p q
-unfolding entryFor heldEntry
+unfolding entryFor
 written-stands clock next e p q (no-key is) w =
     let there : placeOf e p ≡ none = (λ j. placeOf (w .entry j) (w .bytes j)) ∙ rw is free-back in
     record {
@@ -284,7 +279,7 @@ written-stands clock next e p q (a-key k is sound) w =
 -- a store of eight places
 pub writing-size : (clock next : ℕ) (es : List Entry) (x : List ℕ) (ps : List Place) → Writing clock next es x ps → length ps ≡ 8 → length x ≡ storeSize
 writing-size clock next es x ps w eight =
-    let fit = every-imp (SoundEntry clock next) Fits (key-fits clock next) ps (w .keys) in
+    let fit = every-imp (SoundEntry clock next) KeyFits (key-fits clock next) ps (w .keys) in
     ap length (w .store) ∙ laid-size ps fit ∙ ap (λ (n : ℕ). n * placeSize) eight
 
 -- one turn of the sweep
@@ -300,7 +295,7 @@ module _ (clock next : ℕ) (ps : List Place) (i from to : ℕ) (es : List Entry
   sweep-stands =
       let long : length (swept clock i ps) ≡ length ps = swept-length clock i ps in
       let inside : i < length (swept clock i ps) = omega arith in
-      let fit = every-imp (SoundEntry clock next) Fits (key-fits clock next) (swept clock i ps) (w .keys) in
+      let fit = every-imp (SoundEntry clock next) KeyFits (key-fits clock next) (swept clock i ps) (w .keys) in
       let entry : here ≡ entryFor (getD (swept clock i ps) i none) = ap (λ (l : List Entry). getD l i e₀) (w .entries) ∙ getD-map entryFor (swept clock i ps) i none e₀ inside in
       let bytes : part ≡ bytesFor (getD (swept clock i ps) i none) = rw (spans .span, spans .start, w .store) (laid-at (swept clock i ps) fit i inside) in
       rw swept-at at (written-stands clock next here part (getD (swept clock i ps) i none) (key-in clock next (swept clock i ps) (w .keys) i) (record { entry = entry; bytes = bytes }))
@@ -308,7 +303,7 @@ module _ (clock next : ℕ) (ps : List Place) (i from to : ℕ) (es : List Entry
   pub sweep-step : (e : Entry) (p : List ℕ) → Written e p (lasting clock (placeOf here part)) → Writing clock next (set es i e) (putMid from (to - from) x p) (swept clock (i + 1) ps)
   sweep-step e p new =
       let long : length (swept clock i ps) ≡ length ps = swept-length clock i ps in
-      let fit = every-imp (SoundEntry clock next) Fits (key-fits clock next) (swept clock i ps) (w .keys) in
+      let fit = every-imp (SoundEntry clock next) KeyFits (key-fits clock next) (swept clock i ps) (w .keys) in
       let q = lasting clock (getD ps i none) in
       let new-is : Written e p q = rw (sweep-stands .place) at new in
       let step = swept-step clock i ps h in

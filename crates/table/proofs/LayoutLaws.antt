@@ -10,15 +10,14 @@ use lib.ListN.{length, take, drop, getD, set, replicate, length-append, length-r
 use lib.Seq.{take-at, drop-at, drop-drop, take-append-add, drop-append-add}
 use Rattle.wire.specs.Limits.{placeSize, blobLimit, fieldsLimit}
 use Rattle.rule.specs.Gateway.{Entry as Key, Place, vacate}
-use Rattle.rule.specs.Soundness.{EveryEntry}
+use Rattle.rule.specs.Soundness.{EveryEntry, Fits}
 use Rattle.table.specs.declared.Entry.{Entry}
 use Rattle.table.specs.Meaning.{heldBytes, entryFor, bytesFor, laid}
 use Rattle.table.proofs.ByteLaws.{padded-size}
 
 -- a key whose bytes have room in a place
-pub record Fits (k : Key) : Type 0 where
-  pub blob-fits : length (k .blob) ≤ blobLimit
-  pub fields-fit : length (k .fields) ≤ fieldsLimit
+abbrev pub KeyFits : Key → Type 0
+KeyFits k = Fits (k .blob) (k .fields)
 
 held-size : (blob fields : List ℕ) → length blob ≤ blobLimit → length fields ≤ fieldsLimit → length (heldBytes blob fields) ≡ placeSize
 unfolding heldBytes
@@ -28,20 +27,20 @@ pub free-size : length (bytesFor none) ≡ placeSize
 unfolding bytesFor
 free-size = length-replicate {A = ℕ} placeSize 0
 
-pub key-size : (k : Key) → Fits k → length (bytesFor (some k)) ≡ placeSize
+pub key-size : (k : Key) → KeyFits k → length (bytesFor (some k)) ≡ placeSize
 unfolding bytesFor
 key-size k fits = held-size (k .blob) (k .fields) (fits .blob-fits) (fits .fields-fit)
 
 -- the first place and the rest
 pub record FitsFirst (p : Place) (ps : List Place) : Type 0 where
   pub first : length (bytesFor p) ≡ placeSize
-  pub rest : EveryEntry Fits ps
+  pub rest : EveryEntry KeyFits ps
 
-fits-first : (p : Place) (ps : List Place) → EveryEntry Fits (p ∷ ps) → FitsFirst p ps
+fits-first : (p : Place) (ps : List Place) → EveryEntry KeyFits (p ∷ ps) → FitsFirst p ps
 fits-first none ps all = record { first = free-size; rest = all }
 fits-first (some k) ps all = record { first = key-size k (all .0); rest = all .1 }
 
-pub laid-size : (ps : List Place) → EveryEntry Fits ps → length (laid ps) ≡ length ps * placeSize
+pub laid-size : (ps : List Place) → EveryEntry KeyFits ps → length (laid ps) ≡ length ps * placeSize
 unfolding laid
 laid-size [] all = sym (zero-mul placeSize)
 laid-size (p ∷ ps) all =
@@ -52,7 +51,7 @@ laid-size (p ∷ ps) all =
 next-place : (i : ℕ) → suc i * placeSize ≡ placeSize + i * placeSize
 next-place i = omega (arith, suc-mul i placeSize)
 
-pub laid-at : (ps : List Place) → EveryEntry Fits ps → (i : ℕ) → i < length ps → take placeSize (drop (i * placeSize) (laid ps)) ≡ bytesFor (getD ps i none)
+pub laid-at : (ps : List Place) → EveryEntry KeyFits ps → (i : ℕ) → i < length ps → take placeSize (drop (i * placeSize) (laid ps)) ≡ bytesFor (getD ps i none)
 unfolding laid
 laid-at [] all i h = absurd (not-suc-le-zero h)
 laid-at (p ∷ ps) all zero h = take-at (bytesFor p) (laid ps) placeSize (fits-first p ps all .first)
@@ -65,7 +64,7 @@ laid-at (p ∷ ps) all (suc i) h =
 put-behind : (a s b : List ℕ) (n k w : ℕ) → length a ≡ w → putMid (w + n) k (a ++ s) b ≡ a ++ putMid n k s b
 put-behind a s b n k w l = rw (← l, take-append-add, drop-append-add, append-assoc)
 
-pub laid-set : (ps : List Place) → EveryEntry Fits ps → (i : ℕ) (q : Place) → i < length ps → putMid (i * placeSize) placeSize (laid ps) (bytesFor q) ≡ laid (set ps i q)
+pub laid-set : (ps : List Place) → EveryEntry KeyFits ps → (i : ℕ) (q : Place) → i < length ps → putMid (i * placeSize) placeSize (laid ps) (bytesFor q) ≡ laid (set ps i q)
 unfolding laid
 laid-set [] all i q h = absurd (not-suc-le-zero h)
 laid-set (p ∷ ps) all zero q h = rw (drop-at (bytesFor p) (laid ps) placeSize (fits-first p ps all .first))

@@ -24,12 +24,12 @@ use Rattle.table.specs.declared.LockRecord.{LockRecord}
 use Rattle.table.specs.declared.State.{State}
 use Rattle.table.specs.Bytes.{padded}
 use Rattle.table.specs.Each.{each, Each}
-use Rattle.table.specs.Meaning.{size, isSet, lifetimeOf, keyOf, placeOf, view, passphrase, gatewayOf, flagOf, limitedFlag, keptSeconds, heldEntry, heldBytes, entryFor, bytesFor, laid, lockOf, stateOf, layout}
+use Rattle.table.specs.Meaning.{size, isSet, lifetimeOf, keyOf, placeOf, view, passphrase, gatewayOf, flagOf, limitedFlag, keptSeconds, heldBytes, entryFor, bytesFor, laid, lockOf, stateOf, layout}
 use Rattle.table.specs.Soundness.{Flag, SoundPlace, free, held, SoundLock, Sound, Means}
 use Rattle.table.specs.Promises.{FlagRule, SoundMeaning, SoundCanonical, OneWriting, EveryGateway, FreshMeans}
 use Rattle.table.proofs.ByteLaws.{padded-size, padded-front, padded-rest, zeros-padded}
 use Rattle.table.proofs.EachLaws.{each-length}
-use Rattle.table.proofs.LayoutLaws.{Fits, free-size, key-size, laid-size, laid-free}
+use Rattle.table.proofs.LayoutLaws.{KeyFits, free-size, key-size, laid-size, laid-free}
 
 -- ## One place
 
@@ -59,7 +59,7 @@ pub data Seen (clock next : ℕ) (e : Entry) (p : List ℕ) : Type 0 where
 
 module _ (clock next : ℕ) (e : Entry) (p : List ℕ) (whole : length p ≡ placeSize) where
   pub seen : SoundPlace clock next e p → Seen clock next e p
-  unfolding placeOf entryFor bytesFor heldEntry heldBytes so
+  unfolding placeOf entryFor bytesFor heldBytes so
   seen (free f z) = seen-free (rw f) f (z ∙ ap (λ (n : ℕ). replicate n 0) whole)
   seen (held s) =
       let number : e .number ≡ 0 → ⊥ = λ (n : e .number ≡ 0). let h = s .number-first in omega arith in
@@ -85,10 +85,12 @@ module _ (clock next : ℕ) (e : Entry) (p : List ℕ) (whole : length p ≡ pla
       })
       (sym (take-append-drop fieldsAt p) ∙ (λ j. blob j ++ fields j))
       (record {
-        blob-some = rw blob-size (s .blob-some);
-        blob-fits = rw blob-size (s .blob-fits);
-        fields-some = rw fields-size (s .fields-some);
-        fields-fit = rw fields-size (s .fields-fit);
+        lengths = record {
+          blob-some = rw blob-size (s .blob-some);
+          blob-fits = rw blob-size (s .blob-fits);
+          fields-some = rw fields-size (s .fields-some);
+          fields-fit = rw fields-size (s .fields-fit);
+        };
         number-first = s .number-first;
         number-taken = s .number-taken;
         reading-past = s .reading-past;
@@ -178,12 +180,12 @@ unfolding so
 lifetime-back Forever = refl
 lifetime-back (For seconds) = refl
 
-pub key-fits : (clock next : ℕ) (k : Key) → SoundEntry clock next k → Fits k
-key-fits clock next k s = record { blob-fits = s .blob-fits; fields-fit = s .fields-fit }
+pub key-fits : (clock next : ℕ) (k : Key) → SoundEntry clock next k → KeyFits k
+key-fits clock next k s = s .lengths
 
 module _ (clock next : ℕ) (k : Key) (s : SoundEntry clock next k) where
   blob-padded : length (padded blobLimit (k .blob)) ≡ blobLimit
-  blob-padded = padded-size blobLimit (k .blob) (s .blob-fits)
+  blob-padded = padded-size blobLimit (k .blob) (s .lengths .blob-fits)
 
   blob-part : take fieldsAt (heldBytes (k .blob) (k .fields)) ≡ padded blobLimit (k .blob)
   unfolding heldBytes
@@ -196,20 +198,20 @@ module _ (clock next : ℕ) (k : Key) (s : SoundEntry clock next k) where
   blob-back : take (length (k .blob)) (heldBytes (k .blob) (k .fields)) ≡ k .blob
   unfolding heldBytes
   blob-back =
-      let h : length (k .blob) ≤ length (padded blobLimit (k .blob)) = rw blob-padded (s .blob-fits) in
+      let h : length (k .blob) ≤ length (padded blobLimit (k .blob)) = rw blob-padded (s .lengths .blob-fits) in
       take-append-le (length (k .blob)) (padded blobLimit (k .blob)) (padded fieldsLimit (k .fields)) h ∙ padded-front blobLimit (k .blob)
 
   fields-back : take (length (k .fields)) (drop fieldsAt (heldBytes (k .blob) (k .fields))) ≡ k .fields
   fields-back = rw fields-part (padded-front fieldsLimit (k .fields))
 
   pub key-back : placeOf (entryFor (some k)) (bytesFor (some k)) ≡ some k
-  unfolding placeOf entryFor bytesFor heldEntry so
+  unfolding placeOf entryFor bytesFor so
   key-back =
       let number : k .number ≡ 0 → ⊥ = λ (n : k .number ≡ 0). let h = s .number-first in omega arith in
       rw (ne-eqb (k .number) 0 number, blob-back, fields-back, lifetime-back, flag-back)
 
   key-sound : SoundPlace clock next (entryFor (some k)) (bytesFor (some k))
-  unfolding entryFor bytesFor heldEntry
+  unfolding entryFor bytesFor
   key-sound = held (record {
     number-first = s .number-first;
     number-taken = s .number-taken;
@@ -217,10 +219,10 @@ module _ (clock next : ℕ) (k : Key) (s : SoundEntry clock next k) where
     limited-flag = limited-sound (k .lifetime);
     confirm-flag = flag-sound (k .confirm);
     no-seconds = no-seconds (k .lifetime);
-    blob-some = s .blob-some;
-    blob-fits = s .blob-fits;
-    fields-some = s .fields-some;
-    fields-fit = s .fields-fit;
+    blob-some = s .lengths .blob-some;
+    blob-fits = s .lengths .blob-fits;
+    fields-some = s .lengths .fields-some;
+    fields-fit = s .lengths .fields-fit;
     blob-rest = rw blob-part (padded-rest blobLimit (k .blob));
     fields-rest = rw fields-part (padded-rest fieldsLimit (k .fields));
   })
@@ -254,8 +256,8 @@ module _ (clock next : ℕ) where
       let l = key-size k (key-fits clock next k (all .0)) in
       rw (take-at (bytesFor (some k)) (laid ps) placeSize l, drop-at (bytesFor (some k)) (laid ps) placeSize l) (key-sound clock next k (all .0), each-back ps (all .1))
 
-keys-fit : (g : Gateway) → rule.Sound g → EveryEntry Fits (g .places)
-keys-fit g G = every-imp (SoundEntry (g .clock) (g .next)) Fits (key-fits (g .clock) (g .next)) (g .places) (G .entries)
+keys-fit : (g : Gateway) → rule.Sound g → EveryEntry KeyFits (g .places)
+keys-fit g G = every-imp (SoundEntry (g .clock) (g .next)) KeyFits (key-fits (g .clock) (g .next)) (g .places) (G .entries)
 
 lock-sound : (p : List ℕ) → length p ≤ passphraseLimit → SoundLock (lockOf p)
 unfolding lockOf

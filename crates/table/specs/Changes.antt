@@ -5,8 +5,9 @@ use mathlib.Core.Logic.{_≢_}
 use mathlib.Core.Option.{none, some}
 use mathlib.Core.List.{List}
 use lib.ListN.{length, getD}
-use Rattle.wire.specs.Limits.{placeSize, blobLimit, fieldsLimit, lastNumber}
-use Rattle.rule.specs.Gateway.{Entry as Key, Place}
+use Rattle.wire.specs.Limits.{placeSize, lastNumber}
+use Rattle.rule.specs.Gateway.{Entry as Key, Place, NewKey}
+use Rattle.rule.specs.Soundness.{Fits}
 use Rattle.table.specs.declared.Entry.{Entry}
 use Rattle.table.specs.declared.State.{State}
 use Rattle.table.specs.Meaning.{placeOf, gatewayOf, Written}
@@ -22,12 +23,9 @@ pub record Standing (clock : ℕ) (e : Entry) (p : List ℕ) : Type 0 where
 abbrev pub NoOther : ℕ → List ℕ → List Place → Type 0
 NoOther i blob ps = (j : ℕ) (k : Key) → j ≢ i → getD ps j none ≡ some k → k .blob ≢ blob
 
-pub record MayPut (s : State) (x : List ℕ) (i : ℕ) (blob fields : List ℕ) : Type 0 where
+pub record MayPut (s : State) (x : List ℕ) (i : ℕ) (k : NewKey) : Type 0 where
   pub sound : Sound s x
   pub place : i < 8
   pub numbers-left : s .next < lastNumber
-  pub blob-some : 1 ≤ length blob
-  pub blob-fits : length blob ≤ blobLimit
-  pub fields-some : 1 ≤ length fields
-  pub fields-fit : length fields ≤ fieldsLimit
-  pub alone : NoOther i blob (gatewayOf s x .places)
+  pub lengths : Fits (k .blob) (k .fields)
+  pub alone : NoOther i (k .blob) (gatewayOf s x .places)

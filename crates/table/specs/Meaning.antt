@@ -11,7 +11,6 @@ use Rattle.wire.specs.declared.Seconds.{Seconds}
 use Rattle.wire.specs.Steps.{so}
 use Rattle.keys.specs.declared.constraints.Lifetime.{Lifetime}
 use Rattle.keys.specs.declared.constraints.Lifetime.the-variants.{Forever, For}
-use Rattle.rule.specs.declared.Millis.{Millis}
 use Rattle.rule.specs.Gateway.{Entry as Key, Place, Gateway}
 use Rattle.table.specs.declared.Entry.{Entry}
 use Rattle.table.specs.declared.LockRecord.{LockRecord}
@@ -89,24 +88,21 @@ abbrev pub keptSeconds : Lifetime → Seconds
 keptSeconds Forever = record { count = 0 }
 keptSeconds (For seconds) = seconds
 
-unfoldable pub heldEntry : ℕ → Millis → Lifetime → Bool → ℕ → ℕ → Entry
-heldEntry number reading lifetime confirm blobLen fieldsLen = record {
-  number = number;
-  reading = reading;
-  limited = limitedFlag lifetime;
-  seconds = keptSeconds lifetime;
-  confirm = flagOf confirm;
-  «blob_len» = blobLen;
-  «fields_len» = fieldsLen;
-}
-
 -- "unused bytes are zero"
 unfoldable pub heldBytes : List ℕ → List ℕ → List ℕ
 heldBytes blob fields = padded blobLimit blob ++ padded fieldsLimit fields
 
 unfoldable pub entryFor : Place → Entry
 entryFor none = freeEntry
-entryFor (some k) = heldEntry (k .number) (record { count = k .reading }) (k .lifetime) (k .confirm) (length (k .blob)) (length (k .fields))
+entryFor (some k) = record {
+  number = k .number;
+  reading = record { count = k .reading };
+  limited = limitedFlag (k .lifetime);
+  seconds = keptSeconds (k .lifetime);
+  confirm = flagOf (k .confirm);
+  «blob_len» = length (k .blob);
+  «fields_len» = length (k .fields);
+}
 
 unfoldable pub bytesFor : Place → List ℕ
 bytesFor none = replicate placeSize 0

@@ -6,13 +6,14 @@ use mathlib.Core.List.{List}
 use mathlib.Core.Logic.{_↔_, _⊎_, _≢_}
 use mathlib.Core.Option.{Option, none, some}
 use lib.ListN.{length, getD, replicate}
-use Rattle.wire.specs.Limits.{storeSize, blobLimit, fieldsLimit, passphraseLimit, lastNumber}
+use Rattle.wire.specs.Limits.{storeSize, passphraseLimit, lastNumber}
 use Rattle.wire.specs.Promises.{OneToOne}
 use Rattle.keys.specs.declared.constraints.Lifetime.the-variants.{Forever, For}
 use Rattle.rule.specs.declared.Found.{Found}
-use Rattle.rule.specs.Gateway.{Entry as Key, Place, Gateway, fresh, seek, holds, placeFor}
+use Rattle.rule.specs.Gateway.{Entry as Key, Place, Gateway, fresh, seek, holds, placeFor, NewKey}
 use Rattle.rule.specs.Searches.{foundPlace}
 use Rattle.rule.specs.Soundness as rule
+use Rattle.rule.specs.Soundness.{Fits}
 use Rattle.table.specs.declared.Entry.{Entry}
 use Rattle.table.specs.declared.State.{State}
 use Rattle.table.specs.Meaning.{keyOf, gatewayOf, stateOf, layout}
@@ -82,6 +83,5 @@ PlaceForRule =
 -- that place may take it
 abbrev pub PlaceForPut : Type 0
 PlaceForPut =
-    (s : State) (x : List ℕ) (i : ℕ) (blob fields : List ℕ) → Sound s x → foundPlace (placeFor blob (gatewayOf s x .places)) ≡ some i
-    → 1 ≤ length blob → length blob ≤ blobLimit → 1 ≤ length fields → length fields ≤ fieldsLimit → gatewayOf s x .next < lastNumber
-    → MayPut s x i blob fields
+    (s : State) (x : List ℕ) (i : ℕ) (k : NewKey) → Sound s x → foundPlace (placeFor (k .blob) (gatewayOf s x .places)) ≡ some i
+    → Fits (k .blob) (k .fields) → gatewayOf s x .next < lastNumber → MayPut s x i k

@@ -7,16 +7,20 @@ use crate::flag_of;
 use crate::free_entry;
 use crate::is_set;
 use crate::places::start_of;
+use keys::addition::Carried;
 use keys::constraints::Lifetime;
 use rule::Millis;
 use wire::Seconds;
 use wire::limits;
+use wire::read::cut;
 ghost use mathlib.Core.Path.{_≡_};
+ghost use mathlib.Core.Option.{some};
 ghost use Prim.Native.Nat.{_≤_, _<_, max};
 ghost use lib.ListN.{length};
 ghost use Rattle.wire.specs.Limits.{placeSize, blobLimit, fieldsLimit};
 ghost use Rattle.rule.specs.Gateway.{millisOf, dueAt, lasting, advance, without, withoutAll, newEntry, withEntry};
-ghost use Rattle.table.specs.Meaning.{lifetimeOf, gatewayOf, placeOf, heldEntry, heldBytes, Written};
+ghost use Rattle.rule.specs.Rule.{brought, entryOf};
+ghost use Rattle.table.specs.Meaning.{lifetimeOf, gatewayOf, placeOf, limitedFlag, keptSeconds, entryFor, heldBytes, Written};
 ghost use Rattle.table.specs.Soundness.{Sound, Means};
 ghost use Rattle.table.specs.Changes.{Standing, MayPut};
 
@@ -126,37 +130,45 @@ pub fn remove_all(state: State, store: &mut [u8]) -> State
     }
 }
 
-// The entry of a key; what it keeps of its lifetime is a flag and seconds, and of Confirm a flag.
+// What an entry keeps of its lifetime: a flag, and seconds.
+fn limited_flag(lifetime: Lifetime) -> u8
+    ensures { λ r. ⌜ r ≡ limitedFlag lifetime ⌝ }
+{
+    match lifetime {
+        Lifetime::Forever => 0,
+        Lifetime::For(_) => 1,
+    }
+}
+
+fn kept_seconds(lifetime: Lifetime) -> Seconds
+    ensures { λ r. ⌜ r ≡ keptSeconds lifetime ⌝ }
+{
+    match lifetime {
+        Lifetime::Forever => Seconds { count: 0 },
+        Lifetime::For(seconds) => seconds,
+    }
+}
+
+// The entry of a new key.
 fn held_entry(
     number: u64,
     reading: Millis,
-    lifetime: Lifetime,
-    confirm: bool,
-    blob_len: usize,
-    fields_len: usize,
+    payload: &[u8],
+    carried: Carried,
+    blob: &[u8],
 ) -> Entry
-    ensures { λ r. ⌜ r ≡ heldEntry number reading lifetime confirm «blob_len» «fields_len» ⌝ }
+    ensures { λ r. ⌜ r ≡ entryFor (some (newEntry number (reading .count) (brought (now (payload .entry)) carried (now (blob .entry))))) ⌝ }
 {
-    let flag = flag_of(confirm);
-    match lifetime {
-        Lifetime::Forever => Entry {
-            number,
-            reading,
-            limited: 0,
-            seconds: Seconds { count: 0 },
-            confirm: flag,
-            blob_len,
-            fields_len,
-        },
-        Lifetime::For(seconds) => Entry {
-            number,
-            reading,
-            limited: 1,
-            seconds,
-            confirm: flag,
-            blob_len,
-            fields_len,
-        },
+    let lifetime = carried.lifetime;
+    let fields = cut(payload, 1, carried.places.end);
+    Entry {
+        number,
+        reading,
+        limited: limited_flag(lifetime),
+        seconds: kept_seconds(lifetime),
+        confirm: flag_of(carried.confirm),
+        blob_len: blob.len(),
+        fields_len: fields.len(),
     }
 }
 
@@ -174,27 +186,20 @@ pub fn put(
     state: State,
     store: &mut [u8],
     i: usize,
-    lifetime: Lifetime,
-    confirm: bool,
+    payload: &[u8],
+    carried: Carried,
     blob: &[u8],
-    fields: &[u8],
 ) -> State
-    requires { ⌜ MayPut state (now store) i (now blob) (now fields) ⌝ }
-    ensures { λ r. ⌜ Means r (now (store .exit)) (withEntry i (newEntry (gatewayOf state (now (store .entry))) lifetime confirm (now (blob .entry)) (now (fields .entry))) (gatewayOf state (now (store .entry)))) ⌝ }
+    requires { ⌜ MayPut state (now store) i (brought (now payload) carried (now blob)) ⌝ }
+    ensures { λ r. ⌜ Means r (now (store .exit)) (withEntry i (entryOf (gatewayOf state (now (store .entry))) (now (payload .entry)) carried (now (blob .entry))) (gatewayOf state (now (store .entry)))) ⌝ }
 {
     let from = start_of(i);
     let to = start_of(i + 1);
+    let fields = cut(payload, 1, carried.places.end);
     fill_place(&mut store[from..to], blob, fields);
     let clock = state.clock;
     let mut es = state.entries;
-    es[i] = held_entry(
-        state.next,
-        clock,
-        lifetime,
-        confirm,
-        blob.len(),
-        fields.len(),
-    );
+    es[i] = held_entry(state.next, clock, payload, carried, blob);
     let lock = state.lock;
     State {
         entries: es,

@@ -1,16 +1,20 @@
--- Each arm is the definition's. Assumes nothing.
+-- It is the definition's entry, field by field; the fields' length is that of their part. Assumes nothing.
 use borrow.Author.Needs.{needs}
-use Rattle.table.specs.Meaning.{heldEntry}
+use mathlib.Core.Path.{ap}
+use lib.ListN.{length}
+use Rattle.table.specs.Meaning.{entryFor}
 use Rattle.table.proofs.changes.held_entry.Statement.{statement}
 use Rattle.table.proofs.changes.held_entry.Tie as tie
 
 returns : tie.Need-returns
-unfolding heldEntry
-returns c = rw (c .before .before .flag-of .ensures, c .enum-told .given .1)
-
-returns-2 : tie.Need-returns-2
-unfolding heldEntry
-returns-2 c = rw (c .before .before .before .flag-of .ensures, c .before .lifetime .given .1)
+unfolding entryFor
+returns c =
+    let seconds = c .before .kept-seconds in
+    let limited = c .before .before .limited-flag in
+    let fields = c .before .before .before .cut in
+    rw (c .flag-of .ensures, seconds .ensures, limited .ensures, ap length (fields .ensures .bytes))
 
 pub held-entry-spec : {M : Type 1} → statement M
-held-entry-spec = tie.close (tie.spec (λ c κs. search needs) (λ c. search needs) (λ c. search needs) returns returns-2)
+held-entry-spec =
+    tie.close
+    (tie.spec (λ c κs. search needs) (λ c κs. search needs) (λ c κs. search needs) (λ c κs. search needs) returns)

@@ -1,21 +1,31 @@
 -- The place's bytes and its entry are those of the new key. Assumes nothing.
 use native.Mathlib.Omega.{arith}
 use borrow.Author.Needs.{needs}
+use mathlib.Core.Path.{ap, _∙_}
+use Rattle.table.specs.Meaning.{heldBytes}
 use Rattle.table.proofs.ChangeLaws.{stored}
 use Rattle.table.proofs.changes.put.Statement.{statement}
 use Rattle.table.proofs.changes.put.Tie as tie
 
+room : tie.Need-fill-place-requires
+room c κs =
+    let fields = c .before .cut in
+    let st = c .before .before .before .before .before .before in
+    rw (fields .ensures .bytes) (search needs)
+
 returns : tie.Need-returns
 returns c =
-    let e = c .before .before .held-entry in
-    let w = c .before .before .before .before .before .before .before .fill-place in
-    let to = c .before .before .before .before .before .before .before .before .before .start-of2 in
-    let from = c .before .before .before .before .before .before .before .before .before .before .start-of in
-    let st = c .before .before .before .before .before .before .before .before .before .before .before .before .before .before in
+    let at-entry = c .before .before in
+    let at-bytes = at-entry .before .before .before .before .before in
+    let at-fields = at-bytes .before .before in
+    let from = at-fields .before .before .start-of in
+    let to = at-fields .before .start-of2 in
+    let st = at-fields .before .before .before .before .before .before in
     let a = st .args in
     stored (a .state) (a .store .now) (st .pre .sound) (a .i) (from .result) (to .result) (st .pre .place)
     (record { start = from .ensures; span = omega (arith, from .ensures, to .ensures) })
-    (a .lifetime) (a .confirm) (a .blob .now) (a .fields .now) (e .result) (w .last .0) (st .pre) (e .ensures) (w .ensures)
+    _ (at-entry .held-entry .result) (at-bytes .fill-place .last .0) (st .pre) (at-entry .held-entry .ensures)
+    (at-bytes .fill-place .ensures ∙ ap (heldBytes _) (at-fields .cut .ensures .bytes))
 
 pub put-spec : {M : Type 1} → statement M
 put-spec =
@@ -24,10 +34,11 @@ put-spec =
     (λ c κs. search needs)
     (λ c. search needs)
     (λ c κs. search needs)
-    (λ c. search needs)
-    (λ c. search needs)
-    (λ c. search needs)
     (λ c κs. search needs)
+    (λ c. search needs)
+    (λ c. search needs)
+    (λ c. search needs)
+    room
     (λ c κs. search needs)
     (λ c. search needs)
     (λ c. search needs)
