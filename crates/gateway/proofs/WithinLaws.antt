@@ -3,29 +3,29 @@
 use Prim.Native.Nat.{ℕ, _-_, _≤_, _<_}
 use native.Mathlib.Omega.{arith}
 use mathlib.Core.Path.{_≡_, refl, sym, ap, _∙_, subst}
-use mathlib.Core.Bool.{Bool, true, false, _&&_}
+use mathlib.Core.Bool.{Bool, true, false}
 use mathlib.Core.Logic.{⊎-elim}
 use mathlib.Core.Option.{Option, none, some}
 use mathlib.Core.List.{List}
 use borrow.Author.Tests.{leb-true}
 use lib.ListN.{length, getD}
 use lib.Dec.{leb, ltb, eqb}
-use Rattle.wire.specs.Limits.{storeSize, blobLimit, fieldsLimit, passphraseLimit, replyRoom, lastNumber}
-use Rattle.wire.specs.Numbers.{within}
+use Rattle.wire.specs.Limits.{storeSize, passphraseLimit, replyRoom, lastNumber}
 use Rattle.wire.specs.Steps.{so}
 use Rattle.wire.specs.Read.{cutOf, same, stringAt, numberAt}
 use Rattle.wire.proofs.Reading.{le-or-lt, cut-past, cut-back, string-read}
+use Rattle.keys.specs.Kinds.{blobOf}
 use Rattle.keys.specs.Additions.{additionAt}
 use Rattle.rule.specs.declared.Millis.{Millis}
 use Rattle.rule.specs.Gateway.{Gateway, locked, opened, advance, seek, holds, placeFor, withEntry}
-use Rattle.rule.specs.Soundness.{sound}
+use Rattle.rule.specs.Soundness.{fit, sound}
 use Rattle.rule.specs.Rule.{Question, gate, check, confirmation, signature, Answer, Landing, reply, close, SUCCESS, Plan, land, ask, fails, listing, removing, removingAll, locking, unlocking, hashOf, signed, signingData, numberIn, confirmIn, confirming, signing, entryOf, storing, adding, gated, row, table, rule}
 use Rattle.rule.specs.Calls as rule
 use Rattle.rule.specs.Calls.{lent, lentLength, Call, refused, asks, lands, follow, served, refusalOf, refusal, call}
 use Rattle.rule.proofs.Cases.{so-cases, part-cases, number-cases, found-cases, added-cases, given-cases}
 use Rattle.rule.proofs.Plans.{asks-not-lands}
 use Rattle.rule.proofs.PlaceLaws.{some-not-none}
-use Rattle.rule.proofs.SoundLaws.{sound-rule}
+use Rattle.rule.proofs.SoundLaws.{fit-says, sound-rule}
 use Rattle.rule.proofs.ReplyLaws.{replies-fit}
 use Rattle.table.specs.declared.State.{State}
 use Rattle.table.specs.Meaning.{gatewayOf}
@@ -53,13 +53,6 @@ fields-within payload t h =
     (le-or-lt t (length payload)))
     (λ (a : t < 1). let e = ap length (cut-back payload 1 t a) in absurd (omega arith))
     (le-or-lt 1 t)
-
-at-least : (low high n : ℕ) → within low high n ≡ true → low ≤ n
-at-least low high n e = leb-true _ _ (first (leb low n) (leb n high) e)
-  where
-    first : (a b : Bool) → a && b ≡ true → a ≡ true
-    first true b e = refl
-    first false b e = e
 
 module _ (payload : List ℕ) where
   abbrev Within : Question → Type 0
@@ -113,15 +106,16 @@ module _ (payload : List ℕ) where
     adding-inside : (constrained : Bool) → Inside (adding constrained g payload)
     unfolding adding storing
     adding-inside constrained =
-        added-cases Inside (additionAt payload 1 constrained) (land-inside _ g) λ p l c _.
-        let e = entryOf g payload p l c in
-        so-inside (within 1 blobLimit (length (e .blob))) _
-        (so-cases Inside (within 1 fieldsLimit (length (e .fields)))
-        (λ some-fields.
+        added-cases Inside (additionAt payload 1 constrained) (land-inside _ g) λ c _.
+        let end = c .places .end in
+        let e = entryOf g payload c (blobOf payload 1 (c .places)) in
+        so-cases Inside (fit (e .blob) (e .fields))
+        (λ fits.
+        let lengths = fit-says (e .blob) (e .fields) .0 fits in
         so-inside (ltb (g .next) lastNumber) _
         (found-cases Inside (placeFor (e .blob) (g .places)) (λ _. land-inside _ g) λ i _.
-        ask-inside (check 1 (p .end)) _ (fields-within payload (p .end) (at-least 1 fieldsLimit _ some-fields)) (λ granted. so-inside granted _ (land-inside SUCCESS (withEntry i e g)))))
-        (λ _. land-inside _ g))
+        ask-inside (check 1 end) _ (fields-within payload end (lengths .fields-some)) (λ granted. so-inside granted _ (land-inside SUCCESS (withEntry i e g)))))
+        (λ _. land-inside _ g)
 
     removing-inside : Inside (removing g payload)
     unfolding removing

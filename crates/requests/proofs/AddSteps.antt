@@ -2,16 +2,15 @@
 use Prim.Native.Nat.{ℕ, _+_, _≤_, _<_}
 use mathlib.Core.Path.{_≡_, refl, sym, ap, _∙_}
 use mathlib.Core.Logic.{⊎-elim}
-use mathlib.Core.Bool.{Bool, true, false, and-false}
+use mathlib.Core.Bool.{Bool, true, false, not, and-false}
 use mathlib.Core.Option.{Option}
 use mathlib.Core.List.{List}
 use native.Mathlib.Omega.{arith}
-use borrow.Author.Tests.{le-leb, lt-leb, leb-true, leb-false}
+use borrow.Author.Tests.{lt-leb, leb-true, leb-false, not-true, not-false}
 use lib.Dec.{leb, ltb}
 use lib.ListN.{length, take, drop}
 use lib.Seq.{take-at}
-use Rattle.wire.specs.Limits.{blobLimit, fieldsLimit, lastNumber}
-use Rattle.wire.specs.Numbers.{within}
+use Rattle.wire.specs.Limits.{blobLimit, lastNumber}
 use Rattle.wire.specs.Steps.{so}
 use Rattle.wire.specs.Write.{write}
 use Rattle.wire.proofs.Reading.{le-or-lt}
@@ -20,20 +19,22 @@ use Rattle.wire.proofs.Writing.{length-write}
 use Rattle.keys.specs.declared.kinds.Places.{Places}
 use Rattle.keys.specs.declared.kinds.Blob.{Blob}
 use Rattle.keys.specs.declared.kinds.Blob.the-variants.{Length, TooLong}
-use Rattle.keys.specs.declared.constraints.Lifetime.{Lifetime}
+use Rattle.keys.specs.declared.addition.Carried.{Carried}
 use Rattle.keys.specs.Kinds.{blobOf, blobAnswer, blobLeft}
 use Rattle.rule.specs.declared.Found.{Found}
 use Rattle.rule.specs.declared.Found.the-variants.{At}
-use Rattle.rule.specs.Gateway.{Gateway, placeFor, newEntry}
+use Rattle.rule.specs.Gateway.{Gateway, placeFor, NewKey}
+use Rattle.rule.specs.Soundness.{fit}
 use Rattle.rule.specs.Searches.{foundPlace}
-use Rattle.rule.specs.Rule.{Question, Answer, Plan, ask, check, storing}
+use Rattle.rule.specs.Rule.{Question, Answer, Plan, ask, check, entryOf, storing}
 use Rattle.rule.specs.Calls as rule
 use Rattle.rule.specs.Calls.{lent, follow}
+use Rattle.rule.proofs.SoundLaws.{fit-says}
 use Rattle.table.specs.declared.State.{State}
 use Rattle.table.specs.Meaning.{gatewayOf}
 use Rattle.table.specs.Soundness.{Sound}
 use Rattle.table.specs.Changes.{MayPut}
-use Rattle.table.specs.Promises.{PlaceForPut}
+use Rattle.table.proofs.ChangeLaws.{place-for-put}
 use Rattle.requests.specs.declared.Said.{Said}
 use Rattle.requests.specs.declared.Said.the-variants.{Missing, No, Yes}
 use Rattle.requests.specs.declared.Called.{Called}
@@ -44,15 +45,17 @@ use Rattle.requests.proofs.EndSteps.{ends, added-whole, added-fault, as
 
 -- ## The limits
 
-module _ (low high n : ℕ) where
-  pub within-yes : low ≤ n → n ≤ high → true ≡ within low high n
-  within-yes h k = rw (le-leb low n h, le-leb n high k)
+module _ (b : Bool) (blob part fields : List ℕ) (tested : b ≡ fit blob part) (is : part ≡ fields) where
+  pub lengths-fit : not b ≡ false → true ≡ fit blob fields
+  lengths-fit t = sym (not-false b t) ∙ tested ∙ ap (fit blob) is
 
-  pub within-short : n < low → false ≡ within low high n
-  within-short h = rw (lt-leb low n h)
+  pub lengths-over : not b ≡ true → false ≡ fit blob fields
+  lengths-over t = sym (not-true b t) ∙ tested ∙ ap (fit blob) is
 
-  pub within-long : high < n → false ≡ within low high n
-  within-long h = rw (lt-leb n high h, and-false (leb low n))
+-- a blob over its limit is enough
+pub blob-unfit : (blob fields : List ℕ) → blobLimit < length blob → false ≡ fit blob fields
+unfolding fit
+blob-unfit blob fields h = rw (lt-leb (length blob) blobLimit h, and-false (leb 1 (length blob)))
 
 module _ (s : State) (x : List ℕ) where
   last-or-less : Sound s x → (s .next ≡ lastNumber → ⊥) → gatewayOf s x .next < lastNumber
@@ -66,10 +69,10 @@ module _ (s : State) (x : List ℕ) where
   unfolding gatewayOf
   numbers-gone e = ltb-no (s .next) lastNumber (omega arith)
 
-  -- the place for a blob within the limits may take it
-  pub may-put : PlaceForPut → (i : ℕ) (blob fields : List ℕ) (w : Found) → Sound s x → w ≡ At i → w ≡ placeFor blob (gatewayOf s x .places) → 1 ≤ length blob → length blob ≤ blobLimit
-      → 1 ≤ length fields → length fields ≤ fieldsLimit → (s .next ≡ lastNumber → ⊥) → MayPut s x i blob fields
-  may-put place-for-put i blob fields w S e f a b c d h = place-for-put s x i blob fields S (ap foundPlace (sym f ∙ e)) a b c d (last-or-less S h)
+  -- the place for a key within the limits may take it
+  pub may-put : (i : ℕ) (k : NewKey) (w : Found) → Sound s x → w ≡ At i → w ≡ placeFor (k .blob) (gatewayOf s x .places) → true ≡ fit (k .blob) (k .fields)
+      → (s .next ≡ lastNumber → ⊥) → MayPut s x i k
+  may-put i k w S e f fits h = place-for-put s x i k S (ap foundPlace (sym f ∙ e)) (fit-says (k .blob) (k .fields) .0 (sym fits)) (last-or-less S h)
 
 -- ## The key check
 
@@ -93,7 +96,7 @@ module _ (a : rule.Answers) (w : Said) (said : a .check ≡ grantOf w) (buffer :
     pub checker-grants : w ≡ Yes → Checks (F true) → Checks (ask (check from to) F)
     checker-grants e h = answered _ _ _ _ _ _ _ _ true (checker-says Yes e) h
 
-pub ruleset adds = (ends, added-whole, added-fault, within-yes, within-short, within-long, numbers-left, numbers-gone, checker-asked, checker-denies, checker-grants)
+pub ruleset adds = (ends, added-whole, added-fault, lengths-fit, lengths-over, blob-unfit, numbers-left, numbers-gone, checker-asked, checker-denies, checker-grants)
 
 -- ## The blob beside the table
 
@@ -131,8 +134,8 @@ module _ (s : List ℕ) (at : ℕ) (p : Places) (room : List ℕ) (w : Blob) (an
       go true t h k = let q : length blob ≡ n = cc in there (leb-true _ _ t) q k
       go false t h k = let z : _≡_ {A = ℕ} 0 1 = cc in absurd (omega arith)
 
--- the entry of bytes that calls gave is the entry of what they are
-pub stored-as : (buffer : List ℕ) (r : Called) (x out : List ℕ) (answers : (q : Question) → Option (Answer q)) (g : Gateway) (lifetime : Lifetime) (confirm : Bool) (to : ℕ) (blob fields blob′ fields′ : List ℕ)
-    → blob ≡ blob′ → fields ≡ fields′ → Ends buffer r x out (follow answers g (storing g (newEntry g lifetime confirm blob fields) to))
-    → Ends buffer r x out (follow answers g (storing g (newEntry g lifetime confirm blob′ fields′) to))
-stored-as buffer r x out answers g lifetime confirm to blob fields blob′ fields′ e f h = rw (← e, ← f) h
+-- the entry of a blob that a call gave is the entry of what it is
+pub stored-as : (buffer : List ℕ) (r : Called) (x out : List ℕ) (answers : (q : Question) → Option (Answer q)) (g : Gateway) (payload : List ℕ) (c : Carried) (to : ℕ) (blob other : List ℕ)
+    → blob ≡ other → Ends buffer r x out (follow answers g (storing g (entryOf g payload c blob) to))
+    → Ends buffer r x out (follow answers g (storing g (entryOf g payload c other) to))
+stored-as buffer r x out answers g payload c to blob other e h = rw (← e) h

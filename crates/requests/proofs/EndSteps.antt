@@ -20,8 +20,7 @@ use Rattle.wire.specs.Write.{string, write}
 use Rattle.wire.proofs.Reading.{cut-there, cut-past, cut-back, le-or-lt}
 use Rattle.wire.proofs.Writing.{write-behind}
 use Rattle.wire.proofs.Steps.{leb-yes, leb-no, plain, string-order}
-use Rattle.keys.specs.declared.kinds.Places.{Places}
-use Rattle.keys.specs.declared.constraints.Lifetime.{Lifetime}
+use Rattle.keys.specs.declared.addition.Carried.{Carried}
 use Rattle.keys.specs.declared.addition.Addition.{Addition}
 use Rattle.rule.specs.declared.Found.{Found}
 use Rattle.rule.specs.declared.Found.the-variants.{At, Nothing}
@@ -77,12 +76,11 @@ module _ (buffer : List ℕ) (r : Called) (store out : List ℕ) (answers : (q :
   unfolding found
   found-nothing z p w F q e h = rw (← e, q) h
 
-  pub added-whole : (z : Plan) (p w : Addition) (F : Places → Lifetime → Bool → Plan) (at : Places) (l : Lifetime) (c : Bool) → w ≡ Addition.Whole at l c → w ≡ p → E (F at l c)
-      → E (added z p F)
+  pub added-whole : (z : Plan) (p w : Addition) (F : Carried → Plan) (c : Carried) → w ≡ Addition.Whole c → w ≡ p → E (F c) → E (added z p F)
   unfolding added
-  added-whole z p w F at l c q e h = rw (← e, q) h
+  added-whole z p w F c q e h = rw (← e, q) h
 
-  pub added-fault : (z : Plan) (p w : Addition) (F : Places → Lifetime → Bool → Plan) (at : ℕ) → w ≡ Addition.Fault at → w ≡ p → E z → E (added z p F)
+  pub added-fault : (z : Plan) (p w : Addition) (F : Carried → Plan) (at : ℕ) → w ≡ Addition.Fault at → w ≡ p → E z → E (added z p F)
   unfolding added
   added-fault z p w F at q e h = rw (← e, q) h
 

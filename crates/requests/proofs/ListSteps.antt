@@ -45,7 +45,7 @@ module _ (g : Gateway) (i : ℕ) where
       where
         go : (p : Place) → here ≡ p → length (blobIn p) ≤ blobLimit
         go none e = omega arith
-        go (some k) e = every-at (SoundEntry (g .clock) (g .next)) (g .places) (s .entries) i k e .blob-fits
+        go (some k) e = every-at (SoundEntry (g .clock) (g .next)) (g .places) (s .entries) i k e .lengths .blob-fits
 
     pub item-short : length (itemIn here) ≤ itemRoom
     item-short = go here blob-short

@@ -1,11 +1,10 @@
 -- The sign request: the answers that count for an insertion number, the signature's reply, and each end of `sign_data` and `try_sign`.
 use Prim.Native.Nat.{ℕ, _+_, _≤_}
 use mathlib.Core.Path.{_≡_, refl, sym, ap, _∙_}
-use mathlib.Core.Bool.{Bool, true, false, not}
+use mathlib.Core.Bool.{Bool, true, false}
 use mathlib.Core.Option.{none, some}
 use mathlib.Core.List.{List, [], _∷_, _++_}
 use native.Mathlib.Omega.{arith}
-use borrow.Author.Tests.{not-true, not-false}
 use lib.ListN.{length}
 use Rattle.wire.specs.Numbers.{be32}
 use Rattle.wire.specs.Steps.{so}
@@ -24,7 +23,7 @@ use Rattle.requests.specs.declared.Said.the-variants.{Missing, No, Yes}
 use Rattle.requests.specs.declared.Answers.{Answers}
 use Rattle.requests.specs.declared.Called.{Called}
 use Rattle.requests.specs.declared.Outcome.the-variants.{Confirm, Sign, Reply}
-use Rattle.requests.specs.Outcomes.{grantOf, confirmationOf, signatureOf, lentOf, handed, code}
+use Rattle.requests.specs.Outcomes.{grantOf, confirmationOf, agreed, signatureOf, lentOf, handed, code}
 use Rattle.requests.specs.Ends.{Ends}
 use Rattle.requests.proofs.EndSteps.{ends, so-yes, so-no, landed, asked, answered, replied, asked-ends, means-itself}
 
@@ -76,7 +75,8 @@ module _ (answers : Answers) (bytes : List ℕ) (n : ℕ) (w : Said) (says : (b 
 
 -- ## The confirmation
 
-module _ (answers : Answers) (bytes : List ℕ) (s : State) (x buffer : List ℕ) (r : Called) (out payload : List ℕ) (p : Place) (at n : ℕ) (b : Bool) (number : n ≡ numberIn p) (confirm : b ≡ confirmIn p) where
+module _ (answers : Answers) (bytes : List ℕ) (s : State) (x buffer : List ℕ) (r : Called) (out payload : List ℕ) (p : Place) (at n : ℕ) (number : n ≡ numberIn p)
+    (w : Said) (says : agreed p (confirmationOf (answers .confirmation)) ≡ grantOf w) where
   abbrev Confirms : Plan → Type 0
   Confirms plan = Ends buffer r x out (follow (lent (lentOf answers bytes)) (gatewayOf s x) plan)
 
@@ -89,27 +89,43 @@ module _ (answers : Answers) (bytes : List ℕ) (s : State) (x buffer : List ℕ
   abbrev asking : Plan
   asking = ask (confirmation n) λ granted. so (fails (gatewayOf s x)) granted onwards
 
-  pub unconfirmed : not b ≡ true → Confirms onwards → Confirms here
+  -- with Confirm the confirmation that counts is what is said
+  confirmer-says : (v : Said) → confirmIn p ≡ true → w ≡ v → lent (lentOf answers bytes) (confirmation n) ≡ grantOf v
+  unfolding agreed so lent lentOf
+  confirmer-says v must e = rw number ((rw must at says) ∙ ap grantOf e)
+
+  confirmer-next : confirmIn p ≡ true → Confirms asking → Confirms here
   unfolding confirming
-  unconfirmed e h = rw (← number) (so-no _ _ _ _ _ _ _ _ _ (sym (not-true b e) ∙ confirm) h)
+  confirmer-next must h = rw (← number) (so-yes _ _ _ _ _ _ _ _ _ (sym must) h)
 
-  module _ (w : Said) (must : not b ≡ false) (says : forNumber n (confirmationOf (answers .confirmation)) ≡ grantOf w) where
-    confirmer-says : (v : Said) → w ≡ v → lent (lentOf answers bytes) (confirmation n) ≡ grantOf v
-    unfolding lent lentOf
-    confirmer-says v e = says ∙ ap grantOf e
+  -- without it, yes is said
+  unconfirmed-says : confirmIn p ≡ false → grantOf w ≡ some true
+  unfolding agreed so
+  unconfirmed-says free = sym (rw free at says)
 
-    confirmer-next : Confirms asking → Confirms here
-    unfolding confirming
-    confirmer-next h = rw (← number) (so-yes _ _ _ _ _ _ _ _ _ (sym (not-false b must) ∙ confirm) h)
+  pub confirmer-asked : w ≡ Missing → r ≡ record { outcome = Confirm n; state = s } → out ≡ buffer → Sound s x → Confirms here
+  unfolding code
+  confirmer-asked e f o h = by-confirm (confirmIn p) refl
+    where
+      by-confirm : (b : Bool) → confirmIn p ≡ b → Confirms here
+      by-confirm true must =
+          confirmer-next must (asked _ _ _ _ _ _ _ _ (confirmer-says Missing must e) (rw (f, o) (asked-ends buffer x (Confirm n) s (confirmation n) refl h)))
+      by-confirm false free = let never = rw e at (unconfirmed-says free) in let z : _≡_ {A = ℕ} 0 1 = cc in absurd (omega arith)
 
-    pub confirmer-asked : w ≡ Missing → r ≡ record { outcome = Confirm n; state = s } → out ≡ buffer → Sound s x → Confirms here
-    unfolding code
-    confirmer-asked e f o h = confirmer-next (asked _ _ _ _ _ _ _ _ (confirmer-says Missing e) (rw (f, o) (asked-ends buffer x (Confirm n) s (confirmation n) refl h)))
+  pub confirmer-denies : w ≡ No → Ends buffer r x out (record { outcome = lands FAILURE; gateway = gatewayOf s x }) → Confirms here
+  confirmer-denies e h = by-confirm (confirmIn p) refl
+    where
+      by-confirm : (b : Bool) → confirmIn p ≡ b → Confirms here
+      by-confirm true must =
+          confirmer-next must (answered _ _ _ _ _ _ _ _ false (confirmer-says No must e) (so-no _ _ _ _ _ _ _ _ _ refl (landed _ _ _ _ _ _ _ _ h)))
+      by-confirm false free = let never = rw e at (unconfirmed-says free) in let z : _≡_ {A = ℕ} 0 1 = cc in absurd (omega arith)
 
-    pub confirmer-denies : w ≡ No → Ends buffer r x out (record { outcome = lands FAILURE; gateway = gatewayOf s x }) → Confirms here
-    confirmer-denies e h = confirmer-next (answered _ _ _ _ _ _ _ _ false (confirmer-says No e) (so-no _ _ _ _ _ _ _ _ _ refl (landed _ _ _ _ _ _ _ _ h)))
+  pub confirmer-grants : w ≡ Yes → Confirms onwards → Confirms here
+  unfolding confirming
+  confirmer-grants e h = by-confirm (confirmIn p) refl
+    where
+      by-confirm : (b : Bool) → confirmIn p ≡ b → Confirms here
+      by-confirm true must = confirmer-next must (answered _ _ _ _ _ _ _ _ true (confirmer-says Yes must e) (so-yes _ _ _ _ _ _ _ _ _ refl h))
+      by-confirm false free = rw (← number) (so-no _ _ _ _ _ _ _ _ _ (sym free) h)
 
-    pub confirmer-grants : w ≡ Yes → Confirms onwards → Confirms here
-    confirmer-grants e h = confirmer-next (answered _ _ _ _ _ _ _ _ true (confirmer-says Yes e) (so-yes _ _ _ _ _ _ _ _ _ refl h))
-
-pub ruleset signs = (ends, signer-asked, signer-silent, signer-signs, unconfirmed, confirmer-asked, confirmer-denies, confirmer-grants)
+pub ruleset signs = (ends, signer-asked, signer-silent, signer-signs, confirmer-asked, confirmer-denies, confirmer-grants)

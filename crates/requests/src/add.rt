@@ -5,10 +5,9 @@ use crate::Said;
 use crate::replies::failure;
 use crate::replies::success;
 use keys::addition::Addition;
+use keys::addition::Carried;
 use keys::addition::addition_at;
-use keys::constraints::Lifetime;
 use keys::kinds::Blob;
-use keys::kinds::Places;
 use keys::kinds::put_blob;
 use rule::Found;
 use table::State;
@@ -19,7 +18,8 @@ use wire::read::cut;
 ghost use mathlib.Core.Path.{_≡_};
 ghost use Prim.Native.Nat.{_≤_};
 ghost use lib.ListN.{length};
-ghost use Rattle.rule.specs.Gateway.{newEntry};
+ghost use Rattle.keys.specs.Kinds.{blobOf};
+ghost use Rattle.rule.specs.Soundness.{fit};
 ghost use Rattle.rule.specs.Rule.{entryOf, storing, adding};
 ghost use Rattle.rule.specs.Calls as rule;
 ghost use Rattle.rule.specs.Calls.{lent, follow};
@@ -28,31 +28,37 @@ ghost use Rattle.table.specs.Soundness.{Sound};
 ghost use Rattle.requests.specs.Outcomes.{grantOf};
 ghost use Rattle.requests.specs.Ends.{Ends};
 
-// The entry is stored, if its limits, the numbers, a place and the key check allow it. `to` is where its fields end in the payload.
+// Are the lengths within 01's limits?
+fn fits(blob: &[u8], fields: &[u8]) -> bool
+    ensures { λ r. ⌜ r ≡ fit (now (blob .entry)) (now (fields .entry)) ⌝ }
+{
+    if blob.len() < 1 {
+        return false;
+    }
+    if limits::BLOB_LIMIT < blob.len() {
+        return false;
+    }
+    if fields.len() < 1 {
+        return false;
+    }
+    fields.len() <= limits::FIELDS_LIMIT
+}
+
+// The key with this blob is stored, if its lengths, the numbers, a place and the key check allow it.
 fn store_key(
     state: State,
     store: &mut [u8],
+    payload: &[u8],
+    carried: Carried,
     blob: &[u8],
-    fields: &[u8],
-    lifetime: Lifetime,
-    confirm: bool,
-    to: usize,
     check: Said,
     reply: &mut [u8],
 ) -> Called
     requires { ⌜ (5 ≤ length (now reply)) × Sound state (now store) ⌝ }
-    ensures { λ r. ⌜ ((a : rule.Answers) → a .check ≡ grantOf check → Ends (now (reply .entry)) r (now (store .exit)) (now (reply .exit)) (follow (lent a) (gatewayOf state (now (store .entry))) (storing (gatewayOf state (now (store .entry))) (newEntry (gatewayOf state (now (store .entry))) lifetime confirm (now (blob .entry)) (now (fields .entry))) to))) ⌝ }
+    ensures { λ r. ⌜ ((a : rule.Answers) → a .check ≡ grantOf check → Ends (now (reply .entry)) r (now (store .exit)) (now (reply .exit)) (follow (lent a) (gatewayOf state (now (store .entry))) (storing (gatewayOf state (now (store .entry))) (entryOf (gatewayOf state (now (store .entry))) (now (payload .entry)) carried (now (blob .entry))) (carried .places .end)))) ⌝ }
 {
-    if blob.len() < 1 {
-        return failure(state, reply);
-    }
-    if limits::BLOB_LIMIT < blob.len() {
-        return failure(state, reply);
-    }
-    if fields.len() < 1 {
-        return failure(state, reply);
-    }
-    if limits::FIELDS_LIMIT < fields.len() {
+    let to = carried.places.end;
+    if !fits(blob, cut(payload, 1, to)) {
         return failure(state, reply);
     }
     if state.next == limits::LAST_NUMBER {
@@ -66,10 +72,7 @@ fn store_key(
                 state,
             },
             Said::No => failure(state, reply),
-            Said::Yes => success(
-                changes::put(state, store, i, lifetime, confirm, blob, fields),
-                reply,
-            ),
+            Said::Yes => success(changes::put(state, store, i, payload, carried, blob), reply),
         },
     }
 }
@@ -79,30 +82,18 @@ fn store_fields(
     state: State,
     store: &mut [u8],
     payload: &[u8],
-    at: Places,
-    lifetime: Lifetime,
-    confirm: bool,
+    carried: Carried,
     check: Said,
     reply: &mut [u8],
 ) -> Called
     requires { ⌜ (5 ≤ length (now reply)) × Sound state (now store) ⌝ }
-    ensures { λ r. ⌜ ((a : rule.Answers) → a .check ≡ grantOf check → Ends (now (reply .entry)) r (now (store .exit)) (now (reply .exit)) (follow (lent a) (gatewayOf state (now (store .entry))) (storing (gatewayOf state (now (store .entry))) (entryOf (gatewayOf state (now (store .entry))) (now (payload .entry)) at lifetime confirm) (at .end)))) ⌝ }
+    ensures { λ r. ⌜ ((a : rule.Answers) → a .check ≡ grantOf check → Ends (now (reply .entry)) r (now (store .exit)) (now (reply .exit)) (follow (lent a) (gatewayOf state (now (store .entry))) (storing (gatewayOf state (now (store .entry))) (entryOf (gatewayOf state (now (store .entry))) (now (payload .entry)) carried (blobOf (now (payload .entry)) 1 (carried .places))) (carried .places .end)))) ⌝ }
 {
-    let end = at.end;
+    let at = carried.places;
     let mut room = [0u8; limits::BLOB_LIMIT];
     match put_blob(payload, 1, at, &mut room[..limits::BLOB_LIMIT]) {
         Blob::TooLong => failure(state, reply),
-        Blob::Length(n) => store_key(
-            state,
-            store,
-            &room[..n],
-            cut(payload, 1, end),
-            lifetime,
-            confirm,
-            end,
-            check,
-            reply,
-        ),
+        Blob::Length(n) => store_key(state, store, payload, carried, &room[..n], check, reply),
     }
 }
 
@@ -120,10 +111,6 @@ pub fn add_key(
 {
     match addition_at(payload, 1, constrained) {
         Addition::Fault(_) => failure(state, reply),
-        Addition::Whole {
-            places: at,
-            lifetime,
-            confirm,
-        } => store_fields(state, store, payload, at, lifetime, confirm, check, reply),
+        Addition::Whole(carried) => store_fields(state, store, payload, carried, check, reply),
     }
 }

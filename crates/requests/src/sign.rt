@@ -22,15 +22,16 @@ use wire::write::put_number;
 use wire::write::put_string;
 ghost use mathlib.Core.Path.{_≡_};
 ghost use mathlib.Core.List.{List};
-ghost use Prim.Native.Nat.{ℕ, _≤_};
-ghost use lib.ListN.{length};
+ghost use mathlib.Core.Option.{none};
+ghost use Prim.Native.Nat.{ℕ, _≤_, _<_};
+ghost use lib.ListN.{length, getD};
 ghost use Rattle.wire.specs.Limits.{signatureLimit, replyRoom};
 ghost use Rattle.wire.specs.Write.{write};
-ghost use Rattle.rule.specs.Rule.{hashOf, signatureReply, signingData, signing};
+ghost use Rattle.rule.specs.Rule.{hashOf, signatureReply, signingData, confirming, signing};
 ghost use Rattle.rule.specs.Calls.{lent, forNumber, lentLength, follow};
 ghost use Rattle.table.specs.Meaning.{gatewayOf};
 ghost use Rattle.table.specs.Soundness.{Sound};
-ghost use Rattle.requests.specs.Outcomes.{confirmationOf, signatureOf, grantOf, handed, lentOf};
+ghost use Rattle.requests.specs.Outcomes.{confirmationOf, agreed, signatureOf, grantOf, handed, lentOf};
 ghost use Rattle.requests.specs.Ends.{Ends};
 
 // Flag 2 set: SHA-256; else flag 4: SHA-512; else none.
@@ -62,6 +63,17 @@ fn confirmed_for(c: Confirmed, number: u64) -> Said
             Said::No
         }
     }
+}
+
+// What is said of a signature with the key of place i: yes where it has no Confirm.
+fn consent(state: State, i: usize, c: Confirmed) -> Said
+    requires { ⌜ i < 8 ⌝ }
+    ensures { λ r. ⌜ ((x : List ℕ) → Sound state x → agreed (getD (gatewayOf state x .places) i none) (confirmationOf c) ≡ grantOf r) ⌝ }
+{
+    if !places::confirm_at(state, i) {
+        return Said::Yes;
+    }
+    confirmed_for(c, places::number_at(state, i))
 }
 
 // The signer's answer that counts for this insertion number: none, nothing given, or the bytes beside it.
@@ -138,6 +150,32 @@ fn sign_data(
     }
 }
 
+// The key of place i was found: its Confirm, then the rest.
+fn sign_with(
+    state: State,
+    store: &[u8],
+    payload: &[u8],
+    at: Cursor,
+    i: usize,
+    answers: Answers,
+    signature: &[u8],
+    reply: &mut [u8],
+) -> Called
+    requires { ⌜ (i < 8) × (replyRoom ≤ length (now reply)) × (lentLength (lentOf answers (now signature) .signature) ≤ signatureLimit) × Sound state (now store) ⌝ }
+    ensures { λ r. ⌜ Ends (now (reply .entry)) r (now (store .entry)) (now (reply .exit)) (follow (lent (lentOf answers (now (signature .entry)))) (gatewayOf state (now (store .entry))) (confirming (gatewayOf state (now (store .entry))) (now (payload .entry)) (getD (gatewayOf state (now (store .entry)) .places) i none) (at .at))) ⌝ }
+{
+    let number = places::number_at(state, i);
+    let given = answers.confirmation;
+    match consent(state, i, given) {
+        Said::Missing => Called {
+            outcome: Outcome::Confirm { number },
+            state,
+        },
+        Said::No => failure(state, reply),
+        Said::Yes => sign_data(state, store, payload, at, number, answers, signature, reply),
+    }
+}
+
 // 13
 pub fn try_sign(
     state: State,
@@ -156,38 +194,6 @@ pub fn try_sign(
     };
     match places::find(state, store, cut(payload, from, to)) {
         Found::Nothing => failure(state, reply),
-        Found::At(i) => {
-            let number = places::number_at(state, i);
-            if !places::confirm_at(state, i) {
-                return sign_data(
-                    state,
-                    store,
-                    payload,
-                    next,
-                    number,
-                    answers,
-                    signature,
-                    reply,
-                );
-            }
-            let given = answers.confirmation;
-            match confirmed_for(given, number) {
-                Said::Missing => Called {
-                    outcome: Outcome::Confirm { number },
-                    state,
-                },
-                Said::No => failure(state, reply),
-                Said::Yes => sign_data(
-                    state,
-                    store,
-                    payload,
-                    next,
-                    number,
-                    answers,
-                    signature,
-                    reply,
-                ),
-            }
-        }
+        Found::At(i) => sign_with(state, store, payload, next, i, answers, signature, reply),
     }
 }

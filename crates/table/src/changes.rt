@@ -150,13 +150,7 @@ fn kept_seconds(lifetime: Lifetime) -> Seconds
 }
 
 // The entry of a new key.
-fn held_entry(
-    number: u64,
-    reading: Millis,
-    payload: &[u8],
-    carried: Carried,
-    blob: &[u8],
-) -> Entry
+fn held_entry(number: u64, reading: Millis, payload: &[u8], carried: Carried, blob: &[u8]) -> Entry
     ensures { λ r. ⌜ r ≡ entryFor (some (newEntry number (reading .count) (brought (now (payload .entry)) carried (now (blob .entry))))) ⌝ }
 {
     let lifetime = carried.lifetime;

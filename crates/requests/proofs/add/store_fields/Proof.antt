@@ -9,18 +9,51 @@ use borrow.Author.Needs.{needs}
 use Rattle.requests.proofs.add.store_fields.Statement.{statement}
 use Rattle.requests.proofs.add.store_fields.Tie as tie
 
-array-share-prefix-room : tie.Need-array-share-prefix-room
-array-share-prefix-room c = (blob-stands _ _ _ _ _ (c .before .before .before .before .before .put-blob .ensures .0) _ _ (c .before .before .before .before .before .put-blob .ensures .1) (c .before .before .n .given .1)) .inside
+inside : tie.Need-array-share-prefix-room
+inside c =
+    let len = c .before .before in
+    let blob = len .before .before .before in
+    (blob-stands _ _ _ _ _ (blob .put-blob .ensures .0) _ _ (blob .put-blob .ensures .1) (len .n .given .1)) .inside
 
-slice-aggregate-store-key : tie.Need-slice-aggregate-store-key
-slice-aggregate-store-key c = (blob-stands _ _ _ _ _ (c .before .before .before .before .before .before .put-blob .ensures .0) _ _ (c .before .before .before .before .before .before .put-blob .ensures .1) (c .before .before .before .n .given .1)) .size
+size : tie.Need-slice-aggregate-store-key
+size c =
+    let len = c .before .before .before in
+    let blob = len .before .before .before in
+    (blob-stands _ _ _ _ _ (blob .put-blob .ensures .0) _ _ (blob .put-blob .ensures .1) (len .n .given .1)) .size
 
 returns : tie.Need-returns
 unfolding storing
-returns c = λ a e. search (adds, answering (c .before .before .failure .ensures), blob-over _ _ _ _ _ (c .before .before .before .before .before .before .before .put-blob .ensures .0) blobLimit (length-replicate {A = ℕ} blobLimit 0) (c .before .before .before .before .enum-told .given .1)) depth 16
+returns c =
+    let failed = c .before .before in
+    let told = failed .before .before in
+    let blob = told .before .before .before in
+    let st = blob .before .before .before .before .before .before in
+    let over = blob-over _ _ _ _ _ (blob .put-blob .ensures .0) blobLimit (length-replicate {A = ℕ} blobLimit 0) (told .enum-told .given .1) in
+    λ a e. search (adds, answering (failed .failure .ensures), over, st .pre .1) depth 16
 
 returns-2 : tie.Need-returns-2
-returns-2 c = λ a e. stored-as _ _ _ _ _ _ _ _ _ _ _ _ _ ((blob-stands _ _ _ _ _ (c .before .before .before .before .before .before .before .before .before .before .before .before .before .put-blob .ensures .0) _ _ (c .before .before .before .before .before .before .before .before .before .before .before .before .before .put-blob .ensures .1) (c .before .before .before .before .before .before .before .before .before .before .n .given .1)) .blob) (c .before .before .before .before .before .before .cut .ensures .bytes) (c .before .before .before .before .store-key .ensures a e)
+returns-2 c =
+    let stored = c .before .before .before .before in
+    let len = stored .before .before .before .before .before in
+    let blob = len .before .before .before in
+    let st = blob .before .before .before .before .before .before in
+    let stands = (blob-stands _ _ _ _ _ (blob .put-blob .ensures .0) _ _ (blob .put-blob .ensures .1) (len .n .given .1)) in
+    λ a e. stored-as _ _ _ _ _ _ _ (st .args .carried) _ _ _ (stands .blob) (stored .store-key .ensures a e)
 
 pub store-fields-spec : {M : Type 1} → statement M
-store-fields-spec = tie.close (tie.spec (λ c. search needs) (λ c κs. search needs) (λ c. search needs) (λ c κs. search needs) (λ c. search needs) array-share-prefix-room slice-aggregate-store-key (λ c κs. search needs) (λ c κs. search needs) (λ c. search needs) returns (λ c. search needs) (λ c. search needs) returns-2)
+store-fields-spec =
+    tie.close
+    (tie.spec
+    (λ c. search needs)
+    (λ c κs. search needs)
+    (λ c. search needs)
+    (λ c κs. search needs)
+    (λ c. search needs)
+    inside
+    size
+    (λ c κs. search needs)
+    (λ c. search needs)
+    returns
+    (λ c. search needs)
+    (λ c. search needs)
+    returns-2)

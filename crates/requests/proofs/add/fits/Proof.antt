@@ -1,0 +1,28 @@
+-- The definition makes the same tests. Assumes nothing.
+use borrow.Author.Tests.{le-leb, lt-leb}
+use mathlib.Core.Bool.{and-false}
+use lib.ListN.{length}
+use Rattle.rule.specs.Soundness.{fit}
+use Rattle.requests.proofs.add.fits.Statement.{statement}
+use Rattle.requests.proofs.add.fits.Tie as tie
+
+returns : tie.Need-returns
+unfolding fit
+returns c = rw (lt-leb _ _ (c .if1 .taken))
+
+returns-2 : tie.Need-returns-2
+unfolding fit
+returns-2 c = rw (lt-leb _ _ (c .if2 .taken), and-false)
+
+returns-3 : tie.Need-returns-3
+unfolding fit
+returns-3 c = rw (lt-leb _ _ (c .if3 .taken), and-false)
+
+returns-4 : tie.Need-returns-4
+unfolding fit
+returns-4 c =
+    let blob = c .before in
+    rw (le-leb _ _ (blob .before .if1 .left), le-leb _ _ (blob .if2 .left), le-leb _ _ (c .if3 .left))
+
+pub fits-spec : {M : Type 1} → statement M
+fits-spec = tie.close (tie.spec returns returns-2 returns-3 returns-4)
