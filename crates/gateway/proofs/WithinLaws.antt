@@ -109,9 +109,9 @@ module _ (payload : List ℕ) where
         added-cases Inside (additionAt payload 1 constrained) (land-inside _ g) λ c _.
         let end = c .places .end in
         let e = entryOf g payload c (blobOf payload 1 (c .places)) in
-        so-cases Inside (fit (e .blob) (e .fields))
+        so-cases Inside (fit (e .blob) (e .fields) (e .comment))
         (λ fits.
-        let lengths = fit-says (e .blob) (e .fields) .0 fits in
+        let lengths = fit-says (e .blob) (e .fields) (e .comment) .0 fits in
         so-inside (ltb (g .next) lastNumber) _
         (found-cases Inside (placeFor (e .blob) (g .places)) (λ _. land-inside _ g) λ i _.
         ask-inside (check 1 end) _ (fields-within payload end (lengths .fields-some)) (λ granted. so-inside granted _ (land-inside SUCCESS (withEntry i e g)))))

@@ -15,6 +15,7 @@ use Rattle.keys.specs.declared.kinds.Places.{Places}
 use Rattle.keys.specs.declared.kinds.Key.{Key}
 use Rattle.keys.specs.declared.constraints.Walk.{Walk}
 use Rattle.keys.specs.declared.constraints.Walk.the-variants.{Done, Duplicate, Unknown, Cut}
+use Rattle.keys.specs.declared.addition.Piece.{Piece}
 use Rattle.keys.specs.declared.addition.Addition.{Addition}
 use Rattle.keys.specs.Kinds.{keyAt}
 use Rattle.keys.specs.Additions.{limitsOf, commentedAt, key, additionAt}
@@ -23,12 +24,12 @@ use Rattle.keys.specs.Promises.{AdditionFault}
 use Rattle.keys.proofs.KeyLaws.{read-whole}
 use Rattle.keys.proofs.FaultLaws.{fault-so}
 
-limits-fault : (p : Places) (w : Walk) (place : ℕ) → faultOf (walkSays w) ≡ some place → limitsOf p w ≡ Addition.Fault place
+limits-fault : (p : Places) (comment : Piece) (w : Walk) (place : ℕ) → faultOf (walkSays w) ≡ some place → limitsOf p comment w ≡ Addition.Fault place
 unfolding limitsOf
-limits-fault p (Done l c) place e = let z : _≡_ {A = ℕ} 0 1 = cc in absurd (omega arith)
-limits-fault p (Duplicate at) place e = let h : at ≡ place = cc in ap Addition.Fault h
-limits-fault p (Unknown at) place e = let h : at ≡ place = cc in ap Addition.Fault h
-limits-fault p (Cut at) place e = let h : at ≡ place = cc in ap Addition.Fault h
+limits-fault p comment (Done l c) place e = let z : _≡_ {A = ℕ} 0 1 = cc in absurd (omega arith)
+limits-fault p comment (Duplicate at) place e = let h : at ≡ place = cc in ap Addition.Fault h
+limits-fault p comment (Unknown at) place e = let h : at ≡ place = cc in ap Addition.Fault h
+limits-fault p comment (Cut at) place e = let h : at ≡ place = cc in ap Addition.Fault h
 
 pub addition-fault : AdditionFault
 unfolding additionAt key commentedAt part
@@ -39,5 +40,5 @@ addition-fault s at constrained place = record {
       rw (whole, is, answers-apart .parts (textAt s end) (Part.Fault place) c);
   constraints = λ blob end text next k c yes w.
       let (p, whole, _, is) = read-whole s at (keyAt s at) blob end k in
-      rw (whole, is, whole-of (textAt s end) text next c, yes, limits-fault p _ place w);
+      rw (whole, is, whole-of (textAt s end) text next c, yes, limits-fault p _ _ place w);
 }

@@ -4,7 +4,7 @@ use mathlib.Core.Bool.{Bool}
 use mathlib.Core.Option.{Option, none, some}
 use mathlib.Core.List.{List}
 use Rattle.wire.specs.Texts.{bytes}
-use Rattle.wire.specs.Values.{Reading, read, fault}
+use Rattle.wire.specs.Values.{Reading, read, fault, Span}
 use Rattle.keys.specs.declared.kinds.Kind.{Kind}
 use Rattle.keys.specs.declared.kinds.Key.{Key}
 use Rattle.keys.specs.declared.kinds.Blob.{Blob}
@@ -64,12 +64,13 @@ faultOf (second-lifetime at) = some at
 faultOf (unknown-byte at) = some at
 faultOf (cut-seconds at) = some at
 
--- an add request's blob and limits, and where its key fields end, or a fault at a place
+-- an add request's blob, where its comment lies, its limits, and where its key fields end, or a fault at a place
 pub record Added : Type 0 where
   pub blob : List ℕ
+  pub comment : Span
   pub limits : Limits
 
 abbrev pub additionReads : List ℕ → ℕ → Addition → Reading Added
 additionReads s at (Addition.Whole c) =
-    read (record { blob = blobOf s at (c .places); limits = record { seconds = secondsIn (c .lifetime); confirm = c .confirm } }) (c .places .end)
+    read (record { blob = blobOf s at (c .places); comment = record { from = c .comment .from; to = c .comment .to }; limits = record { seconds = secondsIn (c .lifetime); confirm = c .confirm } }) (c .places .end)
 additionReads s at (Addition.Fault place) = fault place

@@ -10,9 +10,16 @@ use wire::read::Part;
 ghost use mathlib.Core.Path.{_≡_};
 ghost use Rattle.keys.specs.Additions.{limitsOf, commentedAt, additionAt};
 
-// What an add request carries: where its key fields lie, its lifetime and Confirm.
+// Where a part of the request lies.
+pub struct Piece {
+    pub from: usize,
+    pub to: usize,
+}
+
+// What an add request carries: where its key fields and its comment lie, its lifetime and Confirm.
 pub struct Carried {
     pub places: Places,
+    pub comment: Piece,
     pub lifetime: Lifetime,
     pub confirm: bool,
 }
@@ -23,12 +30,13 @@ pub enum Addition {
 }
 
 // What the constraints say, or their fault.
-fn limited(places: Places, walk: Walk) -> Addition
-    ensures { λ r. ⌜ r ≡ limitsOf places walk ⌝ }
+fn limited(places: Places, comment: Piece, walk: Walk) -> Addition
+    ensures { λ r. ⌜ r ≡ limitsOf places comment walk ⌝ }
 {
     match walk {
         Walk::Done { lifetime, confirm } => Addition::Whole(Carried {
             places,
+            comment,
             lifetime,
             confirm,
         }),
@@ -45,16 +53,14 @@ fn commented(s: &[u8], places: Places, constrained: bool) -> Addition
     let comment = Cursor { at: places.end };
     let text = comment.text(s);
     match text {
-        Part::Whole {
-            from: _,
-            to: _,
-            next,
-        } => {
+        Part::Whole { from, to, next } => {
+            let piece = Piece { from, to };
             if constrained {
-                limited(places, constraints(s, next.at))
+                limited(places, piece, constraints(s, next.at))
             } else {
                 Addition::Whole(Carried {
                     places,
+                    comment: piece,
                     lifetime: Lifetime::Forever,
                     confirm: false,
                 })

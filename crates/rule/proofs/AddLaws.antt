@@ -102,10 +102,11 @@ room-of g blob i (anew absent at) = let first = seek-first isFree (g .places) i 
 
 may-store : (g : Gateway) (number reading : ℕ) (k : NewKey) (i : ℕ) → Storable g (newEntry number reading k) i → MayStore g k
 may-store g number reading k i s =
-    let lengths = fit-says (k .blob) (k .fields) .0 (s .fits) in
+    let lengths = fit-says (k .blob) (k .fields) (k .comment) .0 (s .fits) in
     record {
       blob-fits = lengths .blob-fits;
       fields-fit = lengths .fields-fit;
+      comment-fits = lengths .comment-fits;
       numbers-left = s .numbers-left;
       room = room-of g (k .blob) i (placed (k .blob) (g .places) i (s .place));
     }
@@ -176,12 +177,18 @@ added-always g c k bytes past state request may checked =
     let now = atCall g c in
     let (i, place) = room-place now (k .blob) (may .room) in
     let some-byte = some-bytes (request .key) in
-    let fits : fit (k .blob) (k .fields) ≡ true
-    = fit-says (k .blob) (k .fields) .1
-    (record { blob-some = some-byte .blob-some; blob-fits = may .blob-fits; fields-some = some-byte .fields-some; fields-fit = may .fields-fit }) in
+    let fits : fit (k .blob) (k .fields) (k .comment) ≡ true
+    = fit-says (k .blob) (k .fields) (k .comment) .1
+    (record {
+      blob-some = some-byte .blob-some;
+      blob-fits = may .blob-fits;
+      fields-some = some-byte .fields-some;
+      fields-fit = may .fields-fit;
+      comment-fits = may .comment-fits;
+    }) in
     let storable : Storable now (read-entry g c carried) i
     = record {
-      fits = subst (λ n. fit (n .blob) (n .fields) ≡ true) (sym (r .brings)) fits;
+      fits = subst (λ n. fit (n .blob) (n .fields) (n .comment) ≡ true) (sym (r .brings)) fits;
       numbers-left = may .numbers-left;
       place = subst (λ n. placeFor (n .blob) (now .places) ≡ At i) (sym (r .brings)) place;
       number = refl;

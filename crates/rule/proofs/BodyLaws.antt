@@ -117,7 +117,7 @@ module _ (answer : (q : Question) → Option (Answer q)) (g : Gateway) (payload 
     adding-cases constrained asking stored =
         added-cases Follows (additionAt payload 1 constrained) failure λ c read.
         let e = made c in
-        so-gives answer g P (fit (e .blob) (e .fields)) _ failing λ fits.
+        so-gives answer g P (fit (e .blob) (e .fields) (e .comment)) _ failing λ fits.
         so-gives answer g P (ltb (g .next) lastNumber) _ failing λ left.
         found-cases Follows (placeFor (e .blob) (g .places)) (λ _. failure) λ i place.
         let storable : Storable g e i = record { fits = fits; numbers-left = ltb-true _ _ left; place = place; number = refl; reading = refl } in

@@ -23,7 +23,7 @@ use Rattle.rule.proofs.Plans.{EveryLanding}
 
 -- an entry that may be stored, at a place for it
 pub record Storable (g : Gateway) (e : Entry) (i : ℕ) : Type 0 where
-  pub fits : fit (e .blob) (e .fields) ≡ true
+  pub fits : fit (e .blob) (e .fields) (e .comment) ≡ true
   pub numbers-left : g .next < lastNumber
   pub place : placeFor (e .blob) (g .places) ≡ At i
   pub number : e .number ≡ g .next
@@ -90,7 +90,7 @@ module _ (g : Gateway) where
   adding-effect constrained payload =
       added-cases Lands (additionAt payload 1 constrained) (leaves refl) λ c _.
       let e = entryOf g payload c (blobOf payload 1 (c .places)) in
-      so-cases Lands (fit (e .blob) (e .fields))
+      so-cases Lands (fit (e .blob) (e .fields) (e .comment))
       (λ fits.
       so-cases Lands (ltb (g .next) lastNumber)
       (λ left.

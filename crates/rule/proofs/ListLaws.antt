@@ -19,7 +19,7 @@ lists-live (taken e l) = ap (λ es. e ∷ es) (lists-live l)
 items-forms : (es : List Entry) → items es ≡ itemForms es
 unfolding items
 items-forms [] = refl
-items-forms (e ∷ es) = ap (λ tail. item e ++ tail) (items-forms es) ∙ append-assoc (string (e .blob)) (string []) (itemForms es)
+items-forms (e ∷ es) = ap (λ tail. item e ++ tail) (items-forms es) ∙ append-assoc (string (e .blob)) (string (e .comment)) (itemForms es)
 
 listed-forms : (es : List Entry) {ps : List Place} → Lists ps es → listed ps ≡ string (12 ∷ (be32 (length es) ++ itemForms es))
 unfolding listed

@@ -63,7 +63,7 @@ module _ (oracle : Oracle) (g : Gateway) where
   adding-asks constrained payload =
       added-cases (AtMost 2) (additionAt payload 1 constrained) (land-asks 2 _ g) λ c _.
       let e = entryOf g payload c (blobOf payload 1 (c .places)) in
-      so-asks 2 (fit (e .blob) (e .fields)) _
+      so-asks 2 (fit (e .blob) (e .fields) (e .comment)) _
       (so-asks 2 (ltb (g .next) lastNumber) _
       (found-cases (AtMost 2) (placeFor (e .blob) (g .places)) (λ _. land-asks 2 _ g) λ i _.
       ask-asks 1 (check 1 (c .places .end)) _ (λ granted. so-asks 1 granted _ (land-asks 1 _ _))))

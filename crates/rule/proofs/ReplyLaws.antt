@@ -7,7 +7,7 @@ use mathlib.Core.Option.{Option, none, some}
 use mathlib.Core.List.{List, [], _∷_}
 use lib.ListN.{length, getD, length-append}
 use lib.Dec.{leb, ltb, eqb}
-use Rattle.wire.specs.Limits.{blobLimit, passphraseLimit, signatureLimit, replyRoom, itemRoom, lastNumber}
+use Rattle.wire.specs.Limits.{passphraseLimit, signatureLimit, replyRoom, itemRoom, lastNumber}
 use Rattle.wire.specs.Read.{cutOf, same, stringAt, numberAt}
 use Rattle.wire.specs.Steps.{so}
 use Rattle.wire.specs.Write.{string}
@@ -31,17 +31,20 @@ size close = 0
 
 -- ## The longest list
 
-items-length : (ps : List Place) → EveryEntry (λ e. length (e .blob) ≤ blobLimit) ps → length (items (live ps)) ≤ itemRoom * length ps
+items-length : (clock next : ℕ) (ps : List Place) → EveryEntry (SoundEntry clock next) ps → length (items (live ps)) ≤ itemRoom * length ps
 unfolding items live
-items-length [] h = omega arith
-items-length (none ∷ ps) h = let r = items-length ps h in omega arith
-items-length (some e ∷ ps) h = let r = items-length ps (h .1) in let b = h .0 in simp length-append (omega arith)
+items-length clock next [] h = omega arith
+items-length clock next (none ∷ ps) h = let r = items-length clock next ps h in omega arith
+items-length clock next (some e ∷ ps) h =
+    let r = items-length clock next ps (h .1) in
+    let blob = h .0 .lengths .blob-fits in
+    let comment = h .0 .lengths .comment-fits in
+    simp length-append (omega arith)
 
 list-size : (g : Gateway) → Sound g → length (listed (g .places)) ≤ replyRoom
 unfolding listed
 list-size g s =
-    let blobs = every-imp (SoundEntry (g .clock) (g .next)) (λ e. length (e .blob) ≤ blobLimit) (λ e h. h .lengths .blob-fits) (g .places) (s .entries) in
-    let l = items-length (g .places) blobs in
+    let l = items-length (g .clock) (g .next) (g .places) (s .entries) in
     let eight : length (g .places) ≡ 8 = s .eight-places in
     omega arith
 
@@ -104,7 +107,7 @@ module _ (lent : (q : Question) → Option (Answer q)) (g : Gateway)
   adding-fits constrained payload =
       added-cases Fits (additionAt payload 1 constrained) fails-fits λ c _.
       let e = entryOf g payload c (blobOf payload 1 (c .places)) in
-      so-fits (fit (e .blob) (e .fields)) _
+      so-fits (fit (e .blob) (e .fields) (e .comment)) _
       (so-fits (ltb (g .next) lastNumber) _
       (found-cases Fits (placeFor (e .blob) (g .places)) (λ _. fails-fits) λ i _.
       ask-fits (check 1 (c .places .end)) _ (λ granted _. so-fits granted _ (success-fits (withEntry i e g)))))

@@ -25,18 +25,19 @@ use Rattle.keys.specs.declared.constraints.Lifetime.{Lifetime}
 use Rattle.keys.specs.declared.constraints.Lifetime.the-variants.{Forever}
 use Rattle.keys.specs.declared.constraints.Walk.{Walk}
 use Rattle.keys.specs.declared.constraints.Walk.the-variants.{Done, Duplicate, Unknown, Cut}
+use Rattle.keys.specs.declared.addition.Piece.{Piece}
 use Rattle.keys.specs.declared.addition.Carried.{Carried}
 use Rattle.keys.specs.declared.addition.Addition.{Addition}
 use Rattle.keys.specs.Kinds.{keyAt, blobOf}
 use Rattle.keys.specs.Additions.{limitsOf, constraintsAt, commentedAt, key, additionAt}
-use Rattle.keys.specs.Values.{Added, additionReads}
+use Rattle.keys.specs.Values.{secondsIn, Added, additionReads}
 use Rattle.keys.proofs.KeyLaws.{only-keys, every-key}
 use Rattle.keys.proofs.FieldLaws.{lies-at, lies-cut}
 use Rattle.keys.proofs.SettleLaws.{walk-rule}
 use Rattle.rule.specs.Gateway.{NewKey}
 use Rattle.rule.specs.Rule.{brought}
 use Rattle.rule.specs.Order.{Begins, Carries}
-use Rattle.rule.specs.Content.{LimitForm, plain, constrained, AddRequest, addByte, addedOf, AdditionRule, SignRequest}
+use Rattle.rule.specs.Content.{LimitForm, plain, constrained, AddRequest, addByte, commentSpan, addedOf, AdditionRule, SignRequest}
 use Rattle.rule.proofs.Cases.{part-cases}
 
 -- ## A payload and its first byte
@@ -62,10 +63,8 @@ one-carried s t =
 -- what was read one behind the other
 record Steps (s : List ℕ) (c : Bool) (k : Carried) : Type 0 where
   fields : keyAt s 1 ≡ Key.Whole (k .places)
-  from : ℕ
-  to : ℕ
   next : Cursor
-  comment : textAt s (k .places .end) ≡ Whole from to next
+  comment : textAt s (k .places .end) ≡ Whole (k .comment .from) (k .comment .to) next
   limits : constraintsAt s (next .at) c ≡ Done (k .lifetime) (k .confirm)
 
 module _ (s : List ℕ) (c : Bool) (k : Carried) where
@@ -79,19 +78,20 @@ module _ (s : List ℕ) (c : Bool) (k : Carried) where
   unfolding additionAt key commentedAt limitsOf
   steps = by-key (keyAt s 1) refl
     where
-      by-walk : (q : Places) (w : Walk) → limitsOf q w ≡ Addition.Whole k → (q ≡ k .places) × (w ≡ Done (k .lifetime) (k .confirm))
-      by-walk q (Done m b) e =
-          let is : _≡_ {A = Carried} (record { places = q; lifetime = m; confirm = b }) k = cc in
-          (ap (λ (x : Carried). x .places) is, λ i. Done (is i .lifetime) (is i .confirm))
-      by-walk q (Duplicate at) e = let z : _≡_ {A = ℕ} 0 1 = cc in absurd (omega arith)
-      by-walk q (Unknown at) e = let z : _≡_ {A = ℕ} 0 1 = cc in absurd (omega arith)
-      by-walk q (Cut at) e = let z : _≡_ {A = ℕ} 0 1 = cc in absurd (omega arith)
+      by-walk : (q : Places) (text : Piece) (w : Walk) → limitsOf q text w ≡ Addition.Whole k
+          → (q ≡ k .places) × (text ≡ k .comment) × (w ≡ Done (k .lifetime) (k .confirm))
+      by-walk q text (Done m b) e =
+          let is : _≡_ {A = Carried} (record { places = q; comment = text; lifetime = m; confirm = b }) k = cc in
+          (ap (λ (x : Carried). x .places) is, ap (λ (x : Carried). x .comment) is, λ i. Done (is i .lifetime) (is i .confirm))
+      by-walk q text (Duplicate at) e = let z : _≡_ {A = ℕ} 0 1 = cc in absurd (omega arith)
+      by-walk q text (Unknown at) e = let z : _≡_ {A = ℕ} 0 1 = cc in absurd (omega arith)
+      by-walk q text (Cut at) e = let z : _≡_ {A = ℕ} 0 1 = cc in absurd (omega arith)
 
       by-key : (read : Key) → keyAt s 1 ≡ read → Went (key Addition.Fault read (λ p. commentedAt s p c))
       by-key (Key.Whole q) h =
           part-cases Went (textAt s (q .end)) (λ at _. faulty at) λ f t next e w.
-          let (x, y) = by-walk q (constraintsAt s (next .at) c) w in
-          record { fields = h ∙ ap Key.Whole x; from = f; to = t; next = next; comment = rw x at e; limits = y }
+          let (x, text, y) = by-walk q (record { from = f; to = t }) (constraintsAt s (next .at) c) w in
+          record { fields = h ∙ ap Key.Whole x; next = next; comment = (rw x at e) ∙ (λ i. Whole (text i .from) (text i .to) next); limits = y }
       by-key (Key.Fault at) h = faulty at
 
   steps-back : Steps s c k → additionAt s 1 c ≡ Addition.Whole k
@@ -111,13 +111,28 @@ text-shape s at f t k bytes e =
 
 -- and is read
 text-there : (s : List ℕ) (at : ℕ) (v rest : List ℕ) → Bytes s → length v < 2 ^ 32 → Octets v → drop at s ≡ string v ++ rest
-    → (textAt s at ≡ Whole (at + 4) (at + 4 + length v) (record { at = at + 4 + length v })) × (drop (at + 4 + length v) s ≡ rest)
+    → (textAt s at ≡ Whole (at + 4) (at + 4 + length v) (record { at = at + 4 + length v })) × (cutOf s (at + 4) (at + 4 + length v) ≡ v)
+    × (drop (at + 4 + length v) s ≡ rest)
 text-there s at v rest bytes small octets e =
     let (w, is, behind) = string-form s at v rest bytes small .0 e in
     let span : Span = record { from = at + 4; to = at + 4 + length v } in
-    (whole-of (textAt s at) span _ (text-rule s at span _ .1 (ap partReads w, rw is octets)), behind)
+    (whole-of (textAt s at) span _ (text-rule s at span _ .1 (ap partReads w, rw is octets)), is, behind)
+
+-- where it lies: behind its length
+text-span : (s : List ℕ) (at : ℕ) (fields : List ℕ) (f t : ℕ) (k : Cursor) → at ≡ 1 + length fields → textAt s at ≡ Whole f t k
+    → _≡_ {A = Span} (record { from = f; to = t }) (record { from = 1 + length fields + 4; to = 1 + length fields + 4 + length (cutOf s f t) })
+text-span s at fields f t k end e =
+    let r = text-rule s at (record { from = f; to = t }) (k .at) .0 (ap partReads e) in
+    let w = string-read s at f t _ (whole-of (stringAt s at) (record { from = f; to = t }) (k .at) (r .0)) in
+    let long = part-length s f t (omega arith) (w .within) in
+    let start : f ≡ 1 + length fields + 4 = omega arith in
+    let stop : t ≡ 1 + length fields + 4 + length (cutOf s f t) = omega arith in
+    λ i. record { from = start i; to = stop i }
 
 -- ## Add requests
+
+abbrev spanOf : Piece → Span
+spanOf p = record { from = p .from; to = p .to }
 
 -- what is read of an add request that brings this key
 pub record AddRead (payload : List ℕ) (c : Bool) (carried : Carried) (k : NewKey) : Type 0 where
@@ -125,6 +140,7 @@ pub record AddRead (payload : List ℕ) (c : Bool) (carried : Carried) (k : NewK
   pub read : additionAt payload 1 c ≡ Addition.Whole carried
   pub brings : brought payload carried (blobOf payload 1 (carried .places)) ≡ k
   pub end : carried .places .end ≡ 1 + length (k .fields)
+  pub lies : spanOf (carried .comment) ≡ commentSpan k
 
 module _ (payload : List ℕ) (bytes : Bytes payload) where
   limits-in : (c : Bool) (at : ℕ) (l : Lifetime) (confirm : Bool) → constraintsAt payload at c ≡ Done l confirm → LimitForm (addByte c) (drop at payload) l confirm
@@ -148,20 +164,26 @@ module _ (payload : List ℕ) (bytes : Bytes payload) where
       let p = carried .places in
       let w = steps payload c carried e in
       let (fields, blob, form, shape, found) = only-keys payload 1 p bytes (w .fields) in
-      let (octets, commented) = text-shape payload (p .end) (w .from) (w .to) (w .next) bytes (w .comment) in
+      let (octets, commented) = text-shape payload (p .end) (carried .comment .from) (carried .comment .to) (w .next) bytes (w .comment) in
       let lies = lies-at payload 1 fields (drop (p .end) payload) (begins .some-byte) shape .0 in
-      let cut : cutOf payload 1 (p .end) ≡ fields = ap (cutOf payload 1) (found .end) ∙ lies-cut lies in (
-        record { blob = blob; fields = fields; lifetime = carried .lifetime; confirm = carried .confirm },
+      let cut : cutOf payload 1 (p .end) ≡ fields = ap (cutOf payload 1) (found .end) ∙ lies-cut lies in
+      let text = cutOf payload (carried .comment .from) (carried .comment .to) in (
+        record { blob = blob; fields = fields; comment = text; lifetime = carried .lifetime; confirm = carried .confirm },
         record {
           byte = addByte c;
-          comment = cutOf payload (w .from) (w .to);
           rest = drop (w .next .at) payload;
           key = form;
           text = octets;
           limits = limits-in c (w .next .at) (carried .lifetime) (carried .confirm) (w .limits);
           shape = first-shape begins ∙ ap (λ (rest : List ℕ). addByte c ∷ rest) (shape ∙ ap (λ (rest : List ℕ). fields ++ rest) commented);
         },
-        record { begins = begins; read = e; brings = λ i. record { blob = found .public i; fields = cut i; lifetime = carried .lifetime; confirm = carried .confirm }; end = found .end },
+        record {
+          begins = begins;
+          read = e;
+          brings = λ i. record { blob = found .public i; fields = cut i; comment = text; lifetime = carried .lifetime; confirm = carried .confirm };
+          end = found .end;
+          lies = text-span payload (p .end) fields _ _ (w .next) (found .end) (w .comment);
+        },
       )
 
   -- what the draft writes is read
@@ -170,22 +192,23 @@ module _ (payload : List ℕ) (bytes : Bytes payload) where
       let fields = k .fields in
       let (c, byte, limits) = limits-out (r .limits) in
       let size = simp length-append at (ap length (r .shape)) in
-      let rest : List ℕ = string (r .comment) ++ r .rest in
+      let rest : List ℕ = string (k .comment) ++ r .rest in
       let shape : drop 1 payload ≡ fields ++ rest = ap (drop 1) (r .shape) in
       let (p, found) = every-key payload 1 fields (k .blob) rest bytes (r .key) (omega arith) shape in
       let begins : Begins (addByte c) payload = rw (← byte) (shape-first (r .shape)) in
       let (lies, behind) = lies-at payload 1 fields rest (begins .some-byte) shape in
       let commented : drop (p .end) payload ≡ rest = rw (found .end) behind in
-      let (text, left) = text-there payload (p .end) (r .comment) (r .rest) bytes (omega arith) (r .text) commented in
-      let carried : Carried = record { places = p; lifetime = k .lifetime; confirm = k .confirm } in
+      let (text, is-text, left) = text-there payload (p .end) (k .comment) (r .rest) bytes (omega arith) (r .text) commented in
+      let carried : Carried = record { places = p; comment = record { from = p .end + 4; to = p .end + 4 + length (k .comment) }; lifetime = k .lifetime; confirm = k .confirm } in
       let cut : cutOf payload 1 (p .end) ≡ fields = ap (cutOf payload 1) (found .end) ∙ lies-cut lies in (
         c,
         carried,
         record {
           begins = begins;
-          read = steps-back payload c carried (record { fields = found .read-so; from = _; to = _; next = _; comment = text; limits = limits _ left });
-          brings = λ i. record { blob = found .public i; fields = cut i; lifetime = k .lifetime; confirm = k .confirm };
+          read = steps-back payload c carried (record { fields = found .read-so; next = _; comment = text; limits = limits _ left });
+          brings = λ i. record { blob = found .public i; fields = cut i; comment = is-text i; lifetime = k .lifetime; confirm = k .confirm };
           end = found .end;
+          lies = λ i. record { from = found .end i + 4; to = found .end i + 4 + length (k .comment) };
         },
       )
 
@@ -198,19 +221,26 @@ module _ (payload : List ℕ) (bytes : Bytes payload) where
   abbrev Requests : Added → ℕ → Type 0
   Requests a end = (k : NewKey) × AddRequest payload k × (a ≡ addedOf k) × (end ≡ 1 + length (k .fields))
 
+  -- what is said of what was read
+  abbrev said-of : Carried → Added
+  said-of c = record { blob = blobOf payload 1 (c .places); comment = spanOf (c .comment); limits = record { seconds = secondsIn (c .lifetime); confirm = c .confirm } }
+
+  said-is : {c : Bool} {carried : Carried} {k : NewKey} → AddRead payload c carried k → said-of carried ≡ addedOf k
+  said-is r = λ i. record { blob = r .brings i .blob; comment = r .lies i; limits = record { seconds = secondsIn (r .brings i .lifetime); confirm = r .brings i .confirm } }
+
   said-request : (c : Bool) → Begins (addByte c) payload → (r : Addition) → additionAt payload 1 c ≡ r → (a : Added) (end : ℕ) → additionReads payload 1 r ≡ read a end → Requests a end
   said-request c begins (Addition.Whole carried) e a end says =
       let (k, request, r) = add-in c carried begins e in
-      let is : addedOf (brought payload carried (blobOf payload 1 (carried .places))) ≡ a = cc in
+      let is : said-of carried ≡ a = cc in
       let ends : carried .places .end ≡ end = cc in
-      (k, request, sym is ∙ ap addedOf (r .brings), sym ends ∙ r .end)
+      (k, request, sym is ∙ said-is r, sym ends ∙ r .end)
   said-request c begins (Addition.Fault at) e a end says = let z : _≡_ {A = ℕ} 0 1 = cc in absurd (omega arith)
 
   request-said : (c : Bool) → Begins (addByte c) payload → length payload < 2 ^ 32 → (a : Added) (end : ℕ) → Requests a end → additionReads payload 1 (additionAt payload 1 c) ≡ read a end
   request-said c begins small a end (k, request, is, ends) =
       let (d, carried, r) = add-out k small request in
       let same : d ≡ c = same-byte d c (sym (r .begins .first) ∙ begins .first) in
-      rw (← same, r .read) (λ i. read ((ap addedOf (r .brings) ∙ sym is) i) ((r .end ∙ sym ends) i))
+      rw (← same, r .read) (λ i. read ((said-is r ∙ sym is) i) ((r .end ∙ sym ends) i))
 
 pub addition-rule : AdditionRule
 addition-rule payload c a end bytes small begins =

@@ -9,7 +9,7 @@ use mathlib.Core.List.{List, [], _∷_}
 use borrow.Author.Tests.{leb-true, ltb-true, eqb-true, eqb-false, le-leb, lt-ltb, eq-eqb, ne-eqb}
 use lib.Dec.{leb, ltb, eqb}
 use lib.ListN.{length, length-set, length-map}
-use Rattle.wire.specs.Limits.{blobLimit, fieldsLimit, passphraseLimit, lastNumber}
+use Rattle.wire.specs.Limits.{blobLimit, fieldsLimit, commentLimit, passphraseLimit, lastNumber}
 use Rattle.wire.specs.Numbers.{within}
 use Rattle.wire.specs.Read.{same}
 use Rattle.rule.specs.Gateway.{Entry, Place, Gateway, lasting, atClock, advance, withLock, without, withoutAll, withEntry, vacate}
@@ -70,18 +70,21 @@ distinct-says [] = ((λ _. tt), (λ _. refl))
 distinct-says (none ∷ ps) = distinct-says ps
 distinct-says (some e ∷ ps) = both-say _ _ _ _ (every-says (apart e) (Apart e) (apart-says e) ps) (distinct-says ps)
 
-pub fit-says : (blob fields : List ℕ) → Says (fit blob fields) (Fits blob fields)
+pub fit-says : (blob fields comment : List ℕ) → Says (fit blob fields comment) (Fits blob fields comment)
 unfolding fit
-fit-says blob fields =
-    let all = both-say _ _ _ _ (within-says 1 blobLimit (length blob)) (within-says 1 fieldsLimit (length fields)) in (
-      (λ t. let h = all .0 t in record { blob-some = h .0 .0; blob-fits = h .0 .1; fields-some = h .1 .0; fields-fit = h .1 .1 }),
-      (λ s. all .1 ((s .blob-some, s .blob-fits), (s .fields-some, s .fields-fit))),
+fit-says blob fields comment =
+    let rest = both-say _ _ _ _ (within-says 1 fieldsLimit (length fields)) (le-says (length comment) commentLimit) in
+    let all = both-say _ _ _ _ (within-says 1 blobLimit (length blob)) rest in (
+      (λ t.
+          let (in-blob, (in-fields, in-comment)) = all .0 t in
+          record { blob-some = in-blob .0; blob-fits = in-blob .1; fields-some = in-fields .0; fields-fit = in-fields .1; comment-fits = in-comment }),
+      (λ s. all .1 ((s .blob-some, s .blob-fits), ((s .fields-some, s .fields-fit), s .comment-fits))),
     )
 
 entry-says : (clock next : ℕ) (e : Entry) → Says (soundEntry clock next e) (SoundEntry clock next e)
 entry-says clock next e =
     let n = both-say _ _ _ _ (both-say _ _ _ _ (le-says 1 (e .number)) (lt-says (e .number) next)) (le-says (e .reading) clock) in
-    let all = both-say _ _ _ _ (fit-says (e .blob) (e .fields)) n in (
+    let all = both-say _ _ _ _ (fit-says (e .blob) (e .fields) (e .comment)) n in (
       (λ t.
           let h = all .0 t in
           record {
@@ -168,7 +171,7 @@ sound-entry g e i h s =
     let reading : e .reading ≡ g .clock = h .reading in
     let first : 1 ≤ g .next = s .next-first in
     let new : SoundEntry (g .clock) (g .next + 1) e
-    = record { lengths = fit-says (e .blob) (e .fields) .0 (h .fits); number-first = omega arith; number-taken = omega arith; reading-past = omega arith } in
+    = record { lengths = fit-says (e .blob) (e .fields) (e .comment) .0 (h .fits); number-first = omega arith; number-taken = omega arith; reading-past = omega arith } in
     let old = every-imp (SoundEntry (g .clock) (g .next)) (SoundEntry (g .clock) (g .next + 1)) (λ x k. omega arith) (g .places) (s .entries) in
     record {
       eight-places = length-set (g .places) i (some e) ∙ s .eight-places;

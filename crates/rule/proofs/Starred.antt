@@ -9,7 +9,7 @@ use Rattle.rule.specs.Soundness.{everyEntry, distinct, fit, sound}
 use Rattle.rule.specs.Rule.{live, items, listed, listing, removing, removingAll, locking, unlocking, hashOf, signed, signingData, confirming, signing, gated, row, table, rule}
 use Rattle.rule.specs.Calls.{forNumber, lent, lentLength, refusalOf, follow, served, refusal, call}
 use Rattle.rule.specs.Runs.{heard, heardIn, turn, turnsFrom, endOf}
-use Rattle.rule.specs.Examples.{StarredExamples, lockedAb, oneKey, SoundnessLimits, RefusalLimits}
+use Rattle.rule.specs.Examples.{StarredExamples, lockedAb, oneKey, SoundnessLimits, RefusalLimits, fullTable, RoomReached}
 use Rattle.rule.proofs.SoundLaws.{fresh-sound, sound-rule}
 
 pub starred-examples : StarredExamples
@@ -51,6 +51,7 @@ soundness-limits = record {
   blob-over = refl;
   fields-none = refl;
   fields-over = refl;
+  comment-over = refl;
   number-none = refl;
   number-not-taken = refl;
   reading-ahead = refl;
@@ -77,3 +78,7 @@ refusal-limits = record {
   payload-long = refl;
   signature-long = refl;
 }
+
+pub room-reached : RoomReached
+unfolding beAt same so everyEntry distinct fit sound dueAt lasting atClock advance live items listed listing gated row table rule lent lentLength refusalOf follow served refusal call
+room-reached = record { sound-table = sound-rule fullTable .0 refl; bytes = _; listed = refl; length-is = refl }

@@ -6,12 +6,12 @@ use mathlib.Core.Bool.{Bool, true, false}
 use mathlib.Core.Option.{Option, none, some}
 use mathlib.Core.List.{List, [], _∷_, _++_}
 use lib.ListN.{length, getD}
-use Rattle.wire.specs.Limits.{payloadLimit, storeSize, blobLimit, fieldsLimit, passphraseLimit, signatureLimit, replyRoom}
+use Rattle.wire.specs.Limits.{payloadLimit, storeSize, blobLimit, fieldsLimit, commentLimit, passphraseLimit, signatureLimit, replyRoom}
 use Rattle.wire.specs.declared.Seconds.{Seconds}
 use Rattle.wire.specs.declared.Constraint.{Constraint}
 use Rattle.wire.specs.Numbers.{Bytes, be32}
 use Rattle.wire.specs.Abnf.{Octets}
-use Rattle.wire.specs.Values.{read}
+use Rattle.wire.specs.Values.{read, Span}
 use Rattle.wire.specs.Write.{string}
 use Rattle.keys.specs.declared.constraints.Lifetime.{Lifetime}
 use Rattle.keys.specs.declared.constraints.Lifetime.the-variants.{Forever, For}
@@ -137,12 +137,11 @@ pub data LimitForm : ℕ → List ℕ → Lifetime → Bool → Type 0 where
 
 pub record AddRequest (payload : List ℕ) (k : NewKey) : Type 0 where
   pub byte : ℕ
-  pub comment : List ℕ
   pub rest : List ℕ
   pub key : KeyFields (k .fields) (k .blob)
-  pub text : Octets comment
+  pub text : Octets (k .comment)
   pub limits : LimitForm byte rest (k .lifetime) (k .confirm)
-  pub shape : payload ≡ byte ∷ (k .fields ++ (string comment ++ rest))
+  pub shape : payload ≡ byte ∷ (k .fields ++ (string (k .comment) ++ rest))
 
 -- why an entry may leave at a call
 pub data Leaves (g : Gateway) (c : Call) (e : Entry) : Type 0 where
@@ -198,10 +197,10 @@ pub data Lists : List Place → List Entry → Type 0 where
   free : {ps : List Place} {es : List Entry} → Lists ps es → Lists (none ∷ ps) es
   taken : (e : Entry) {ps : List Place} {es : List Entry} → Lists ps es → Lists (some e ∷ ps) (e ∷ es)
 
--- each blob as a string, and an empty comment
+-- each blob as a string, and its own comment as a string
 abbrev pub itemForms : List Entry → List ℕ
 itemForms [] = []
-itemForms (e ∷ es) = string (e .blob) ++ (0 ∷ 0 ∷ 0 ∷ 0 ∷ itemForms es)
+itemForms (e ∷ es) = string (e .blob) ++ (string (e .comment) ++ itemForms es)
 
 abbrev pub ListRule : Type 0
 ListRule =
@@ -215,11 +214,15 @@ abbrev pub addByte : Bool → ℕ
 addByte false = 17
 addByte true = 25
 
+-- where the comment lies: behind the first byte, the fields and its own length
+abbrev pub commentSpan : NewKey → Span
+commentSpan k = record { from = 1 + length (k .fields) + 4; to = 1 + length (k .fields) + 4 + length (k .comment) }
+
 -- what a reader says of a request that brings this
 abbrev pub addedOf : NewKey → Added
-addedOf k = record { blob = k .blob; limits = record { seconds = secondsIn (k .lifetime); confirm = k .confirm } }
+addedOf k = record { blob = k .blob; comment = commentSpan k; limits = record { seconds = secondsIn (k .lifetime); confirm = k .confirm } }
 
--- An add request is read exactly where it is one as the draft writes it: its blob, where its key fields end, and its limits.
+-- An add request is read exactly where it is one as the draft writes it: its blob, where its comment lies, its limits, and where its key fields end.
 abbrev pub AdditionRule : Type 0
 AdditionRule =
     (payload : List ℕ) (constrained : Bool) (a : Added) (end : ℕ) → Bytes payload → length payload < 2 ^ 32 → Begins (addByte constrained) payload
@@ -245,6 +248,7 @@ pub record Put (before after : Gateway) (i : ℕ) (e : Entry) : Type 0 where
 pub record MayStore (before : Gateway) (k : NewKey) : Type 0 where
   pub blob-fits : length (k .blob) ≤ blobLimit
   pub fields-fit : length (k .fields) ≤ fieldsLimit
+  pub comment-fits : length (k .comment) ≤ commentLimit
   pub numbers-left : before .next < 2 ^ 64 - 1
   pub room : ((i : ℕ) × (old : Entry) × HeldAt before i old × (old .blob ≡ k .blob)) ⊎ ((i : ℕ) × FreeAt before i)
 

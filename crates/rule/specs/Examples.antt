@@ -4,14 +4,14 @@ use mathlib.Core.Path.{_≡_}
 use mathlib.Core.Bool.{true, false}
 use mathlib.Core.Option.{none, some}
 use mathlib.Core.List.{List, [], _∷_}
-use lib.ListN.{replicate}
+use lib.ListN.{length, replicate}
 use Rattle.wire.specs.Limits.{storeSize, replyRoom}
 use Rattle.wire.specs.declared.Split.the-variants.{MoreNeeded, TooLong}
 use Rattle.wire.specs.Frames.{splitOf}
 use Rattle.keys.specs.declared.constraints.Lifetime.the-variants.{Forever}
 use Rattle.rule.specs.declared.Hash.{Hash}
 use Rattle.rule.specs.declared.Hash.the-variants.{Plain, Sha256, Sha512}
-use Rattle.rule.specs.Gateway.{Gateway, fresh}
+use Rattle.rule.specs.Gateway.{Place, Gateway, fresh}
 use Rattle.rule.specs.Soundness.{Sound, sound}
 use Rattle.rule.specs.Rule.{gate, signature, reply, close, FAILURE, SUCCESS}
 use Rattle.rule.specs.Calls.{Answers, nothingLent, refusalOf, Call, Outcome, asks, lands, call}
@@ -43,7 +43,7 @@ lockedAb = record { places = replicate 8 none; lock = 0x61 ∷ 0x62 ∷ []; cloc
 -- one key, held under the blob 61, and a request for its signature over no data
 abbrev pub oneKey : Gateway
 oneKey = record {
-  places = some (record { number = 1; reading = 0; lifetime = Forever; confirm = false; blob = 0x61 ∷ []; fields = 0 ∷ [] }) ∷ replicate 7 none;
+  places = some (record { number = 1; reading = 0; lifetime = Forever; confirm = false; blob = 0x61 ∷ []; fields = 0 ∷ []; comment = [] }) ∷ replicate 7 none;
   lock = [];
   clock = 0;
   next = 2;
@@ -94,9 +94,9 @@ pub record StarredExamples : Type 0 where
   pub too-long : splitOf (0 ∷ 4 ∷ 0 ∷ 1 ∷ []) ≡ TooLong
 
 -- 01's soundness at its limits, on one held key
-abbrev pub keyWith : ℕ → ℕ → ℕ → ℕ → Gateway
-keyWith number reading blob fields = record {
-  places = some (record { number = number; reading = reading; lifetime = Forever; confirm = false; blob = replicate blob 1; fields = replicate fields 1 }) ∷ replicate 7 none;
+abbrev pub keyWith : ℕ → ℕ → ℕ → ℕ → ℕ → Gateway
+keyWith number reading blob fields comment = record {
+  places = some (record { number = number; reading = reading; lifetime = Forever; confirm = false; blob = replicate blob 1; fields = replicate fields 1; comment = replicate comment 1 }) ∷ replicate 7 none;
   lock = [];
   clock = 5;
   next = 3;
@@ -108,23 +108,24 @@ lockOfLength n next = record { places = replicate 8 none; lock = replicate n 1; 
 -- a second key beside one of number 1 and blob 61
 abbrev pub besides : ℕ → ℕ → Gateway
 besides number byte = record {
-  places = some (record { number = 1; reading = 0; lifetime = Forever; confirm = false; blob = 0x61 ∷ []; fields = 0 ∷ [] })
-      ∷ some (record { number = number; reading = 0; lifetime = Forever; confirm = false; blob = byte ∷ []; fields = 0 ∷ [] }) ∷ replicate 6 none;
+  places = some (record { number = 1; reading = 0; lifetime = Forever; confirm = false; blob = 0x61 ∷ []; fields = 0 ∷ []; comment = [] })
+      ∷ some (record { number = number; reading = 0; lifetime = Forever; confirm = false; blob = byte ∷ []; fields = 0 ∷ []; comment = [] }) ∷ replicate 6 none;
   lock = [];
   clock = 0;
   next = 3;
 }
 
 pub record SoundnessLimits : Type 0 where
-  pub greatest : sound (keyWith 2 5 1024 3072) ≡ true
-  pub least : sound (keyWith 1 0 1 1) ≡ true
-  pub blob-none : sound (keyWith 1 0 0 1) ≡ false
-  pub blob-over : sound (keyWith 1 0 1025 1) ≡ false
-  pub fields-none : sound (keyWith 1 0 1 0) ≡ false
-  pub fields-over : sound (keyWith 1 0 1 3073) ≡ false
-  pub number-none : sound (keyWith 0 0 1 1) ≡ false
-  pub number-not-taken : sound (keyWith 3 0 1 1) ≡ false
-  pub reading-ahead : sound (keyWith 1 6 1 1) ≡ false
+  pub greatest : sound (keyWith 2 5 1024 3072 255) ≡ true
+  pub least : sound (keyWith 1 0 1 1 0) ≡ true
+  pub blob-none : sound (keyWith 1 0 0 1 0) ≡ false
+  pub blob-over : sound (keyWith 1 0 1025 1 0) ≡ false
+  pub fields-none : sound (keyWith 1 0 1 0 0) ≡ false
+  pub fields-over : sound (keyWith 1 0 1 3073 0) ≡ false
+  pub comment-over : sound (keyWith 1 0 1 1 256) ≡ false
+  pub number-none : sound (keyWith 0 0 1 1 0) ≡ false
+  pub number-not-taken : sound (keyWith 3 0 1 1 0) ≡ false
+  pub reading-ahead : sound (keyWith 1 6 1 1 0) ≡ false
   pub lock-full : sound (lockOfLength 1024 1) ≡ true
   pub lock-over : sound (lockOfLength 1025 1) ≡ false
   pub next-none : sound (lockOfLength 0 0) ≡ false
@@ -138,10 +139,29 @@ pub record SoundnessLimits : Type 0 where
 
 -- 01's refusals at their limits, by the lengths of reply buffer and key store, soundness, and the lengths of payload and lent signature
 pub record RefusalLimits : Type 0 where
-  pub none-applies : refusalOf 8265 32768 true 262144 2048 ≡ none
-  pub buffer-short : refusalOf 8264 32768 true 262144 2048 ≡ some 1
-  pub store-short : refusalOf 8265 32767 true 262144 2048 ≡ some 2
-  pub store-long : refusalOf 8265 32769 true 262144 2048 ≡ some 2
-  pub unsound : refusalOf 8265 32768 false 262144 2048 ≡ some 3
-  pub payload-long : refusalOf 8265 32768 true 262145 2048 ≡ some 4
-  pub signature-long : refusalOf 8265 32768 true 262144 2049 ≡ some 5
+  pub none-applies : refusalOf 10305 32768 true 262144 2048 ≡ none
+  pub buffer-short : refusalOf 10304 32768 true 262144 2048 ≡ some 1
+  pub store-short : refusalOf 10305 32767 true 262144 2048 ≡ some 2
+  pub store-long : refusalOf 10305 32769 true 262144 2048 ≡ some 2
+  pub unsound : refusalOf 10305 32768 false 262144 2048 ≡ some 3
+  pub payload-long : refusalOf 10305 32768 true 262145 2048 ≡ some 4
+  pub signature-long : refusalOf 10305 32768 true 262144 2049 ≡ some 5
+
+-- eight keys, each with the longest blob and the longest comment
+abbrev pub longKey : ℕ → Place
+longKey n = some (record { number = n; reading = 0; lifetime = Forever; confirm = false; blob = n ∷ replicate 1023 0; fields = 0 ∷ []; comment = replicate 255 0x61 })
+
+abbrev pub fullTable : Gateway
+fullTable = record {
+  places = longKey 1 ∷ longKey 2 ∷ longKey 3 ∷ longKey 4 ∷ longKey 5 ∷ longKey 6 ∷ longKey 7 ∷ longKey 8 ∷ [];
+  lock = [];
+  clock = 0;
+  next = 9;
+}
+
+-- the bytes that refusal 1 asks for are reached: by the list of a sound table
+pub record RoomReached : Type 0 where
+  pub sound-table : Sound fullTable
+  pub bytes : List ℕ
+  pub listed : call fullTable (pastGate (0x0B ∷ [])) .outcome ≡ lands (reply bytes)
+  pub length-is : length bytes ≡ 10305

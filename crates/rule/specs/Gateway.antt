@@ -13,7 +13,8 @@ use Rattle.keys.specs.declared.constraints.Lifetime.the-variants.{Forever, For}
 use Rattle.rule.specs.declared.Found.{Found}
 use Rattle.rule.specs.declared.Found.the-variants.{At, Nothing}
 
--- "An entry has an insertion number, the reading at insertion, perhaps a lifetime, and Confirm or not", and the key's two byte strings
+-- "An entry has an insertion number, the reading at insertion, perhaps a lifetime, and Confirm or not", the key's two byte strings, and
+-- (#101) its comment
 pub record Entry : Type 0 where
   pub number : ℕ
   pub reading : ℕ
@@ -21,6 +22,7 @@ pub record Entry : Type 0 where
   pub confirm : Bool
   pub blob : List ℕ
   pub fields : List ℕ
+  pub comment : List ℕ
 
 -- a place is free or holds an entry
 abbrev pub Place : Type 0
@@ -111,6 +113,7 @@ withoutAll g = withPlaces (map vacate (g .places)) g
 pub record NewKey : Type 0 where
   pub blob : List ℕ
   pub fields : List ℕ
+  pub comment : List ℕ
   pub lifetime : Lifetime
   pub confirm : Bool
 
@@ -123,6 +126,7 @@ newEntry number reading k = record {
   confirm = k .confirm;
   blob = k .blob;
   fields = k .fields;
+  comment = k .comment;
 }
 
 -- "stored, next number taken"

@@ -221,6 +221,6 @@ NeverRefused3 = (g : Gateway) (cs : List Call) → Sound g → EveryOutcome (λ 
 abbrev pub NumbersOnlyRise : Type 0
 NumbersOnlyRise = (g : Gateway) (c : Call) → g .next ≤ call g c .gateway .next
 
--- every reply fits 8,265 bytes, which refusal 1 asks for (`RefusalRule`)
+-- every reply fits the bytes that refusal 1 asks for (`RefusalRule`)
 abbrev pub RepliesFit : Type 0
 RepliesFit = (g : Gateway) (c : Call) (bytes : List ℕ) → Sound g → call g c .outcome ≡ lands (reply bytes) → length bytes ≤ replyRoom

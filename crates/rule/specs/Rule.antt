@@ -57,9 +57,9 @@ closes g = land close g
 
 -- ## The bodies, past the gate: what follows the first byte starts at place 1
 
--- 11: "length, 12, count, then per entry in place order the blob as a string and an empty string"
+-- 11: "length, 12, count, then per entry in place order the blob as a string and" (#101) the comment "where the empty string stood"
 abbrev pub item : Entry → List ℕ
-item e = string (e .blob) ++ string []
+item e = string (e .blob) ++ string (e .comment)
 
 unfoldable pub live : List Place → List Entry
 live [] = []
@@ -148,7 +148,13 @@ added z (Addition.Fault at) next = z
 
 -- what it brings, with the blob that was made of its fields
 abbrev pub brought : List ℕ → Carried → List ℕ → NewKey
-brought payload c blob = record { blob = blob; fields = cutOf payload 1 (c .places .end); lifetime = c .lifetime; confirm = c .confirm }
+brought payload c blob = record {
+  blob = blob;
+  fields = cutOf payload 1 (c .places .end);
+  comment = cutOf payload (c .comment .from) (c .comment .to);
+  lifetime = c .lifetime;
+  confirm = c .confirm;
+}
 
 -- the entry that it makes: the next number, the kept clock as reading
 abbrev pub entryOf : Gateway → List ℕ → Carried → List ℕ → Entry
@@ -158,7 +164,7 @@ entryOf g payload c blob = newEntry (g .next) (g .clock) (brought payload c blob
 -- check; no is FAILURE. Else stored, next number taken, SUCCESS."
 unfoldable pub storing : Gateway → Entry → ℕ → Plan
 storing g e to =
-    so (fails g) (fit (e .blob) (e .fields))
+    so (fails g) (fit (e .blob) (e .fields) (e .comment))
     (so (fails g) (ltb (g .next) lastNumber)
     (found (fails g) (placeFor (e .blob) (g .places)) λ i.
     ask (check 1 to) λ granted. so (fails g) granted (land SUCCESS (withEntry i e g))))

@@ -7,7 +7,7 @@ use mathlib.Core.Option.{none, some}
 use mathlib.Core.List.{List, [], _∷_}
 use lib.ListN.{length}
 use lib.Dec.{leb, ltb, eqb}
-use Rattle.wire.specs.Limits.{blobLimit, fieldsLimit, passphraseLimit, lastNumber}
+use Rattle.wire.specs.Limits.{blobLimit, fieldsLimit, commentLimit, passphraseLimit, lastNumber}
 use Rattle.wire.specs.Numbers.{within}
 use Rattle.wire.specs.Read.{same}
 use Rattle.rule.specs.Gateway.{Entry, Place, Gateway}
@@ -30,14 +30,15 @@ Distinct (none ∷ ps) = Distinct ps
 Distinct (some e ∷ ps) = EveryEntry (Apart e) ps × Distinct ps
 
 -- "lengths within limits"
-pub record Fits (blob fields : List ℕ) : Type 0 where
+pub record Fits (blob fields comment : List ℕ) : Type 0 where
   pub blob-some : 1 ≤ length blob
   pub blob-fits : length blob ≤ blobLimit
   pub fields-some : 1 ≤ length fields
   pub fields-fit : length fields ≤ fieldsLimit
+  pub comment-fits : length comment ≤ commentLimit
 
 pub record SoundEntry (clock next : ℕ) (e : Entry) : Type 0 where
-  pub lengths : Fits (e .blob) (e .fields)
+  pub lengths : Fits (e .blob) (e .fields) (e .comment)
   pub number-first : 1 ≤ e .number
   pub number-taken : e .number < next
   pub reading-past : e .reading ≤ clock
@@ -65,12 +66,12 @@ distinct [] = true
 distinct (none ∷ ps) = distinct ps
 distinct (some e ∷ ps) = everyEntry (apart e) ps && distinct ps
 
-unfoldable pub fit : List ℕ → List ℕ → Bool
-fit blob fields = within 1 blobLimit (length blob) && within 1 fieldsLimit (length fields)
+unfoldable pub fit : List ℕ → List ℕ → List ℕ → Bool
+fit blob fields comment = within 1 blobLimit (length blob) && (within 1 fieldsLimit (length fields) && leb (length comment) commentLimit)
 
 abbrev pub soundEntry : ℕ → ℕ → Entry → Bool
 soundEntry clock next e =
-    fit (e .blob) (e .fields)
+    fit (e .blob) (e .fields) (e .comment)
     && ((leb 1 (e .number) && ltb (e .number) next) && leb (e .reading) clock)
 
 unfoldable pub sound : Gateway → Bool

@@ -25,6 +25,10 @@ fieldsLimit = 3072
 abbrev pub fieldsAt : ℕ
 fieldsAt = placeSize - fieldsLimit
 
+-- #101: "Keep each entry's comment, up to 255 bytes, with the entry"
+abbrev pub commentLimit : ℕ
+commentLimit = 255
+
 -- "The passphrase is kept with its length, at most 1,024 bytes"
 abbrev pub passphraseLimit : ℕ
 passphraseLimit = 1024
@@ -33,13 +37,13 @@ passphraseLimit = 1024
 abbrev pub signatureLimit : ℕ
 signatureLimit = 2048
 
--- "reply buffer shorter than 8,265 bytes"
+-- "reply buffer shorter than" the longest list; #101: "the longest list grows to 10,305 bytes, so refusal 1 now tests that number"
 abbrev pub replyRoom : ℕ
-replyRoom = 8265
+replyRoom = 10305
 
 -- the longest item of a list reply, and all eight of them
 abbrev pub itemRoom : ℕ
-itemRoom = 4 + blobLimit + 4
+itemRoom = 4 + blobLimit + 4 + commentLimit
 
 abbrev pub itemsRoom : ℕ
 itemsRoom = 8 * itemRoom

@@ -12,10 +12,12 @@ pub const FIELDS_LIMIT: usize = 3072;
 
 pub const FIELDS_AT: usize = PLACE_SIZE - FIELDS_LIMIT;
 
+pub const COMMENT_LIMIT: usize = 255;
+
 pub const PASSPHRASE_LIMIT: usize = 1024;
 
 pub const SIGNATURE_LIMIT: usize = 2048;
 
-pub const REPLY_ROOM: usize = 8265;
+pub const REPLY_ROOM: usize = 10305;
 
 pub const LAST_NUMBER: u64 = 0xffff_ffff_ffff_ffff;
