@@ -1,4 +1,4 @@
--- 01's starred examples, and soundness at its limits, by computation.
+-- 01's starred examples, soundness and refusals at their limits, and the longest list, by computation.
 use mathlib.Core.Path.{refl}
 use Rattle.wire.specs.Numbers.{beAt}
 use Rattle.wire.specs.Read.{cutOf, same, numberAt, stringAt}
