@@ -52,7 +52,7 @@ no-other g blob i G (anew absent _) j k n h same = every-at (λ x. x .blob ≢ b
 pub record New (g : Gateway) (k : Key) : Type 0 where
   pub number : k .number ≡ g .next
   pub reading : k .reading ≡ g .clock
-  pub lengths : Fits (k .blob) (k .fields)
+  pub lengths : Fits (k .blob) (k .fields) (k .comment)
 
 sound-put : (g : Gateway) (i : ℕ) (k : Key) → rule.Sound g → New g k → g .next < lastNumber → NoOther i (k .blob) (g .places) → rule.Sound (withEntry i k g)
 sound-put g i k G new left alone =

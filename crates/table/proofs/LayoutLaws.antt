@@ -17,7 +17,7 @@ use Rattle.table.proofs.ByteLaws.{padded-size}
 
 -- a key whose bytes have room in a place
 abbrev pub KeyFits : Key → Type 0
-KeyFits k = Fits (k .blob) (k .fields)
+KeyFits k = Fits (k .blob) (k .fields) (k .comment)
 
 held-size : (blob fields : List ℕ) → length blob ≤ blobLimit → length fields ≤ fieldsLimit → length (heldBytes blob fields) ≡ placeSize
 unfolding heldBytes

@@ -17,7 +17,8 @@ use Rattle.rule.proofs.Cases.{so-cases}
 use Rattle.table.specs.declared.Entry.{Entry}
 use Rattle.table.specs.declared.State.{State}
 use Rattle.table.specs.Each.{Each, offset}
-use Rattle.table.specs.Meaning.{size, isSet, keyOf, placeOf, blobIn, view, gatewayOf, freeEntry, entryFor}
+use Rattle.table.specs.Bytes.{padded}
+use Rattle.table.specs.Meaning.{size, isSet, keyOf, placeOf, blobIn, commentIn, view, gatewayOf, noEntry, keptComment, entryFor}
 use Rattle.table.specs.Soundness.{soundPlace, soundPlaces, SoundPlace, free, held, Housed, Sound}
 use Rattle.table.proofs.EachLaws.{offset-even, each-length, each-at, every-at, each-says}
 use Rattle.table.proofs.TestLaws.{place-says}
@@ -37,11 +38,11 @@ module _ (es : List Entry) (x : List ℕ) (eight : length es ≡ 8) where
   start : (i : ℕ) → i < 8 → offset size es i ≡ i * placeSize
   start i h = offset-even size placeSize (λ e. refl) es i (omega arith)
 
-  pub view-at : (i : ℕ) → i < 8 → getD (view es x) i none ≡ placeOf (getD es i freeEntry) (partAt x i)
-  view-at i h = each-at size placeOf es x i freeEntry none (omega arith) ∙ rw (start i h)
+  pub view-at : (i : ℕ) → i < 8 → getD (view es x) i none ≡ placeOf (getD es i noEntry) (partAt x i)
+  view-at i h = each-at size placeOf es x i noEntry none (omega arith) ∙ rw (start i h)
 
-  sound-at : (clock next i : ℕ) → i < 8 → Each (SoundPlace clock next) size es x → SoundPlace clock next (getD es i freeEntry) (partAt x i)
-  sound-at clock next i h all = rw (start i h) at (every-at size (SoundPlace clock next) es x i freeEntry (omega arith) all)
+  sound-at : (clock next i : ℕ) → i < 8 → Each (SoundPlace clock next) size es x → SoundPlace clock next (getD es i noEntry) (partAt x i)
+  sound-at clock next i h all = rw (start i h) at (every-at size (SoundPlace clock next) es x i noEntry (omega arith) all)
 
 -- ## What an entry says of its place
 
@@ -81,6 +82,15 @@ module _ (clock next : ℕ) (e : Entry) (p : List ℕ) (whole : length p ≡ pla
       by-seen (seen-free is entry _) = ap (λ (x : Entry). take (x .«blob_len») p) entry ∙ rw is
       by-seen (seen-held is _ _ _) = rw is
 
+-- what a free place keeps, and a held one, of its comment
+sound-comment : (clock next : ℕ) (e : Entry) (p : List ℕ) → length p ≡ placeSize → SoundPlace clock next e p → e .comment ≡ keptComment (commentIn (placeOf e p))
+unfolding entryFor keptComment padded
+sound-comment clock next e p whole S = by-seen (seen clock next e p whole S)
+  where
+    by-seen : Seen clock next e p → e .comment ≡ keptComment (commentIn (placeOf e p))
+    by-seen (seen-free is entry _) = ap (λ (x : Entry). x .comment) entry ∙ rw is
+    by-seen (seen-held is entry _ _) = ap (λ (x : Entry). x .comment) entry ∙ rw is
+
 sound-blob-fits : (clock next : ℕ) (e : Entry) (p : List ℕ) → SoundPlace clock next e p → e .«blob_len» ≤ blobLimit
 sound-blob-fits clock next e p (free f _) = let h : e .«blob_len» ≡ 0 = ap (λ (x : Entry). x .«blob_len») f in omega arith
 sound-blob-fits clock next e p (held s) = s .blob-fits
@@ -96,14 +106,18 @@ housed-by clock next es x eight size-x t =
 -- ## Of a sound state and store
 
 module _ (s : State) (x : List ℕ) (S : Sound s x) (i : ℕ) (h : i < 8) where
-  pub state-sound-at : SoundPlace (s .clock .count) (s .next) (getD (s .entries) i freeEntry) (partAt x i)
+  pub state-sound-at : SoundPlace (s .clock .count) (s .next) (getD (s .entries) i noEntry) (partAt x i)
   state-sound-at = sound-at (s .entries) x (S .eight-entries) (s .clock .count) (s .next) i h (S .places)
 
-  pub state-blob : take (getD (s .entries) i freeEntry .«blob_len») (partAt x i) ≡ blobIn (getD (gatewayOf s x .places) i none)
+  pub state-blob : take (getD (s .entries) i noEntry .«blob_len») (partAt x i) ≡ blobIn (getD (gatewayOf s x .places) i none)
   unfolding gatewayOf
   state-blob = rw (view-at (s .entries) x (S .eight-entries) i h) (sound-blob _ _ _ _ (part-size x i (S .store-size) h) state-sound-at)
 
-  pub state-blob-fits : getD (s .entries) i freeEntry .«blob_len» ≤ blobLimit
+  pub state-comment : getD (s .entries) i noEntry .comment ≡ keptComment (commentIn (getD (gatewayOf s x .places) i none))
+  unfolding gatewayOf
+  state-comment = rw (view-at (s .entries) x (S .eight-entries) i h) (sound-comment _ _ _ _ (part-size x i (S .store-size) h) state-sound-at)
+
+  pub state-blob-fits : getD (s .entries) i noEntry .«blob_len» ≤ blobLimit
   state-blob-fits = sound-blob-fits _ _ _ _ state-sound-at
 
 -- as many elements as are asked for are there, so there are some exactly where some are asked for

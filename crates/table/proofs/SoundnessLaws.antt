@@ -11,17 +11,18 @@ use native.Mathlib.Nat.{not-suc-le-zero, le-of-suc-le-suc, sub-zero, suc-sub-suc
 use borrow.Author.Tests.{eq-eqb, ne-eqb}
 use lib.ListN.{length, take, drop, getD, length-drop, drop-of-length-le}
 use lib.Seq.{take-all, take-nil, drop-drop, drop-cons}
-use Rattle.wire.specs.Limits.{placeSize, blobLimit, fieldsAt, passphraseLimit}
+use Rattle.wire.specs.Limits.{placeSize, blobLimit, fieldsAt}
 use Rattle.wire.specs.Read.{same}
 use Rattle.wire.proofs.Steps.{steps}
 use Rattle.rule.specs.Gateway.{Place}
 use Rattle.rule.specs.Soundness.{everyEntry, apart, distinct}
+use Rattle.table.specs.declared.Comment.{Comment}
 use Rattle.table.specs.declared.Entry.{Entry}
 use Rattle.table.specs.declared.LockRecord.{LockRecord}
 use Rattle.table.specs.Bytes.{allZero}
 use Rattle.table.specs.Each.{each}
-use Rattle.table.specs.Meaning.{size, keyOf, placeOf, view, freeEntry}
-use Rattle.table.specs.Soundness.{isFlag, soundFlags, soundLifetime, soundLock, soundPlace, all, soundPlaces, unlike, Housed}
+use Rattle.table.specs.Meaning.{size, keyOf, placeOf, view, noEntry}
+use Rattle.table.specs.Soundness.{soundComment, zeroComment, isFlag, soundFlags, soundLifetime, soundLock, soundPlace, all, soundPlaces, unlike, Housed}
 use Rattle.table.proofs.EachLaws.{offset-even, each-length, each-at}
 use Rattle.table.proofs.ReadLaws.{partAt, part-size, view-length, view-at, place-free, place-held}
 
@@ -55,6 +56,12 @@ flags-tested v b e = turned v b (soundFlags e)
 pub lifetime-tested : (v b : Bool) (e : Entry) → not b ≡ not v → b ≡ soundLifetime e → v ≡ soundLifetime e
 lifetime-tested v b e = turned v b (soundLifetime e)
 
+pub comment-tested : (v b : Bool) (c : Comment) → not b ≡ not v → b ≡ soundComment c → v ≡ soundComment c
+comment-tested v b c = turned v b (soundComment c)
+
+pub no-comment-tested : (v b : Bool) (c : Comment) → not b ≡ not v → b ≡ zeroComment c → v ≡ zeroComment c
+no-comment-tested v b c = turned v b (zeroComment c)
+
 pub lock-tested : (v b : Bool) (l : LockRecord) → not b ≡ not v → b ≡ soundLock l → v ≡ soundLock l
 lock-tested v b l = turned v b (soundLock l)
 
@@ -78,10 +85,10 @@ blob-rest-tested v b p n q e h = turned v b _ q (e ∙ ap allZero (drop-take fie
 pub fields-rest-tested : (b : Bool) (p : List ℕ) (m : ℕ) → b ≡ allZero (take (length p - (fieldsAt + m)) (drop (fieldsAt + m) p)) → b ≡ allZero (drop m (drop fieldsAt p))
 fields-rest-tested b p m e = e ∙ ap allZero (all-behind (fieldsAt + m) (length p) p refl ∙ sym (drop-drop m fieldsAt p))
 
-pub lock-rest-tested : (b : Bool) (p : List ℕ) (n : ℕ) → length p ≡ passphraseLimit → b ≡ allZero (take (passphraseLimit - n) (drop n p)) → b ≡ allZero (drop n p)
-lock-rest-tested b p n long e = e ∙ ap allZero (all-behind n passphraseLimit p long)
+pub rest-tested : (b : Bool) (p : List ℕ) (k n : ℕ) → length p ≡ k → b ≡ allZero (take (k - n) (drop n p)) → b ≡ allZero (drop n p)
+rest-tested b p k n long e = e ∙ ap allZero (all-behind n k p long)
 
-pub ruleset tests = (steps, and-yes, and-no, or-yes, or-no, flag-tested, flags-tested, lifetime-tested, lock-tested, places-tested, blob-rest-tested, fields-rest-tested, lock-rest-tested)
+pub ruleset tests = (steps, and-yes, and-no, or-yes, or-no, flag-tested, flags-tested, lifetime-tested, comment-tested, no-comment-tested, lock-tested, places-tested, blob-rest-tested, fields-rest-tested, rest-tested)
 
 -- ## The loops: a test over a list goes by its first element and the rest
 
@@ -119,9 +126,9 @@ module _ (clock next : ℕ) (es : List Entry) (x : List ℕ) (eight : length es 
   eight-tests : length (each (soundPlace clock next) size es x) ≡ 8
   eight-tests = each-length size (soundPlace clock next) es x ∙ eight
 
-  module _ (i : ℕ) (p : List ℕ) (b : Bool) (i-in : i < 8) (p-is : p ≡ partAt x i) (e : b ≡ soundPlace clock next (getD es i freeEntry) p) where
+  module _ (i : ℕ) (p : List ℕ) (b : Bool) (i-in : i < 8) (p-is : p ≡ partAt x i) (e : b ≡ soundPlace clock next (getD es i noEntry) p) where
     test-at : b ≡ getD (each (soundPlace clock next) size es x) i true
-    test-at = e ∙ rw (p-is, each-at size (soundPlace clock next) es x i freeEntry true (omega arith), offset-even size placeSize (λ _. refl) es i (omega arith))
+    test-at = e ∙ rw (p-is, each-at size (soundPlace clock next) es x i noEntry true (omega arith), offset-even size placeSize (λ _. refl) es i (omega arith))
 
     pub place-on : not b ≡ false → PlacesLeft clock next es x i → PlacesLeft clock next es x (i + 1)
     place-on t = walk-on all (λ t _. t) all-none all-goes true _ _ i b (rw eight-tests i-in) t test-at
@@ -191,13 +198,13 @@ module _ (es : List Entry) (x : List ℕ) (housed : Housed es x) where
   eight-places : length (view es x) ≡ 8
   eight-places = view-length es x (housed .eight-entries)
 
-  pub blob-inside : (i : ℕ) (p : List ℕ) → i < 8 → p ≡ partAt x i → getD es i freeEntry .«blob_len» ≤ length p
+  pub blob-inside : (i : ℕ) (p : List ℕ) → i < 8 → p ≡ partAt x i → getD es i noEntry .«blob_len» ≤ length p
   blob-inside i p h p-is =
       let whole : length p ≡ placeSize = rw p-is (part-size x i (housed .store-size) h) in
       let fits = housed .blobs-fit i h in
       omega arith
 
-  module _ (i j : ℕ) (p q : List ℕ) (b : Bool) (i-in : i < 8) (j-in : j < 8) (p-is : p ≡ partAt x i) (q-is : q ≡ partAt x j) (e : b ≡ unlike (placeOf (getD es i freeEntry) p) (placeOf (getD es j freeEntry) q ∷ [])) where
+  module _ (i j : ℕ) (p q : List ℕ) (b : Bool) (i-in : i < 8) (j-in : j < 8) (p-is : p ≡ partAt x i) (q-is : q ≡ partAt x j) (e : b ≡ unlike (placeOf (getD es i noEntry) p) (placeOf (getD es j noEntry) q ∷ [])) where
     unlike-at : b ≡ unlike (getD (view es x) i none) (getD (view es x) j none ∷ [])
     unlike-at = e ∙ rw (p-is, q-is, view-at es x (housed .eight-entries) i i-in, view-at es x (housed .eight-entries) j j-in)
 

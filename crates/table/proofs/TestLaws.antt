@@ -1,20 +1,21 @@
 -- Each test of soundness is passed exactly where its fact holds; so the whole test says soundness.
 use Prim.Native.Nat.{ℕ}
-use mathlib.Core.Path.{_≡_, refl, ap}
+use mathlib.Core.Path.{_≡_, refl, sym, ap, _∙_}
 use mathlib.Core.Bool.{Bool, true, false, _||_}
 use mathlib.Core.List.{List}
 use native.Mathlib.Omega.{arith}
 use borrow.Author.Tests.{eqb-true, eqb-false, eq-eqb}
 use lib.Dec.{eqb}
-use lib.ListN.{length, take, drop}
-use Rattle.wire.specs.Limits.{storeSize, blobLimit, fieldsLimit, fieldsAt, passphraseLimit, lastNumber}
+use lib.ListN.{length, take, drop, replicate, length-replicate}
+use Rattle.wire.specs.Limits.{storeSize, blobLimit, fieldsLimit, fieldsAt, commentLimit, passphraseLimit, lastNumber}
 use Rattle.wire.specs.Steps.{so}
 use Rattle.rule.proofs.SoundLaws.{Says, both-say, le-says, lt-says, eq-says, within-says, distinct-says}
+use Rattle.table.specs.declared.Comment.{Comment}
 use Rattle.table.specs.declared.Entry.{Entry}
 use Rattle.table.specs.declared.LockRecord.{LockRecord}
 use Rattle.table.specs.Bytes.{Zeros}
 use Rattle.table.specs.Meaning.{size, isSet, view, freeEntry}
-use Rattle.table.specs.Soundness.{isFlag, soundFree, soundFlags, soundLifetime, soundHeld, soundPlace, soundPlaces, soundLock, soundState, Flag, SoundHeld, SoundPlace, free, held, SoundLock}
+use Rattle.table.specs.Soundness.{isFlag, soundComment, zeroComment, soundFree, soundFlags, soundLifetime, soundContent, soundHeld, soundPlace, soundPlaces, soundLock, soundState, Flag, SoundComment, SoundHeld, SoundPlace, free, held, SoundLock}
 use Rattle.table.specs.Promises.{SoundStateRule}
 use Rattle.table.proofs.ByteLaws.{zeros-say}
 use Rattle.table.proofs.EachLaws.{each-says}
@@ -34,6 +35,32 @@ lifetime-says e = by-limit (isSet (e .limited))
     by-limit true = ((λ _ never. let z : _≡_ {A = ℕ} 0 1 = cc in absurd (omega arith)), (λ _. refl))
     by-limit false = ((λ t _. eqb-true (e .seconds .count) 0 t), (λ f. eq-eqb (e .seconds .count) 0 (f refl)))
 
+comment-says : (c : Comment) → Says (soundComment c) (SoundComment c)
+unfolding soundComment
+comment-says c =
+    let tests = both-say _ _ _ _ (eq-says (length (c .bytes)) commentLimit) (both-say _ _ _ _ (le-says (c .len) commentLimit) (zeros-say (drop (c .len) (c .bytes)))) in (
+      (λ t. let (size, (fits, rest)) = tests .0 t in record { comment-size = size; comment-fits = fits; comment-rest = rest }),
+      (λ s. tests .1 (s .comment-size, (s .comment-fits, s .comment-rest))),
+    )
+
+-- a free place's comment is sound
+no-comment-sound : SoundComment (freeEntry .comment)
+no-comment-sound =
+    let size = length-replicate {A = ℕ} commentLimit 0 in
+    record { comment-size = size; comment-fits = omega arith; comment-rest = ap (λ (n : ℕ). replicate n 0) (sym size) }
+
+zero-comment-says : (c : Comment) → Says (zeroComment c) (c ≡ freeEntry .comment)
+unfolding zeroComment
+zero-comment-says c =
+    let tests = both-say _ _ _ _ (comment-says c) (eq-says (c .len) 0) in (
+      (λ t.
+          let (sound, none-kept) = tests .0 t in
+          let rest = rw none-kept at (sound .comment-rest) in
+          let bytes : c .bytes ≡ replicate commentLimit 0 = rest ∙ ap (λ (n : ℕ). replicate n 0) (sound .comment-size) in
+          λ j. record { bytes = bytes j; len = none-kept j }),
+      (λ f. tests .1 (rw f no-comment-sound, ap (λ (x : Comment). x .len) f)),
+    )
+
 free-says : (e : Entry) (p : List ℕ) → e .number ≡ 0 → Says (soundFree e p) ((e ≡ freeEntry) × Zeros p)
 unfolding soundFree
 free-says e p number =
@@ -43,9 +70,10 @@ free-says e p number =
     (both-say _ _ _ _ (eq-says (e .seconds .count) 0)
     (both-say _ _ _ _ (eq-says (e .confirm) 0)
     (both-say _ _ _ _ (eq-says (e .«blob_len») 0)
-    (both-say _ _ _ _ (eq-says (e .«fields_len») 0) (zeros-say p)))))) in (
+    (both-say _ _ _ _ (eq-says (e .«fields_len») 0)
+    (both-say _ _ _ _ (zero-comment-says (e .comment)) (zeros-say p))))))) in (
       (λ t.
-          let (reading, (limited, (seconds, (confirm, (blob, (fields, zeros)))))) = tests .0 t in (
+          let (reading, (limited, (seconds, (confirm, (blob, (fields, (comment, zeros))))))) = tests .0 t in (
             (λ j. record {
               number = number j;
               reading = record { count = reading j };
@@ -54,6 +82,7 @@ free-says e p number =
               confirm = confirm j;
               «blob_len» = blob j;
               «fields_len» = fields j;
+              comment = comment j;
             }),
             zeros,
           )),
@@ -68,7 +97,7 @@ free-says e p number =
                   ap (λ (x : Entry). x .confirm) f,
                   (
                     ap (λ (x : Entry). x .«blob_len») f,
-                    (ap (λ (x : Entry). x .«fields_len») f, zeros),
+                    (ap (λ (x : Entry). x .«fields_len») f, (ap (λ (x : Entry). x .comment) f, zeros)),
                   ),
                 ),
               ),
@@ -77,7 +106,7 @@ free-says e p number =
     )
 
 held-says : (clock next : ℕ) (e : Entry) (p : List ℕ) → (e .number ≡ 0 → ⊥) → Says (soundHeld clock next e p) (SoundHeld clock next e p)
-unfolding soundHeld
+unfolding soundHeld soundContent
 held-says clock next e p number =
     let tests =
     both-say _ _ _ _ (lt-says (e .number) next)
@@ -86,9 +115,10 @@ held-says clock next e p number =
     (both-say _ _ _ _ (lifetime-says e)
     (both-say _ _ _ _ (within-says 1 blobLimit (e .«blob_len»))
     (both-say _ _ _ _ (within-says 1 fieldsLimit (e .«fields_len»))
-    (both-say _ _ _ _ (zeros-say (drop (e .«blob_len») (take fieldsAt p))) (zeros-say (drop (e .«fields_len») (drop fieldsAt p))))))))) in (
+    (both-say _ _ _ _ (comment-says (e .comment))
+    (both-say _ _ _ _ (zeros-say (drop (e .«blob_len») (take fieldsAt p))) (zeros-say (drop (e .«fields_len») (drop fieldsAt p)))))))))) in (
       (λ t.
-          let (taken, (reading, (flags, (seconds, (blob, (fields, (blob-rest, fields-rest))))))) = tests .0 t in
+          let (taken, (reading, (flags, (seconds, (blob, (fields, (comment, (blob-rest, fields-rest)))))))) = tests .0 t in
           record {
             number-first = omega arith;
             number-taken = taken;
@@ -100,10 +130,11 @@ held-says clock next e p number =
             blob-fits = blob .1;
             fields-some = fields .0;
             fields-fit = fields .1;
+            comment = comment;
             blob-rest = blob-rest;
             fields-rest = fields-rest;
           }),
-      (λ s. tests .1 (s .number-taken, (s .reading-past, ((s .limited-flag, s .confirm-flag), (s .no-seconds, ((s .blob-some, s .blob-fits), ((s .fields-some, s .fields-fit), (s .blob-rest, s .fields-rest)))))))),
+      (λ s. tests .1 (s .number-taken, (s .reading-past, ((s .limited-flag, s .confirm-flag), (s .no-seconds, ((s .blob-some, s .blob-fits), ((s .fields-some, s .fields-fit), (s .comment, (s .blob-rest, s .fields-rest))))))))),
     )
 
 pub place-says : (clock next : ℕ) (e : Entry) (p : List ℕ) → Says (soundPlace clock next e p) (SoundPlace clock next e p)

@@ -10,7 +10,7 @@ use native.Mathlib.Nat.{zero-mul, suc-mul}
 use borrow.Author.Tests.{ne-eqb}
 use lib.ListN.{length, take, drop, replicate, length-drop, length-map, length-take, length-replicate, take-append-drop}
 use lib.Seq.{length-take-le, take-take, take-at, drop-at, take-append-le}
-use Rattle.wire.specs.Limits.{placeSize, storeSize, blobLimit, fieldsLimit, fieldsAt, passphraseLimit}
+use Rattle.wire.specs.Limits.{placeSize, storeSize, blobLimit, fieldsLimit, fieldsAt, commentLimit, passphraseLimit}
 use Rattle.wire.specs.Steps.{so}
 use Rattle.keys.specs.declared.constraints.Lifetime.{Lifetime}
 use Rattle.keys.specs.declared.constraints.Lifetime.the-variants.{Forever, For}
@@ -19,13 +19,14 @@ use Rattle.rule.specs.Soundness.{EveryEntry, SoundEntry}
 use Rattle.rule.specs.Soundness as rule
 use Rattle.rule.proofs.PlaceLaws.{every-imp}
 use Rattle.rule.proofs.SoundLaws.{fresh-sound}
+use Rattle.table.specs.declared.Comment.{Comment}
 use Rattle.table.specs.declared.Entry.{Entry}
 use Rattle.table.specs.declared.LockRecord.{LockRecord}
 use Rattle.table.specs.declared.State.{State}
 use Rattle.table.specs.Bytes.{padded}
 use Rattle.table.specs.Each.{each, Each}
-use Rattle.table.specs.Meaning.{size, isSet, lifetimeOf, keyOf, placeOf, view, passphrase, gatewayOf, flagOf, limitedFlag, keptSeconds, heldBytes, entryFor, bytesFor, laid, lockOf, stateOf, layout}
-use Rattle.table.specs.Soundness.{Flag, SoundPlace, free, held, SoundLock, Sound, Means}
+use Rattle.table.specs.Meaning.{size, isSet, lifetimeOf, commentOf, keyOf, placeOf, view, passphrase, gatewayOf, flagOf, limitedFlag, keptSeconds, keptComment, heldBytes, entryFor, bytesFor, laid, lockOf, stateOf, layout}
+use Rattle.table.specs.Soundness.{Flag, SoundComment, SoundPlace, free, held, SoundLock, Sound, Means}
 use Rattle.table.specs.Promises.{FlagRule, SoundMeaning, SoundCanonical, OneWriting, EveryGateway, FreshMeans}
 use Rattle.table.proofs.ByteLaws.{padded-size, padded-front, padded-rest, zeros-padded}
 use Rattle.table.proofs.EachLaws.{each-length}
@@ -52,6 +53,17 @@ lifetime-kept e flag none-without = by-limit (isSet (e .limited)) refl
     by-limit true b = (flag-kept (e .limited) flag ∙ ap flagOf b, refl)
     by-limit false b = let zero-seconds : e .seconds .count ≡ 0 = none-without b in (flag-kept (e .limited) flag ∙ ap flagOf b, (λ j. record { count = zero-seconds j }))
 
+-- a sound comment is written as what it says
+comment-length : (c : Comment) → SoundComment c → length (commentOf c) ≡ c .len
+comment-length c C = let h = C .comment-fits in let g = C .comment-size in length-take-le (c .len) (c .bytes) (omega arith)
+
+pub comment-written : (c : Comment) → SoundComment c → c ≡ keptComment (commentOf c)
+unfolding keptComment
+comment-written c C =
+    let bytes = zeros-padded commentLimit (c .len) (c .bytes) (C .comment-size) (C .comment-fits) (C .comment-rest) in
+    let size = comment-length c C in
+    λ j. record { bytes = bytes j; len = sym size j }
+
 -- what a sound place is: free and written as free places are, or a sound key, written as that key is
 pub data Seen (clock next : ℕ) (e : Entry) (p : List ℕ) : Type 0 where
   seen-free : placeOf e p ≡ none → e ≡ entryFor none → p ≡ bytesFor none → Seen clock next e p
@@ -67,6 +79,7 @@ module _ (clock next : ℕ) (e : Entry) (p : List ℕ) (whole : length p ≡ pla
       let front : length (take fieldsAt p) ≡ fieldsAt = length-take-le fieldsAt p (omega arith) in
       let back : length (drop fieldsAt p) ≡ fieldsLimit = rw (length-drop, whole) in
       let fields-size : length (take (e .«fields_len») (drop fieldsAt p)) ≡ e .«fields_len» = let h = s .fields-fit in length-take-le _ (drop fieldsAt p) (omega arith) in
+      let comment-size : length (commentOf (e .comment)) ≡ e .comment .len = comment-length (e .comment) (s .comment) in
       let lifetime = lifetime-kept e (s .limited-flag) (s .no-seconds) in
       let confirm = flag-kept (e .confirm) (s .confirm-flag) in
       let blob : take fieldsAt p ≡ padded blobLimit (take (e .«blob_len») p) =
@@ -82,6 +95,7 @@ module _ (clock next : ℕ) (e : Entry) (p : List ℕ) (whole : length p ≡ pla
         confirm = confirm j;
         «blob_len» = sym blob-size j;
         «fields_len» = sym fields-size j;
+        comment = comment-written (e .comment) (s .comment) j;
       })
       (sym (take-append-drop fieldsAt p) ∙ (λ j. blob j ++ fields j))
       (record {
@@ -90,6 +104,7 @@ module _ (clock next : ℕ) (e : Entry) (p : List ℕ) (whole : length p ≡ pla
           blob-fits = rw blob-size (s .blob-fits);
           fields-some = rw fields-size (s .fields-some);
           fields-fit = rw fields-size (s .fields-fit);
+          comment-fits = rw comment-size (s .comment .comment-fits);
         };
         number-first = s .number-first;
         number-taken = s .number-taken;
@@ -204,11 +219,23 @@ module _ (clock next : ℕ) (k : Key) (s : SoundEntry clock next k) where
   fields-back : take (length (k .fields)) (drop fieldsAt (heldBytes (k .blob) (k .fields))) ≡ k .fields
   fields-back = rw fields-part (padded-front fieldsLimit (k .fields))
 
+  comment-back : commentOf (keptComment (k .comment)) ≡ k .comment
+  unfolding keptComment
+  comment-back = padded-front commentLimit (k .comment)
+
+  comment-sound : SoundComment (keptComment (k .comment))
+  unfolding keptComment
+  comment-sound = record {
+    comment-size = padded-size commentLimit (k .comment) (s .lengths .comment-fits);
+    comment-fits = s .lengths .comment-fits;
+    comment-rest = padded-rest commentLimit (k .comment);
+  }
+
   pub key-back : placeOf (entryFor (some k)) (bytesFor (some k)) ≡ some k
   unfolding placeOf entryFor bytesFor so
   key-back =
       let number : k .number ≡ 0 → ⊥ = λ (n : k .number ≡ 0). let h = s .number-first in omega arith in
-      rw (ne-eqb (k .number) 0 number, blob-back, fields-back, lifetime-back, flag-back)
+      rw (ne-eqb (k .number) 0 number, blob-back, fields-back, comment-back, lifetime-back, flag-back)
 
   key-sound : SoundPlace clock next (entryFor (some k)) (bytesFor (some k))
   unfolding entryFor bytesFor
@@ -223,6 +250,7 @@ module _ (clock next : ℕ) (k : Key) (s : SoundEntry clock next k) where
     blob-fits = s .lengths .blob-fits;
     fields-some = s .lengths .fields-some;
     fields-fit = s .lengths .fields-fit;
+    comment = comment-sound;
     blob-rest = rw blob-part (padded-rest blobLimit (k .blob));
     fields-rest = rw fields-part (padded-rest fieldsLimit (k .fields));
   })

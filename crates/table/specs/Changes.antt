@@ -27,5 +27,5 @@ pub record MayPut (s : State) (x : List ℕ) (i : ℕ) (k : NewKey) : Type 0 whe
   pub sound : Sound s x
   pub place : i < 8
   pub numbers-left : s .next < lastNumber
-  pub lengths : Fits (k .blob) (k .fields)
+  pub lengths : Fits (k .blob) (k .fields) (k .comment)
   pub alone : NoOther i (k .blob) (gatewayOf s x .places)

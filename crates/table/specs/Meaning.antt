@@ -6,12 +6,13 @@ use mathlib.Core.Option.{none, some}
 use mathlib.Core.List.{List, [], _∷_, _++_, map}
 use lib.ListN.{length, take, drop, replicate}
 use lib.Dec.{eqb}
-use Rattle.wire.specs.Limits.{placeSize, blobLimit, fieldsLimit, fieldsAt, passphraseLimit}
+use Rattle.wire.specs.Limits.{placeSize, blobLimit, fieldsLimit, fieldsAt, commentLimit, passphraseLimit}
 use Rattle.wire.specs.declared.Seconds.{Seconds}
 use Rattle.wire.specs.Steps.{so}
 use Rattle.keys.specs.declared.constraints.Lifetime.{Lifetime}
 use Rattle.keys.specs.declared.constraints.Lifetime.the-variants.{Forever, For}
 use Rattle.rule.specs.Gateway.{Entry as Key, Place, Gateway}
+use Rattle.table.specs.declared.Comment.{Comment}
 use Rattle.table.specs.declared.Entry.{Entry}
 use Rattle.table.specs.declared.LockRecord.{LockRecord}
 use Rattle.table.specs.declared.State.{State}
@@ -32,6 +33,10 @@ isSet flag = eqb flag 1
 abbrev pub lifetimeOf : Entry → Lifetime
 lifetimeOf e = so Forever (isSet (e .limited)) (For (e .seconds))
 
+-- the comment that is kept, with its length
+abbrev pub commentOf : Comment → List ℕ
+commentOf c = take (c .len) (c .bytes)
+
 -- "public blob (1 to 1,024 bytes) and key fields (1 to 3,072, in the last 3,072)"
 abbrev pub keyOf : Entry → List ℕ → Key
 keyOf e p = record {
@@ -41,16 +46,21 @@ keyOf e p = record {
   confirm = isSet (e .confirm);
   blob = take (e .«blob_len») p;
   fields = take (e .«fields_len») (drop fieldsAt p);
+  comment = commentOf (e .comment);
 }
 
 -- an entry and the bytes of its place; the number 0 is no key's
 unfoldable pub placeOf : Entry → List ℕ → Place
 placeOf e p = so (some (keyOf e p)) (eqb (e .number) 0) none
 
--- what a free place has for a blob
+-- what a free place has for a blob, and for a comment
 abbrev pub blobIn : Place → List ℕ
 blobIn none = []
 blobIn (some k) = k .blob
+
+abbrev pub commentIn : Place → List ℕ
+commentIn none = []
+commentIn (some k) = k .comment
 
 abbrev pub view : List Entry → List ℕ → List Place
 view es x = each placeOf size es x
@@ -61,6 +71,19 @@ passphrase l = take (l .len) (l .bytes)
 
 unfoldable pub gatewayOf : State → List ℕ → Gateway
 gatewayOf s x = record { places = view (s .entries) x; lock = passphrase (s .lock); clock = s .clock .count; next = s .next }
+
+-- what is read behind the end of the entries, where no place is
+abbrev pub noEntry : Entry
+noEntry = record {
+  number = 0;
+  reading = record { count = 0 };
+  limited = 0;
+  seconds = record { count = 0 };
+  confirm = 0;
+  «blob_len» = 0;
+  «fields_len» = 0;
+  comment = record { bytes = []; len = 0 };
+}
 
 -- ## How it is written
 
@@ -74,6 +97,7 @@ freeEntry = record {
   confirm = 0;
   «blob_len» = 0;
   «fields_len» = 0;
+  comment = record { bytes = replicate commentLimit 0; len = 0 };
 }
 
 abbrev pub flagOf : Bool → ℕ
@@ -92,6 +116,10 @@ keptSeconds (For seconds) = seconds
 unfoldable pub heldBytes : List ℕ → List ℕ → List ℕ
 heldBytes blob fields = padded blobLimit blob ++ padded fieldsLimit fields
 
+-- "up to 255 bytes", the rest zero
+unfoldable pub keptComment : List ℕ → Comment
+keptComment c = record { bytes = padded commentLimit c; len = length c }
+
 unfoldable pub entryFor : Place → Entry
 entryFor none = freeEntry
 entryFor (some k) = record {
@@ -102,6 +130,7 @@ entryFor (some k) = record {
   confirm = flagOf (k .confirm);
   «blob_len» = length (k .blob);
   «fields_len» = length (k .fields);
+  comment = keptComment (k .comment);
 }
 
 unfoldable pub bytesFor : Place → List ℕ

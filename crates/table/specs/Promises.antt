@@ -84,4 +84,4 @@ PlaceForRule =
 abbrev pub PlaceForPut : Type 0
 PlaceForPut =
     (s : State) (x : List ℕ) (i : ℕ) (k : NewKey) → Sound s x → foundPlace (placeFor (k .blob) (gatewayOf s x .places)) ≡ some i
-    → Fits (k .blob) (k .fields) → gatewayOf s x .next < lastNumber → MayPut s x i k
+    → Fits (k .blob) (k .fields) (k .comment) → gatewayOf s x .next < lastNumber → MayPut s x i k

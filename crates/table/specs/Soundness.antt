@@ -6,19 +6,28 @@ use mathlib.Core.Option.{none, some}
 use mathlib.Core.List.{List, [], _∷_}
 use lib.ListN.{length, getD, take, drop}
 use lib.Dec.{leb, ltb, eqb}
-use Rattle.wire.specs.Limits.{storeSize, blobLimit, fieldsLimit, fieldsAt, passphraseLimit, lastNumber}
+use Rattle.wire.specs.Limits.{storeSize, blobLimit, fieldsLimit, fieldsAt, commentLimit, passphraseLimit, lastNumber}
 use Rattle.wire.specs.Numbers.{within}
 use Rattle.wire.specs.Steps.{so}
 use Rattle.rule.specs.Gateway.{Place, Gateway}
 use Rattle.rule.specs.Soundness.{everyEntry, apart, distinct, Distinct}
+use Rattle.table.specs.declared.Comment.{Comment}
 use Rattle.table.specs.declared.Entry.{Entry}
 use Rattle.table.specs.declared.LockRecord.{LockRecord}
 use Rattle.table.specs.declared.State.{State}
 use Rattle.table.specs.Bytes.{allZero, Zeros}
 use Rattle.table.specs.Each.{each, Each}
-use Rattle.table.specs.Meaning.{size, isSet, view, gatewayOf, freeEntry}
+use Rattle.table.specs.Meaning.{size, isSet, view, gatewayOf, noEntry, freeEntry}
 
 -- ## The tests
+
+-- #101: "Soundness gains its length and zero rest"; the first test is of the array's type
+unfoldable pub soundComment : Comment → Bool
+soundComment c = eqb (length (c .bytes)) commentLimit && (leb (c .len) commentLimit && allZero (drop (c .len) (c .bytes)))
+
+-- no comment, and no byte of one
+unfoldable pub zeroComment : Comment → Bool
+zeroComment c = soundComment c && eqb (c .len) 0
 
 -- "free places zero"
 unfoldable pub soundFree : Entry → List ℕ → Bool
@@ -29,7 +38,8 @@ soundFree e p =
     && (eqb (e .confirm) 0
     && (eqb (e .«blob_len») 0
     && (eqb (e .«fields_len») 0
-    && allZero p)))))
+    && (zeroComment (e .comment)
+    && allZero p))))))
 
 -- a flag is a byte, 0 or 1
 abbrev pub isFlag : ℕ → Bool
@@ -43,17 +53,18 @@ soundFlags e = isFlag (e .limited) && isFlag (e .confirm)
 unfoldable pub soundLifetime : Entry → Bool
 soundLifetime e = isSet (e .limited) || eqb (e .seconds .count) 0
 
--- "lengths within limits, unused bytes .. zero, .. insertion numbers .. below the next one, .. insertion readings not above the kept clock"
-unfoldable pub soundHeld : ℕ → ℕ → Entry → List ℕ → Bool
-soundHeld clock next e p =
-    ltb (e .number) next
-    && (leb (e .reading .count) clock
-    && (soundFlags e
-    && (soundLifetime e
-    && (within 1 blobLimit (e .«blob_len»)
+-- "lengths within limits, unused bytes .. zero"
+unfoldable pub soundContent : Entry → List ℕ → Bool
+soundContent e p =
+    within 1 blobLimit (e .«blob_len»)
     && (within 1 fieldsLimit (e .«fields_len»)
+    && (soundComment (e .comment)
     && (allZero (drop (e .«blob_len») (take fieldsAt p))
-    && allZero (drop (e .«fields_len») (drop fieldsAt p))))))))
+    && allZero (drop (e .«fields_len») (drop fieldsAt p)))))
+
+-- "insertion numbers .. below the next one, .. insertion readings not above the kept clock"
+unfoldable pub soundHeld : ℕ → ℕ → Entry → List ℕ → Bool
+soundHeld clock next e p = ltb (e .number) next && (leb (e .reading .count) clock && (soundFlags e && (soundLifetime e && soundContent e p)))
 
 unfoldable pub soundPlace : ℕ → ℕ → Entry → List ℕ → Bool
 soundPlace clock next e p = so (soundHeld clock next e p) (eqb (e .number) 0) (soundFree e p)
@@ -87,6 +98,11 @@ soundState s x =
 abbrev pub Flag : ℕ → Type 0
 Flag b = b ≤ 1
 
+pub record SoundComment (c : Comment) : Type 0 where
+  pub comment-size : length (c .bytes) ≡ commentLimit
+  pub comment-fits : c .len ≤ commentLimit
+  pub comment-rest : Zeros (drop (c .len) (c .bytes))
+
 pub record SoundHeld (clock next : ℕ) (e : Entry) (p : List ℕ) : Type 0 where
   pub number-first : 1 ≤ e .number
   pub number-taken : e .number < next
@@ -98,6 +114,7 @@ pub record SoundHeld (clock next : ℕ) (e : Entry) (p : List ℕ) : Type 0 wher
   pub blob-fits : e .«blob_len» ≤ blobLimit
   pub fields-some : 1 ≤ e .«fields_len»
   pub fields-fit : e .«fields_len» ≤ fieldsLimit
+  pub comment : SoundComment (e .comment)
   pub blob-rest : Zeros (drop (e .«blob_len») (take fieldsAt p))
   pub fields-rest : Zeros (drop (e .«fields_len») (drop fieldsAt p))
 
@@ -123,7 +140,7 @@ pub record Sound (s : State) (x : List ℕ) : Type 0 where
 pub record Housed (es : List Entry) (x : List ℕ) : Type 0 where
   pub eight-entries : length es ≡ 8
   pub store-size : length x ≡ storeSize
-  pub blobs-fit : (i : ℕ) → i < 8 → getD es i freeEntry .«blob_len» ≤ blobLimit
+  pub blobs-fit : (i : ℕ) → i < 8 → getD es i noEntry .«blob_len» ≤ blobLimit
 
 -- a state and store that mean this gateway, and are sound
 pub record Means (s : State) (x : List ℕ) (g : Gateway) : Type 0 where

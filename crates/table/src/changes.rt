@@ -3,6 +3,7 @@ use crate::Entry;
 use crate::State;
 use crate::bytes::pad;
 use crate::bytes::wipe;
+use crate::comments::kept_comment;
 use crate::flag_of;
 use crate::free_entry;
 use crate::is_set;
@@ -17,7 +18,7 @@ ghost use mathlib.Core.Path.{_≡_};
 ghost use mathlib.Core.Option.{some};
 ghost use Prim.Native.Nat.{_≤_, _<_, max};
 ghost use lib.ListN.{length};
-ghost use Rattle.wire.specs.Limits.{placeSize, blobLimit, fieldsLimit};
+ghost use Rattle.wire.specs.Limits.{placeSize, blobLimit, fieldsLimit, commentLimit};
 ghost use Rattle.rule.specs.Gateway.{millisOf, dueAt, lasting, advance, without, withoutAll, newEntry, withEntry};
 ghost use Rattle.rule.specs.Rule.{brought, entryOf};
 ghost use Rattle.table.specs.Meaning.{lifetimeOf, gatewayOf, placeOf, limitedFlag, keptSeconds, entryFor, heldBytes, Written};
@@ -151,10 +152,12 @@ fn kept_seconds(lifetime: Lifetime) -> Seconds
 
 // The entry of a new key.
 fn held_entry(number: u64, reading: Millis, payload: &[u8], carried: Carried, blob: &[u8]) -> Entry
+    requires { ⌜ length (brought (now payload) carried (now blob) .comment) ≤ commentLimit ⌝ }
     ensures { λ r. ⌜ r ≡ entryFor (some (newEntry number (reading .count) (brought (now (payload .entry)) carried (now (blob .entry))))) ⌝ }
 {
     let lifetime = carried.lifetime;
     let fields = cut(payload, 1, carried.places.end);
+    let comment = cut(payload, carried.comment.from, carried.comment.to);
     Entry {
         number,
         reading,
@@ -163,6 +166,7 @@ fn held_entry(number: u64, reading: Millis, payload: &[u8], carried: Carried, bl
         confirm: flag_of(carried.confirm),
         blob_len: blob.len(),
         fields_len: fields.len(),
+        comment: kept_comment(comment),
     }
 }
 

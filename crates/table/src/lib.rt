@@ -2,6 +2,7 @@
 // Nobody else names an offset in the store or the size of a place; 01's limits stand where they are tested.
 pub mod bytes;
 pub mod changes;
+pub mod comments;
 pub mod locks;
 pub mod places;
 pub mod soundness;
@@ -15,6 +16,13 @@ ghost use mathlib.Core.Option.{none};
 ghost use Rattle.rule.specs.Gateway.{fresh as freshGateway};
 ghost use Rattle.table.specs.Meaning.{isSet, flagOf, entryFor, stateOf};
 
+// A comment and its length; the rest is zero.
+#[repr(C)]
+pub struct Comment {
+    pub bytes: [u8; limits::COMMENT_LIMIT],
+    pub len: usize,
+}
+
 // What is kept of a place beside its bytes; `limited` and `confirm` are 0 or 1. A free place is all zero.
 #[repr(C)]
 pub struct Entry {
@@ -25,6 +33,7 @@ pub struct Entry {
     pub confirm: u8,
     pub blob_len: usize,
     pub fields_len: usize,
+    pub comment: Comment,
 }
 
 // The passphrase and its length; the rest is zero. A length of 0 is open.
@@ -70,6 +79,10 @@ fn free_entry() -> Entry
         confirm: 0,
         blob_len: 0,
         fields_len: 0,
+        comment: Comment {
+            bytes: [0u8; limits::COMMENT_LIMIT],
+            len: 0,
+        },
     }
 }
 

@@ -1,5 +1,6 @@
 // Reading the places: what each holds, and the searches over all of them. Only a call that has tested soundness comes here, and the test itself,
 // once the store's length is right. A place is below 8, since a search found it or a loop counts so far.
+use crate::Comment;
 use crate::Entry;
 use crate::State;
 use crate::bytes::is_equal;
@@ -16,7 +17,7 @@ ghost use Rattle.wire.specs.Limits.{placeSize, storeSize};
 ghost use Rattle.wire.specs.Parts.{PartOf};
 ghost use Rattle.rule.specs.Gateway.{seek, holds, isFree, placeFor};
 ghost use Rattle.rule.specs.Rule.{numberIn, confirmIn};
-ghost use Rattle.table.specs.Meaning.{isSet, gatewayOf, placeOf, blobIn, freeEntry};
+ghost use Rattle.table.specs.Meaning.{isSet, gatewayOf, placeOf, blobIn, commentIn, noEntry, keptComment};
 ghost use Rattle.table.specs.Soundness.{Sound};
 
 // Where the bytes of place i begin; those of the last end where a ninth place would begin.
@@ -60,7 +61,7 @@ pub fn number_at(state: State, i: usize) -> u64
 // Does a place's key have Confirm?
 pub fn confirm_at(state: State, i: usize) -> bool
     requires { ⌜ i < 8 ⌝ }
-    ensures { λ r. ⌜ (r ≡ isSet (getD (state .entries) i freeEntry .confirm)) × ((x : List ℕ) → Sound state x → r ≡ confirmIn (getD (gatewayOf state x .places) i none)) ⌝ }
+    ensures { λ r. ⌜ (r ≡ isSet (getD (state .entries) i noEntry .confirm)) × ((x : List ℕ) → Sound state x → r ≡ confirmIn (getD (gatewayOf state x .places) i none)) ⌝ }
 {
     let es = state.entries;
     let e = es[i];
@@ -77,6 +78,16 @@ pub fn blob_at(state: State, store: &[u8], i: usize) -> &[u8]
     let p = bytes_at(store, i);
     let n = e.blob_len;
     &p[..n]
+}
+
+// The comment of a place's key, empty where the place is free.
+pub fn comment_at(state: State, i: usize) -> Comment
+    requires { ⌜ i < 8 ⌝ }
+    ensures { λ r. ⌜ (r ≡ getD (state .entries) i noEntry .comment) × ((x : List ℕ) → Sound state x → r ≡ keptComment (commentIn (getD (gatewayOf state x .places) i none))) ⌝ }
+{
+    let es = state.entries;
+    let e = es[i];
+    e.comment
 }
 
 // Does the place of this entry and these bytes hold the blob?

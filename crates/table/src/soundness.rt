@@ -4,6 +4,8 @@ use crate::LockRecord;
 use crate::State;
 use crate::bytes::is_equal;
 use crate::bytes::is_zero;
+use crate::comments::is_comment_sound;
+use crate::comments::is_comment_zero;
 use crate::is_set;
 use crate::places::bytes_at;
 use rule::Millis;
@@ -16,7 +18,7 @@ ghost use lib.ListN.{length, getD, drop};
 ghost use Rattle.wire.specs.Limits.{placeSize, storeSize};
 ghost use Rattle.rule.specs.Soundness.{distinct};
 ghost use Rattle.table.specs.Meaning.{placeOf, view};
-ghost use Rattle.table.specs.Soundness.{isFlag, soundFree, soundHeld, soundPlace, soundPlaces, soundFlags, soundLifetime, soundLock, soundState, unlike, Housed};
+ghost use Rattle.table.specs.Soundness.{isFlag, soundFree, soundContent, soundHeld, soundPlace, soundPlaces, soundFlags, soundLifetime, soundLock, soundState, unlike, Housed};
 
 fn is_free_sound(e: Entry, p: &[u8]) -> bool
     ensures { λ r. ⌜ r ≡ soundFree e (now (p .entry)) ⌝ }
@@ -37,6 +39,10 @@ fn is_free_sound(e: Entry, p: &[u8]) -> bool
         return false;
     }
     if e.fields_len != 0 {
+        return false;
+    }
+    let comment = e.comment;
+    if !is_comment_zero(comment) {
         return false;
     }
     is_zero(p)
@@ -68,6 +74,36 @@ fn is_lifetime_sound(e: Entry) -> bool
     e.seconds.count == 0
 }
 
+// The lengths of a held place, its comment, and the unused bytes.
+fn is_content_sound(e: Entry, p: &[u8]) -> bool
+    requires { ⌜ length (now p) ≡ placeSize ⌝ }
+    ensures { λ r. ⌜ r ≡ soundContent e (now (p .entry)) ⌝ }
+{
+    let n = e.blob_len;
+    if n < 1 {
+        return false;
+    }
+    if limits::BLOB_LIMIT < n {
+        return false;
+    }
+    let m = e.fields_len;
+    if m < 1 {
+        return false;
+    }
+    if limits::FIELDS_LIMIT < m {
+        return false;
+    }
+    let comment = e.comment;
+    if !is_comment_sound(comment) {
+        return false;
+    }
+    if !is_zero(&p[n..limits::FIELDS_AT]) {
+        return false;
+    }
+    let end = limits::FIELDS_AT + m;
+    is_zero(&p[end..])
+}
+
 fn is_held_sound(e: Entry, p: &[u8], clock: Millis, next: u64) -> bool
     requires { ⌜ length (now p) ≡ placeSize ⌝ }
     ensures { λ r. ⌜ r ≡ soundHeld (clock .count) next e (now (p .entry)) ⌝ }
@@ -84,25 +120,7 @@ fn is_held_sound(e: Entry, p: &[u8], clock: Millis, next: u64) -> bool
     if !is_lifetime_sound(e) {
         return false;
     }
-    let n = e.blob_len;
-    if n < 1 {
-        return false;
-    }
-    if limits::BLOB_LIMIT < n {
-        return false;
-    }
-    let m = e.fields_len;
-    if m < 1 {
-        return false;
-    }
-    if limits::FIELDS_LIMIT < m {
-        return false;
-    }
-    if !is_zero(&p[n..limits::FIELDS_AT]) {
-        return false;
-    }
-    let end = limits::FIELDS_AT + m;
-    is_zero(&p[end..])
+    is_content_sound(e, p)
 }
 
 fn is_place_sound(e: Entry, p: &[u8], clock: Millis, next: u64) -> bool

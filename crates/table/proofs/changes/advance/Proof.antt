@@ -5,7 +5,7 @@ use Prim.Native.Nat.{_≤_, _-_}
 use mathlib.Core.Path.{_≡_, sym, _∙_}
 use lib.ListN.{length}
 use Rattle.wire.specs.Limits.{storeSize}
-use Rattle.table.specs.Meaning.{view, freeEntry}
+use Rattle.table.specs.Meaning.{view, noEntry}
 use Rattle.table.proofs.WritingLaws.{Writing, view-eight}
 use Rattle.table.proofs.ChangeLaws.{swept, swept-length, writing-size, sweep-keys, sweep-start, sweep-stands, sweep-step, sweep-end}
 use Rattle.table.proofs.changes.advance.Statement.{statement}
@@ -35,7 +35,7 @@ last-requires c κs =
     let x = st .args .store .now in
     let n : length (view (s .entries) x) ≡ 8 = view-eight s x (st .pre) in
     let keys = sweep-keys s x (st .pre) (st .args .reading .count) (l .result) (l .ensures) in
-    sweep-stands (l .result .count) (s .next) (view (s .entries) x) (loop .i) (from .result) (to .result) (loop .es) (loop .store) freeEntry keys (loop .inv .2) (omega arith)
+    sweep-stands (l .result .count) (s .next) (view (s .entries) x) (loop .i) (from .result) (to .result) (loop .es) (loop .store) noEntry keys (loop .inv .2) (omega arith)
     (record { start = from .ensures; span = omega (arith, from .ensures, to .ensures) }) .standing
 
 loop-again : tie.Need-loop-again Inv-loop μ-loop
@@ -51,7 +51,7 @@ loop-again c =
     let x = st .args .store .now in
     let n : length (view (s .entries) x) ≡ 8 = view-eight s x (st .pre) in
     let keys = sweep-keys s x (st .pre) (st .args .reading .count) (l .result) (l .ensures) in
-    let w = sweep-step (l .result .count) (s .next) (view (s .entries) x) (loop .i) (from .result) (to .result) (loop .es) (loop .store) freeEntry keys (loop .inv .2) (omega arith)
+    let w = sweep-step (l .result .count) (s .next) (view (s .entries) x) (loop .i) (from .result) (to .result) (loop .es) (loop .store) noEntry keys (loop .inv .2) (omega arith)
     (record { start = from .ensures; span = omega (arith, from .ensures, to .ensures) }) (last .result) (last .last .1 .0) (last .ensures) in
     (omega arith, writing-size _ _ _ _ _ w (swept-length _ _ _ ∙ n), w)
 

@@ -1,20 +1,27 @@
--- It is the definition's entry, field by field; the fields' length is that of their part. Assumes nothing.
+-- It is the definition's entry, field by field; the fields' length and the comment are those of their parts. Assumes nothing.
 use borrow.Author.Needs.{needs}
-use mathlib.Core.Path.{ap}
+use mathlib.Core.Path.{ap, _∙_}
 use lib.ListN.{length}
-use Rattle.table.specs.Meaning.{entryFor}
+use Rattle.table.specs.Meaning.{keptComment, entryFor}
 use Rattle.table.proofs.changes.held_entry.Statement.{statement}
 use Rattle.table.proofs.changes.held_entry.Tie as tie
+
+short : tie.Need-kept-comment-requires
+short c κs =
+    let part = c .before .before .before .cut2 in
+    let st = c .before .before .before .before .before .before in
+    rw (part .ensures .bytes) (st .before .pre)
 
 returns : tie.Need-returns
 unfolding entryFor
 returns c =
-    let seconds = c .before .kept-seconds in
-    let limited = c .before .before .limited-flag in
-    let fields = c .before .before .before .cut in
-    rw (c .flag-of .ensures, seconds .ensures, limited .ensures, ap length (fields .ensures .bytes))
+    let flag = c .before .flag-of in
+    let seconds = c .before .before .kept-seconds in
+    let at-limited = c .before .before .before in
+    let comment = at-limited .before .cut2 in
+    let fields = at-limited .before .before .cut in
+    let kept = c .kept-comment .ensures ∙ ap keptComment (comment .ensures .bytes) in
+    rw (flag .ensures, seconds .ensures, at-limited .limited-flag .ensures, ap length (fields .ensures .bytes), kept)
 
 pub held-entry-spec : {M : Type 1} → statement M
-held-entry-spec =
-    tie.close
-    (tie.spec (λ c κs. search needs) (λ c κs. search needs) (λ c κs. search needs) (λ c κs. search needs) returns)
+held-entry-spec = tie.close (tie.spec (λ c κs. search needs) (λ c κs. search needs) (λ c κs. search needs) (λ c κs. search needs) (λ c κs. search needs) short returns)

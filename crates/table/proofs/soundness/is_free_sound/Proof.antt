@@ -17,4 +17,6 @@ is-free-sound-spec =
     (λ c. search tests depth 16)
     (λ c. search tests depth 16)
     (λ c κs. search needs)
+    (λ c. search tests depth 16)
+    (λ c κs. search needs)
     (λ c. search tests depth 16))

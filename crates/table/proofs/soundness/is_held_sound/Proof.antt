@@ -1,4 +1,4 @@
--- The definition makes the same tests; the parts that are tested for zeros are the unused ones. Assumes nothing.
+-- The definition makes the same tests. Assumes nothing.
 use borrow.Author.Needs.{needs}
 use Rattle.table.specs.Soundness.{soundHeld}
 use Rattle.table.proofs.SoundnessLaws.{tests}
@@ -16,17 +16,5 @@ is-held-sound-spec =
     (λ c. search tests depth 16)
     (λ c κs. search needs)
     (λ c. search tests depth 16)
-    (λ c. search tests depth 16)
-    (λ c. search tests depth 16)
-    (λ c. search tests depth 16)
-    (λ c. search tests depth 16)
-    (λ c. search needs)
-    (λ c. search needs)
-    (λ c κs. search needs)
-    (λ c. search tests depth 16)
-    (λ c. search needs)
-    (λ c. search needs)
-    (λ c. search needs)
-    (λ c. search needs)
     (λ c κs. search needs)
     (λ c. search tests depth 16))

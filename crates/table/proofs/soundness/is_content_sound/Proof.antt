@@ -1,0 +1,28 @@
+-- The definition makes the same tests; the parts that are tested for zeros are the unused ones. Assumes nothing.
+use borrow.Author.Needs.{needs}
+use Rattle.table.specs.Soundness.{soundContent}
+use Rattle.table.proofs.SoundnessLaws.{tests}
+use Rattle.table.proofs.soundness.is_content_sound.Statement.{statement}
+use Rattle.table.proofs.soundness.is_content_sound.Tie as tie
+
+pub is-content-sound-spec : {M : Type 1} → statement M
+unfolding soundContent
+is-content-sound-spec =
+    tie.close
+    (tie.spec
+    (λ c. search tests depth 16)
+    (λ c. search tests depth 16)
+    (λ c. search tests depth 16)
+    (λ c. search tests depth 16)
+    (λ c κs. search needs)
+    (λ c. search tests depth 16)
+    (λ c. search needs)
+    (λ c. search needs)
+    (λ c κs. search needs)
+    (λ c. search tests depth 16)
+    (λ c. search needs)
+    (λ c. search needs)
+    (λ c. search needs)
+    (λ c. search needs)
+    (λ c κs. search needs)
+    (λ c. search tests depth 16))
