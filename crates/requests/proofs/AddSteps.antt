@@ -45,17 +45,17 @@ use Rattle.requests.proofs.EndSteps.{ends, added-whole, added-fault, as
 
 -- ## The limits
 
-module _ (b : Bool) (blob part fields : List ℕ) (tested : b ≡ fit blob part) (is : part ≡ fields) where
-  pub lengths-fit : not b ≡ false → true ≡ fit blob fields
-  lengths-fit t = sym (not-false b t) ∙ tested ∙ ap (fit blob) is
+module _ (b : Bool) (blob part fields text comment : List ℕ) (tested : b ≡ fit blob part text) (is : part ≡ fields) (says : text ≡ comment) where
+  pub lengths-fit : not b ≡ false → true ≡ fit blob fields comment
+  lengths-fit t = sym (not-false b t) ∙ tested ∙ (λ j. fit blob (is j) (says j))
 
-  pub lengths-over : not b ≡ true → false ≡ fit blob fields
-  lengths-over t = sym (not-true b t) ∙ tested ∙ ap (fit blob) is
+  pub lengths-over : not b ≡ true → false ≡ fit blob fields comment
+  lengths-over t = sym (not-true b t) ∙ tested ∙ (λ j. fit blob (is j) (says j))
 
 -- a blob over its limit is enough
-pub blob-unfit : (blob fields : List ℕ) → blobLimit < length blob → false ≡ fit blob fields
+pub blob-unfit : (blob fields comment : List ℕ) → blobLimit < length blob → false ≡ fit blob fields comment
 unfolding fit
-blob-unfit blob fields h = rw (lt-leb (length blob) blobLimit h, and-false (leb 1 (length blob)))
+blob-unfit blob fields comment h = rw (lt-leb (length blob) blobLimit h, and-false (leb 1 (length blob)))
 
 module _ (s : State) (x : List ℕ) where
   last-or-less : Sound s x → (s .next ≡ lastNumber → ⊥) → gatewayOf s x .next < lastNumber
@@ -70,9 +70,9 @@ module _ (s : State) (x : List ℕ) where
   numbers-gone e = ltb-no (s .next) lastNumber (omega arith)
 
   -- the place for a key within the limits may take it
-  pub may-put : (i : ℕ) (k : NewKey) (w : Found) → Sound s x → w ≡ At i → w ≡ placeFor (k .blob) (gatewayOf s x .places) → true ≡ fit (k .blob) (k .fields)
+  pub may-put : (i : ℕ) (k : NewKey) (w : Found) → Sound s x → w ≡ At i → w ≡ placeFor (k .blob) (gatewayOf s x .places) → true ≡ fit (k .blob) (k .fields) (k .comment)
       → (s .next ≡ lastNumber → ⊥) → MayPut s x i k
-  may-put i k w S e f fits h = place-for-put s x i k S (ap foundPlace (sym f ∙ e)) (fit-says (k .blob) (k .fields) .0 (sym fits)) (last-or-less S h)
+  may-put i k w S e f fits h = place-for-put s x i k S (ap foundPlace (sym f ∙ e)) (fit-says (k .blob) (k .fields) (k .comment) .0 (sym fits)) (last-or-less S h)
 
 -- ## The key check
 

@@ -10,7 +10,7 @@ use native.Mathlib.Omega.{arith}
 use borrow.Author.Tests.{not-true, not-false}
 use lib.ListN.{length, getD, take, drop, length-append, take-append-drop}
 use lib.Seq.{length-take-le, take-all, drop-at}
-use Rattle.wire.specs.Limits.{blobLimit, replyRoom, itemRoom, itemsRoom}
+use Rattle.wire.specs.Limits.{blobLimit, commentLimit, replyRoom, itemRoom, itemsRoom}
 use Rattle.wire.specs.Numbers.{be32}
 use Rattle.wire.specs.Write.{string, write}
 use Rattle.wire.proofs.Writing.{write-behind, length-write}
@@ -20,8 +20,10 @@ use Rattle.rule.specs.Soundness.{SoundEntry}
 use Rattle.rule.specs.Rule.{item, live, items, listed}
 use Rattle.rule.proofs.Cases.{true-not-false}
 use Rattle.rule.proofs.PlaceLaws.{every-at}
+use Rattle.table.specs.declared.Comment.{Comment}
 use Rattle.table.specs.declared.State.{State}
-use Rattle.table.specs.Meaning.{gatewayOf, blobIn}
+use Rattle.table.specs.Meaning.{commentOf, gatewayOf, blobIn, commentIn, keptComment}
+use Rattle.table.proofs.WritingLaws.{comment-back}
 use Rattle.requests.specs.Lists.{itemIn, countIn}
 use Rattle.requests.proofs.EndSteps.{eight-places}
 
@@ -47,32 +49,47 @@ module _ (g : Gateway) (i : ℕ) where
         go none e = omega arith
         go (some k) e = every-at (SoundEntry (g .clock) (g .next)) (g .places) (s .entries) i k e .lengths .blob-fits
 
-    pub item-short : length (itemIn here) ≤ itemRoom
-    item-short = go here blob-short
+    pub comment-short : length (commentIn here) ≤ commentLimit
+    comment-short = go here refl
       where
-        go : (p : Place) → length (blobIn p) ≤ blobLimit → length (itemIn p) ≤ itemRoom
-        go none h = omega arith
-        go (some k) h = simp length-append (omega arith)
+        go : (p : Place) → here ≡ p → length (commentIn p) ≤ commentLimit
+        go none e = omega arith
+        go (some k) e = every-at (SoundEntry (g .clock) (g .next)) (g .places) (s .entries) i k e .lengths .comment-fits
 
-    -- so are the bytes that a call gave for it
+    pub item-short : length (itemIn here) ≤ itemRoom
+    item-short = go here blob-short comment-short
+      where
+        go : (p : Place) → length (blobIn p) ≤ blobLimit → length (commentIn p) ≤ commentLimit → length (itemIn p) ≤ itemRoom
+        go none h k = omega arith
+        go (some e) h k = simp length-append (omega arith)
+
+    -- so are the bytes that a call gave for them
     pub blob-room : (v : List ℕ) → v ≡ blobIn here → length v ≤ blobLimit
     blob-room v e = rw e blob-short
 
-  -- what the test says that a place adds: nothing where it is free, else its blob and an empty comment
+    pub comment-room : (c : Comment) → c ≡ keptComment (commentIn here) → c .len ≤ commentLimit
+    unfolding keptComment
+    comment-room c e = rw e comment-short
+
+    pub comment-taken : (c : Comment) → c ≡ keptComment (commentIn here) → length (commentOf c) ≤ commentLimit
+    comment-taken c e = rw (ap commentOf e ∙ comment-back (commentIn here)) comment-short
+
+  -- what the test says that a place adds: nothing where it is free, else its blob and its comment
   module _ (b : Bool) (test : b ≡ not (isFree here)) where
     pub free-item : (at : ℕ) (o : List ℕ) → not b ≡ true → (at ≡ at + length (itemIn here)) × (o ≡ write o at (itemIn here))
     free-item at o e = rw (free-is here (sym test ∙ not-true b e)) (omega arith, write-nothing o at)
 
-    pub held-item : (at : ℕ) (v o m out : List ℕ) (c r : ℕ) → not b ≡ false → v ≡ blobIn here → m ≡ write o at (string v) → c ≡ at + 4 + length v → out ≡ write m c (be32 0) → r ≡ c + 4
-        → at + 8 + length v ≤ length o → (r ≡ at + length (itemIn here)) × (out ≡ write o at (itemIn here))
-    held-item at v o m out c r e f em ec eo er h = go here test f
+    pub held-item : (at : ℕ) (v o m out : List ℕ) (c : Comment) (k r : ℕ) → not b ≡ false → v ≡ blobIn here → c ≡ keptComment (commentIn here)
+        → m ≡ write o at (string v) → k ≡ at + 4 + length v → out ≡ write m k (string (commentOf c)) → r ≡ k + length (string (commentOf c))
+        → at + 4 + length v + length (string (commentOf c)) ≤ length o → (r ≡ at + length (itemIn here)) × (out ≡ write o at (itemIn here))
+    held-item at v o m out c k r e f kept em ec eo er h = go here test f (ap commentOf kept ∙ comment-back (commentIn here))
       where
-        go : (p : Place) → b ≡ not (isFree p) → v ≡ blobIn p → (r ≡ at + length (itemIn p)) × (out ≡ write o at (itemIn p))
-        go none t q = absurd (true-not-false (sym (not-false b e) ∙ t))
-        go (some k) t q =
-            let w = write-behind o at (string v) m c (be32 0) out em eo (omega arith) (omega arith) in
-            let n : length (v ++ string []) ≡ length v + 4 = length-append v (string []) in
-            rw (← q) (omega arith, w)
+        go : (p : Place) → b ≡ not (isFree p) → v ≡ blobIn p → commentOf c ≡ commentIn p → (r ≡ at + length (itemIn p)) × (out ≡ write o at (itemIn p))
+        go none t q l = absurd (true-not-false (sym (not-false b e) ∙ t))
+        go (some x) t q l =
+            let w = write-behind o at (string v) m k (string (commentOf c)) out em eo (omega arith) (omega arith) in
+            let n : length (string v ++ string (commentOf c)) ≡ length (string v) + length (string (commentOf c)) = simp length-append in
+            rw (← q, ← l) (omega arith, w)
 
     pub held-counts : b ≡ true → 1 ≡ countIn here
     held-counts e = go here (sym test ∙ e)

@@ -29,8 +29,8 @@ ghost use Rattle.requests.specs.Outcomes.{grantOf};
 ghost use Rattle.requests.specs.Ends.{Ends};
 
 // Are the lengths within 01's limits?
-fn fits(blob: &[u8], fields: &[u8]) -> bool
-    ensures { λ r. ⌜ r ≡ fit (now (blob .entry)) (now (fields .entry)) ⌝ }
+fn fits(blob: &[u8], fields: &[u8], comment: &[u8]) -> bool
+    ensures { λ r. ⌜ r ≡ fit (now (blob .entry)) (now (fields .entry)) (now (comment .entry)) ⌝ }
 {
     if blob.len() < 1 {
         return false;
@@ -41,7 +41,10 @@ fn fits(blob: &[u8], fields: &[u8]) -> bool
     if fields.len() < 1 {
         return false;
     }
-    fields.len() <= limits::FIELDS_LIMIT
+    if limits::FIELDS_LIMIT < fields.len() {
+        return false;
+    }
+    comment.len() <= limits::COMMENT_LIMIT
 }
 
 // The key with this blob is stored, if its lengths, the numbers, a place and the key check allow it.
@@ -58,7 +61,8 @@ fn store_key(
     ensures { λ r. ⌜ ((a : rule.Answers) → a .check ≡ grantOf check → Ends (now (reply .entry)) r (now (store .exit)) (now (reply .exit)) (follow (lent a) (gatewayOf state (now (store .entry))) (storing (gatewayOf state (now (store .entry))) (entryOf (gatewayOf state (now (store .entry))) (now (payload .entry)) carried (now (blob .entry))) (carried .places .end)))) ⌝ }
 {
     let to = carried.places.end;
-    if !fits(blob, cut(payload, 1, to)) {
+    let comment = carried.comment;
+    if !fits(blob, cut(payload, 1, to), cut(payload, comment.from, comment.to)) {
         return failure(state, reply);
     }
     if state.next == limits::LAST_NUMBER {

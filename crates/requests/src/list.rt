@@ -1,6 +1,7 @@
-// The list reply (11): the live entries in place order, each blob with an empty comment. What it requires, the call has tested.
+// The list reply (11): the live entries in place order, each blob with its comment. What it requires, the call has tested.
 use crate::Called;
 use crate::Outcome;
+use table::Comment;
 use table::State;
 use table::places;
 use wire::msg;
@@ -12,15 +13,25 @@ ghost use mathlib.Core.List.{List};
 ghost use mathlib.Core.Option.{none};
 ghost use Prim.Native.Nat.{ℕ, _+_, _≤_, _<_};
 ghost use lib.ListN.{length, getD};
-ghost use Rattle.wire.specs.Limits.{replyRoom, itemRoom, itemsRoom};
-ghost use Rattle.wire.specs.Write.{write};
+ghost use Rattle.wire.specs.Limits.{commentLimit, replyRoom, itemRoom, itemsRoom};
+ghost use Rattle.wire.specs.Write.{string, write};
 ghost use Rattle.rule.specs.Rule.{live, items, listed, listing};
 ghost use Rattle.rule.specs.Calls as rule;
 ghost use Rattle.rule.specs.Calls.{lent, follow};
-ghost use Rattle.table.specs.Meaning.{gatewayOf};
+ghost use Rattle.table.specs.Meaning.{commentOf, gatewayOf};
 ghost use Rattle.table.specs.Soundness.{Sound};
 ghost use Rattle.requests.specs.Lists.{countIn, itemIn};
 ghost use Rattle.requests.specs.Ends.{Ends};
+
+// The comment as a string. It is a sound place's, so its length is within it.
+fn put_comment(c: Comment, reply: &mut [u8], at: usize) -> usize
+    requires { ⌜ (c .len ≤ commentLimit) × (at + 4 + commentLimit ≤ length (now reply)) ⌝ }
+    ensures { λ r. ⌜ (r ≡ at + length (string (commentOf c))) × (now (reply .exit) ≡ write (now (reply .entry)) at (string (commentOf c))) ⌝ }
+{
+    let bytes = c.bytes;
+    let n = c.len;
+    put_string(reply, at, &bytes[..n])
+}
 
 // What place i adds to the list: nothing where it is free.
 fn put_item(state: State, store: &[u8], i: usize, reply: &mut [u8], at: usize) -> usize
@@ -30,8 +41,8 @@ fn put_item(state: State, store: &[u8], i: usize, reply: &mut [u8], at: usize) -
     if !places::is_held(state, i) {
         return at;
     }
-    let comment = put_string(reply, at, places::blob_at(state, store, i));
-    put_number(reply, comment, 0)
+    let behind = put_string(reply, at, places::blob_at(state, store, i));
+    put_comment(places::comment_at(state, i), reply, behind)
 }
 
 // All items, in place order.

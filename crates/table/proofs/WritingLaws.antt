@@ -195,6 +195,14 @@ unfolding so
 lifetime-back Forever = refl
 lifetime-back (For seconds) = refl
 
+pub comment-back : (c : List ℕ) → commentOf (keptComment c) ≡ c
+unfolding keptComment
+comment-back c = padded-front commentLimit c
+
+comment-sound : (c : List ℕ) → length c ≤ commentLimit → SoundComment (keptComment c)
+unfolding keptComment
+comment-sound c h = record { comment-size = padded-size commentLimit c h; comment-fits = h; comment-rest = padded-rest commentLimit c }
+
 pub key-fits : (clock next : ℕ) (k : Key) → SoundEntry clock next k → KeyFits k
 key-fits clock next k s = s .lengths
 
@@ -219,18 +227,6 @@ module _ (clock next : ℕ) (k : Key) (s : SoundEntry clock next k) where
   fields-back : take (length (k .fields)) (drop fieldsAt (heldBytes (k .blob) (k .fields))) ≡ k .fields
   fields-back = rw fields-part (padded-front fieldsLimit (k .fields))
 
-  comment-back : commentOf (keptComment (k .comment)) ≡ k .comment
-  unfolding keptComment
-  comment-back = padded-front commentLimit (k .comment)
-
-  comment-sound : SoundComment (keptComment (k .comment))
-  unfolding keptComment
-  comment-sound = record {
-    comment-size = padded-size commentLimit (k .comment) (s .lengths .comment-fits);
-    comment-fits = s .lengths .comment-fits;
-    comment-rest = padded-rest commentLimit (k .comment);
-  }
-
   pub key-back : placeOf (entryFor (some k)) (bytesFor (some k)) ≡ some k
   unfolding placeOf entryFor bytesFor so
   key-back =
@@ -250,7 +246,7 @@ module _ (clock next : ℕ) (k : Key) (s : SoundEntry clock next k) where
     blob-fits = s .lengths .blob-fits;
     fields-some = s .lengths .fields-some;
     fields-fit = s .lengths .fields-fit;
-    comment = comment-sound;
+    comment = comment-sound (k .comment) (s .lengths .comment-fits);
     blob-rest = rw blob-part (padded-rest blobLimit (k .blob));
     fields-rest = rw fields-part (padded-rest fieldsLimit (k .fields));
   })

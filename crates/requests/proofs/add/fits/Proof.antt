@@ -1,7 +1,6 @@
 -- The definition makes the same tests. Assumes nothing.
 use borrow.Author.Tests.{le-leb, lt-leb}
 use mathlib.Core.Bool.{and-false}
-use lib.ListN.{length}
 use Rattle.rule.specs.Soundness.{fit}
 use Rattle.requests.proofs.add.fits.Statement.{statement}
 use Rattle.requests.proofs.add.fits.Tie as tie
@@ -20,9 +19,14 @@ returns-3 c = rw (lt-leb _ _ (c .if3 .taken), and-false)
 
 returns-4 : tie.Need-returns-4
 unfolding fit
-returns-4 c =
-    let blob = c .before in
-    rw (le-leb _ _ (blob .before .if1 .left), le-leb _ _ (blob .if2 .left), le-leb _ _ (c .if3 .left))
+returns-4 c = rw (lt-leb _ _ (c .if4 .taken), and-false, and-false)
+
+returns-5 : tie.Need-returns-5
+unfolding fit
+returns-5 c =
+    let fields = c .before in
+    let blob = fields .before in
+    rw (le-leb _ _ (blob .before .if1 .left), le-leb _ _ (blob .if2 .left), le-leb _ _ (fields .if3 .left), le-leb _ _ (c .if4 .left))
 
 pub fits-spec : {M : Type 1} → statement M
-fits-spec = tie.close (tie.spec returns returns-2 returns-3 returns-4)
+fits-spec = tie.close (tie.spec returns returns-2 returns-3 returns-4 returns-5)

@@ -12,9 +12,10 @@ unfolding storing
 returns c =
     let failed = c .before .before in
     let tested = failed .before .before in
-    let part = tested .before .before in
-    let st = part .before .before .before .before .before in
-    λ a e. search (adds, answering (failed .failure .ensures), tested .if1 .taken, tested .before .fits2 .ensures, part .cut .ensures .bytes, st .pre .1) depth 20
+    let parts = tested .before .before in
+    let mid = parts .before .before .before .before .before .before in
+    let st = mid .before in
+    λ a e. search (adds, answering (failed .failure .ensures), tested .if1 .taken, tested .before .fits2 .ensures, parts .before .cut .ensures .bytes, parts .cut2 .ensures .bytes, st .pre .1) depth 20
 
 returns-2 : tie.Need-returns-2
 unfolding storing
@@ -22,9 +23,10 @@ returns-2 c =
     let failed = c .before .before in
     let numbers = failed .before .before in
     let tested = numbers .before .before in
-    let part = tested .before .before in
-    let st = part .before .before .before .before .before in
-    λ a e. search (adds, answering (failed .failure2 .ensures), numbers .if2 .taken, tested .if1 .left, tested .before .fits2 .ensures, part .cut .ensures .bytes, st .pre .1) depth 20
+    let parts = tested .before .before in
+    let mid = parts .before .before .before .before .before .before in
+    let st = mid .before in
+    λ a e. search (adds, answering (failed .failure2 .ensures), numbers .if2 .taken, tested .if1 .left, tested .before .fits2 .ensures, parts .before .cut .ensures .bytes, parts .cut2 .ensures .bytes, st .pre .1) depth 20
 
 may : tie.Need-put-requires
 may c κs =
@@ -32,9 +34,10 @@ may c κs =
     let found = place .before .before in
     let numbers = found .before .before in
     let tested = numbers .before .before in
-    let part = tested .before .before in
-    let st = part .before .before .before .before .before in
-    let fits = lengths-fit _ _ _ _ (tested .before .fits2 .ensures) (part .cut .ensures .bytes) (tested .if1 .left) in
+    let parts = tested .before .before in
+    let mid = parts .before .before .before .before .before .before in
+    let st = mid .before in
+    let fits = lengths-fit _ _ _ _ _ _ (tested .before .fits2 .ensures) (parts .before .cut .ensures .bytes) (parts .cut2 .ensures .bytes) (tested .if1 .left) in
     may-put _ _ _ _ _ (st .pre .1) (place .i .given .1) (found .place-for .ensures) fits (numbers .if2 .left)
 
 room : tie.Need-success-requires
@@ -42,7 +45,7 @@ room c κs =
     let mid = c .before .before .before .before .before .before in
     let mid2 = mid .before .before .before .before .before .before in
     let mid3 = mid2 .before .before .before .before .before .before in
-    let st = mid3 .before .before .before in
+    let st = mid3 .before .before .before .before .before in
     omega (arith, st .pre .0)
 
 returns-3 : tie.Need-returns-3
@@ -53,9 +56,10 @@ returns-3 c =
     let found = none-found .before .before in
     let numbers = found .before .before in
     let tested = numbers .before .before in
-    let part = tested .before .before in
-    let st = part .before .before .before .before .before in
-    λ a e. search (adds, answering (failed .failure3 .ensures), none-found .enum-told .given .1, found .place-for .ensures, numbers .if2 .left, tested .if1 .left, tested .before .fits2 .ensures, part .cut .ensures .bytes, st .pre .1) depth 20
+    let parts = tested .before .before in
+    let mid = parts .before .before .before .before .before .before in
+    let st = mid .before in
+    λ a e. search (adds, answering (failed .failure3 .ensures), none-found .enum-told .given .1, found .place-for .ensures, numbers .if2 .left, tested .if1 .left, tested .before .fits2 .ensures, parts .before .cut .ensures .bytes, parts .cut2 .ensures .bytes, st .pre .1) depth 20
 
 returns-4 : tie.Need-returns-4
 unfolding storing
@@ -64,9 +68,10 @@ returns-4 c =
     let found = place .before .before in
     let numbers = found .before .before in
     let tested = numbers .before .before in
-    let part = tested .before .before in
-    let st = part .before .before .before .before .before in
-    λ a e. search (adds, c .enum-told2 .given .1, place .i .given .1, found .place-for .ensures, numbers .if2 .left, tested .if1 .left, tested .before .fits2 .ensures, part .cut .ensures .bytes, st .pre .1) depth 20
+    let parts = tested .before .before in
+    let mid = parts .before .before .before .before .before .before in
+    let st = mid .before in
+    λ a e. search (adds, c .enum-told2 .given .1, place .i .given .1, found .place-for .ensures, numbers .if2 .left, tested .if1 .left, tested .before .fits2 .ensures, parts .before .cut .ensures .bytes, parts .cut2 .ensures .bytes, st .pre .1) depth 20
 
 returns-5 : tie.Need-returns-5
 unfolding storing
@@ -77,9 +82,10 @@ returns-5 c =
     let found = place .before .before in
     let numbers = found .before .before in
     let tested = numbers .before .before in
-    let part = tested .before .before in
-    let st = part .before .before .before .before .before in
-    λ a e. search (adds, answering (failed .failure4 .ensures), said .enum-told3 .given .1, place .i .given .1, found .place-for .ensures, numbers .if2 .left, tested .if1 .left, tested .before .fits2 .ensures, part .cut .ensures .bytes, st .pre .1) depth 20
+    let parts = tested .before .before in
+    let mid = parts .before .before .before .before .before .before in
+    let st = mid .before in
+    λ a e. search (adds, answering (failed .failure4 .ensures), said .enum-told3 .given .1, place .i .given .1, found .place-for .ensures, numbers .if2 .left, tested .if1 .left, tested .before .fits2 .ensures, parts .before .cut .ensures .bytes, parts .cut2 .ensures .bytes, st .pre .1) depth 20
 
 returns-6 : tie.Need-returns-6
 unfolding storing
@@ -91,14 +97,16 @@ returns-6 c =
     let found = place .before .before in
     let numbers = found .before .before in
     let tested = numbers .before .before in
-    let part = tested .before .before in
-    let st = part .before .before .before .before .before in
-    λ a e. search (adds, answering (done .success .ensures), stored .put .ensures, said .enum-told4 .given .1, place .i .given .1, found .place-for .ensures, numbers .if2 .left, tested .if1 .left, tested .before .fits2 .ensures, part .cut .ensures .bytes, st .pre .1) depth 20
+    let parts = tested .before .before in
+    let mid = parts .before .before .before .before .before .before in
+    let st = mid .before in
+    λ a e. search (adds, answering (done .success .ensures), stored .put .ensures, said .enum-told4 .given .1, place .i .given .1, found .place-for .ensures, numbers .if2 .left, tested .if1 .left, tested .before .fits2 .ensures, parts .before .cut .ensures .bytes, parts .cut2 .ensures .bytes, st .pre .1) depth 20
 
 pub store-key-spec : {M : Type 1} → statement M
 store-key-spec =
     tie.close
     (tie.spec
+    (λ c κs. search needs)
     (λ c κs. search needs)
     (λ c κs. search needs)
     (λ c κs. search needs)

@@ -1,23 +1,64 @@
--- A free place adds nothing, a held one its blob and an empty comment, at most 1,032 bytes. Assumes nothing.
+-- A free place adds nothing, a held one its blob and its comment, which have room. Assumes nothing.
 use Rattle.table.specs.Meaning.{gatewayOf}
 use Rattle.table.proofs.WritingLaws.{sound-meaning}
 use native.Mathlib.Omega.{arith}
-use Rattle.requests.proofs.ListSteps.{free-item, held-item, blob-room}
+use mathlib.Core.Path.{ap, _∙_}
+use lib.ListN.{length}
+use Rattle.requests.proofs.ListSteps.{free-item, held-item, blob-room, comment-room, comment-taken}
 use borrow.Author.Needs.{needs}
 use Rattle.requests.proofs.list.put_item.Statement.{statement}
 use Rattle.requests.proofs.list.put_item.Tie as tie
 
 returns : tie.Need-returns
-returns c = let a = c .before .before .before .before .args in free-item (gatewayOf (a .state) (a .store .now)) (a .i) _ (c .before .is-held .ensures _) _ _ (c .if1 .taken)
+returns c =
+    let a = c .before .before .before .before .args in
+    free-item (gatewayOf (a .state) (a .store .now)) (a .i) _ (c .before .is-held .ensures _) _ _ (c .if1 .taken)
 
-put-string-requires : tie.Need-put-string-requires
-put-string-requires c κs = let st = c .before .before .before .before .before .before in let a = st .args in let room = blob-room (gatewayOf (a .state) (a .store .now)) (a .i) (sound-meaning _ _ (st .pre .1)) _ (c .blob-at .ensures .bytes) in (omega arith, omega arith)
+blob-fits : tie.Need-put-string-requires
+blob-fits c κs =
+    let st = c .before .before .before .before .before .before in
+    let a = st .args in
+    let room = blob-room (gatewayOf (a .state) (a .store .now)) (a .i) (sound-meaning _ _ (st .pre .1)) _ (c .blob-at .ensures .bytes) in
+    (omega arith, omega arith)
 
-put-number-requires : tie.Need-put-number-requires
-put-number-requires c κs = let part = c .before .before .before .before in let st = part .before .before .before .before .before .before in let a = st .args in let room = blob-room (gatewayOf (a .state) (a .store .now)) (a .i) (sound-meaning _ _ (st .pre .1)) _ (part .blob-at .ensures .bytes) in omega arith
+comment-fits : tie.Need-put-comment-requires
+comment-fits c κs =
+    let string = c .before .before .before .before in
+    let blob = string .before in
+    let st = blob .before .before .before .before .before .before in
+    let a = st .args in
+    let g = gatewayOf (a .state) (a .store .now) in
+    let sound = sound-meaning _ _ (st .pre .1) in
+    let room = blob-room g (a .i) sound _ (blob .blob-at .ensures .bytes) in
+    let kept = c .before .comment-at .ensures .1 (a .store .now) (st .pre .1) in
+    (comment-room g (a .i) sound _ kept, omega (arith, string .put-string .ensures .0))
 
 returns-2 : tie.Need-returns-2
-returns-2 c = let string = c .before .before .before .before .before .before in let part = string .before in let left = part .before .before in let held = left .before in let st = held .before .before .before in let a = st .args in let room = blob-room (gatewayOf (a .state) (a .store .now)) (a .i) (sound-meaning _ _ (st .pre .1)) _ (part .blob-at .ensures .bytes) in held-item (gatewayOf (a .state) (a .store .now)) (a .i) _ (held .is-held .ensures _) _ _ _ _ _ _ _ (left .if1 .left) (part .blob-at .ensures .bytes) (string .put-string .ensures .1) (string .put-string .ensures .0) (c .before .before .put-number .ensures .1) (c .before .before .put-number .ensures .0) (omega arith)
+returns-2 c =
+    let written = c .before .before in
+    let taken = written .before .before in
+    let string = taken .before .before .before in
+    let blob = string .before in
+    let tested = blob .before .before in
+    let st = tested .before .before .before .before in
+    let a = st .args in
+    let g = gatewayOf (a .state) (a .store .now) in
+    let sound = sound-meaning _ _ (st .pre .1) in
+    let room = blob-room g (a .i) sound _ (blob .blob-at .ensures .bytes) in
+    let kept = taken .comment-at .ensures .1 (a .store .now) (st .pre .1) in
+    let short = comment-taken g (a .i) sound _ kept in
+    held-item g (a .i) _ (tested .before .is-held .ensures _) _ _ _ _ _ _ _ _ (tested .if1 .left) (blob .blob-at .ensures .bytes) kept
+    (string .put-string .ensures .1) (string .put-string .ensures .0) (written .put-comment .ensures .1) (written .put-comment .ensures .0) (omega arith)
 
 pub put-item-spec : {M : Type 1} → statement M
-put-item-spec = tie.close (tie.spec (λ c κs. search needs) returns (λ c κs. search needs) put-string-requires put-number-requires (λ c. search needs) returns-2)
+put-item-spec =
+    tie.close
+    (tie.spec
+    (λ c κs. search needs)
+    returns
+    (λ c κs. search needs)
+    blob-fits
+    (λ c κs. search needs)
+    comment-fits
+    (λ c. search needs)
+    returns-2)
