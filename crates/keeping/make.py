@@ -3,7 +3,7 @@
     python3 crates/keeping/make.py crates/keeping/stdin > crates/keeping/stdout
 
 A section is a claim of 01's "Table, store and clock", and begins with a fresh state; each of its records is a step with the answer that
-01 gives by hand: op and part (bytes), place and value (numbers), limited and confirm (flags), bytes and fields (strings), want (number).
+01 gives by hand: op and part (bytes), place and value (numbers), limited and confirm (flags), bytes, fields and comment (strings), want (number).
 """
 import os
 import sys
@@ -12,11 +12,13 @@ sys.path.insert(0, os.path.join(os.path.dirname(os.path.abspath(__file__)), '..'
 from sections import flag, number, string, write
 
 NONE = 8
-NUMBER, READING, LIMITED, SECONDS, CONFIRM, BLOB, FIELDS, PHRASE, PHRASE_BYTE, CLOCK, NEXT = range(1, 12)
+NUMBER, READING, LIMITED, SECONDS, CONFIRM, BLOB, FIELDS, PHRASE, PHRASE_BYTE, CLOCK, NEXT, COMMENT, COMMENT_BYTE = range(1, 14)
+UNDONE = 99
 
 
-def task(op, want, part=0, place=0, value=0, limited=False, confirm=False, bytes_=b'', fields=b''):
-    return bytes([op, part]) + number(place) + number(value) + flag(limited) + flag(confirm) + string(bytes_) + string(fields) + number(want)
+def task(op, want, part=0, place=0, value=0, limited=False, confirm=False, bytes_=b'', fields=b'', comment=b''):
+    return (bytes([op, part]) + number(place) + number(value) + flag(limited) + flag(confirm)
+            + string(bytes_) + string(fields) + string(comment) + number(want))
 
 
 # ---- what is done
@@ -25,8 +27,8 @@ def advance(reading):
     return task(1, 0, value=reading)
 
 
-def put(blob, place, lifetime=None, confirm=False, fields=b'\x05\x06\x07\x08'):
-    return task(2, place, value=lifetime or 0, limited=lifetime is not None, confirm=confirm, bytes_=blob, fields=fields)
+def put(blob, place, lifetime=None, confirm=False, fields=b'\x05\x06\x07\x08', comment=b'night'):
+    return task(2, place, value=lifetime or 0, limited=lifetime is not None, confirm=confirm, bytes_=blob, fields=fields, comment=comment)
 
 
 def remove(place):
@@ -52,8 +54,12 @@ def entry(place, **parts):
     return [task(12, want, part=globals()[name.upper()], place=place) for name, want in parts.items()]
 
 
+def commented(place, comment):
+    return task(16, 1, place=place, bytes_=comment)
+
+
 def zeroed(place):
-    return [*entry(place, number=0, reading=0, limited=0, seconds=0, confirm=0, blob=0, fields=0), task(13, 1, place=place)]
+    return [*entry(place, number=0, reading=0, limited=0, seconds=0, confirm=0, blob=0, fields=0, comment=0), task(13, 1, place=place), commented(place, b'')]
 
 
 def is_passphrase(passphrase, yes):
@@ -101,6 +107,16 @@ def kept_claims():
         advance(1000), put(A, 0, lifetime=9, confirm=True), put(B, 1), *entry(0, number=1, reading=1000, limited=1, seconds=9, confirm=1, fields=4),
         advance(2000), put(A, 0, fields=b'\x09'), *entry(0, number=3, reading=2000, limited=0, seconds=0, confirm=0, blob=3, fields=1),
         held(A, 0), held(B, 1), *entry(1, number=2)]
+    yield 'a comment is kept with its key, and replaced with it', [
+        put(A, 0, comment=b'vents'), put(B, 1, comment=b''), commented(0, b'vents'), commented(1, b''), *entry(0, comment=5), *entry(1, comment=0),
+        put(A, 0, comment=b'fan'), commented(0, b'fan'), put(A, 0, comment=b''), commented(0, b''), put(B, 1, comment=b'lamps'), commented(1, b'lamps')]
+    yield 'a comment of 255 bytes is kept, one of 256 changes nothing', [
+        put(A, 0, comment=b'a' * 255), commented(0, b'a' * 255), put(A, UNDONE, comment=b'b' * 256), commented(0, b'a' * 255), *entry(0, number=1),
+        remove(0), *zeroed(0), put(A, 0, comment=b'c'), commented(0, b'c')]
+    yield 'comments are zeroed: on expiry, removed, all removed', [
+        put(A, 0, lifetime=1, comment=b'a' * 255), put(B, 1, comment=b'b' * 255), put(C, 2, comment=b'c' * 255), put(D, 3, comment=b'd' * 255),
+        advance(1000), *zeroed(0), commented(1, b'b' * 255), remove(2), *zeroed(2), commented(1, b'b' * 255), commented(3, b'd' * 255),
+        remove_all(), *zeroed(1), *zeroed(3)]
     yield 'all places held: a held blob is still replaced', [
         *(put(key, place) for place, key in enumerate(KEYS[:8])), put(KEYS[7], 7), *entry(7, number=9)]
     yield 'a new key takes the lowest free place', [
@@ -128,6 +144,11 @@ def soundness_claims():
     yield 'an unused byte behind key fields not zero: unsound', setting + [byte_with(1027, 0, 1), byte_with(1028, 1, 0), byte_with(4095, 1, 0)]
     yield 'a byte behind the passphrase not zero: unsound', setting + [
         state_with(PHRASE_BYTE, 1, 1, place=1), state_with(PHRASE_BYTE, 1, 0, place=2), state_with(PHRASE_BYTE, 1, 0, place=1023)]
+    yield 'a comment longer than 255 bytes: unsound', setting + [state_with(COMMENT, 255, 1), state_with(COMMENT, 256, 0), state_with(COMMENT, 0, 0)]
+    yield 'a byte behind a comment not zero: unsound', setting + [
+        state_with(COMMENT_BYTE, index * 256 + 1, sound) for index, sound in ((0, 1), (4, 1), (5, 0), (6, 0), (254, 0))]
+    yield 'a comment in a free place: unsound', setting + [
+        state_with(COMMENT, 1, 0, place=3), state_with(COMMENT_BYTE, 1, 0, place=3), state_with(COMMENT_BYTE, 254 * 256 + 1, 0, place=7)]
     yield 'a byte of a free place not zero: unsound', setting + [byte_with(3 * 4096, 1, 0), byte_with(32767, 1, 0)]
     yield 'a field of a free entry not zero: unsound', setting + [
         state_with(part, 1, 0, place=3) for part in (NUMBER, READING, LIMITED, SECONDS, CONFIRM, BLOB, FIELDS)]

@@ -1,8 +1,10 @@
 // What is done with a sound state, and asked of it; `judge` has tested that it is sound. Where there is no place the answer
 // is 8, where there is nothing to answer 99.
+use keys::addition::Carried;
 use keys::constraints::Lifetime;
 use rule::Found;
 use rule::Millis;
+use table::Comment;
 use table::Entry;
 use table::State;
 use table::bytes::is_zero;
@@ -11,6 +13,8 @@ use table::locks;
 use table::places;
 use wire::Seconds;
 use wire::limits;
+use wire::read::cut;
+use wire::read::is_same;
 ghost use Rattle.table.specs.Soundness.{Sound};
 
 pub struct Done {
@@ -56,13 +60,14 @@ pub(crate) fn advance(state: State, store: &mut [u8], reading: u32) -> Done
 pub(crate) fn put(
     state: State,
     store: &mut [u8],
-    lifetime: Lifetime,
-    confirm: bool,
+    payload: &[u8],
+    carried: Carried,
     blob: &[u8],
-    fields: &[u8],
 ) -> Done
     requires { ⌜ Sound state (now store) ⌝ }
 {
+    let fields = cut(payload, 1, carried.places.end);
+    let comment = cut(payload, carried.comment.from, carried.comment.to);
     if blob.len() < 1 {
         return unanswered(state);
     }
@@ -75,13 +80,16 @@ pub(crate) fn put(
     if limits::FIELDS_LIMIT < fields.len() {
         return unanswered(state);
     }
+    if limits::COMMENT_LIMIT < comment.len() {
+        return unanswered(state);
+    }
     if limits::LAST_NUMBER <= state.next {
         return unanswered(state);
     }
     match places::place_for(state, store, blob) {
         Found::Nothing => Done { answer: 8, state },
         Found::At(i) => {
-            let after = changes::put(state, store, i, lifetime, confirm, blob, fields);
+            let after = changes::put(state, store, i, payload, carried, blob);
             Done {
                 answer: i as u64,
                 state: after,
@@ -150,6 +158,7 @@ fn part_of(e: Entry, part: u8) -> u64 {
         5 => e.confirm as u64,
         6 => e.blob_len as u64,
         7 => e.fields_len as u64,
+        12 => e.comment.len as u64,
         _ => 99,
     }
 }
@@ -161,6 +170,26 @@ pub(crate) fn entry_part(state: State, place: usize, part: u8) -> u64 {
     let es = state.entries;
     let e = es[place];
     part_of(e, part)
+}
+
+// Is this comment kept, and every byte behind it zero?
+fn is_kept(c: Comment, comment: &[u8]) -> bool {
+    let n = c.len;
+    if limits::COMMENT_LIMIT < n {
+        return false;
+    }
+    let bytes = c.bytes;
+    if !is_zero(&bytes[n..]) {
+        return false;
+    }
+    is_same(&bytes[..n], comment)
+}
+
+pub(crate) fn is_comment(state: State, place: usize, comment: &[u8]) -> u64 {
+    if 8 <= place {
+        return 99;
+    }
+    number_of(is_kept(places::comment_at(state, place), comment))
 }
 
 pub(crate) fn is_place_zero(state: State, store: &[u8], place: usize) -> u64

@@ -1,4 +1,5 @@
 // One value of a state or a store is set, and the whole tested for soundness.
+use table::Comment;
 use table::Entry;
 use table::LockRecord;
 use table::State;
@@ -15,6 +16,15 @@ fn zeros() -> [u8; 40960]
     [0; 40960]
 }
 
+fn with_comment_byte(c: Comment, place: usize, value: u8) -> Comment {
+    if limits::COMMENT_LIMIT <= place {
+        return c;
+    }
+    let mut bytes = c.bytes;
+    bytes[place] = value;
+    Comment { bytes, len: c.len }
+}
+
 fn byte_of(value: u32) -> u8 {
     if value < 256 {
         return value as u8;
@@ -22,7 +32,7 @@ fn byte_of(value: u32) -> u8 {
     255
 }
 
-// The parts of an entry are 1 to 7.
+// The parts of an entry are 1 to 7, 12 its comment's length, and 13 a byte of it, by 256 times its place and the byte.
 fn damaged_entry(e: Entry, part: u8, value: u32) -> Entry {
     let number = value as u64;
     let length = value as usize;
@@ -46,6 +56,12 @@ fn damaged_entry(e: Entry, part: u8, value: u32) -> Entry {
         }
         6 => {
             d.blob_len = length;
+        }
+        12 => {
+            d.comment.len = length;
+        }
+        13 => {
+            d.comment = with_comment_byte(e.comment, length / 256, (value % 256) as u8);
         }
         _ => {
             d.fields_len = length;

@@ -5,6 +5,9 @@ use crate::damage;
 use crate::steps::Task;
 use crate::steps::Tasked;
 use crate::steps::read_task;
+use keys::addition::Carried;
+use keys::addition::Piece;
+use keys::kinds::Places;
 use report::sections::Ran;
 use report::sections::ran_as;
 use table::State;
@@ -29,6 +32,37 @@ pub(crate) fn begun(state: State, store: &mut [u8], ran: u32) -> State {
     state
 }
 
+fn less(a: usize, b: usize) -> usize {
+    if a < b {
+        return 0;
+    }
+    a - b
+}
+
+// Fields and comment lie in the record as in an add request, behind a first byte.
+fn request_start(t: Task) -> usize {
+    less(t.fields.from, 1)
+}
+
+fn carried(t: Task) -> Carried {
+    let start = request_start(t);
+    let x = t.subject;
+    Carried {
+        places: Places {
+            front: 0,
+            swap: 0,
+            back: 0,
+            end: less(t.fields.to, start),
+        },
+        comment: Piece {
+            from: less(t.comment.from, start),
+            to: less(t.comment.to, start),
+        },
+        lifetime: acts::lifetime_of(x.limited, x.value),
+        confirm: x.confirm,
+    }
+}
+
 fn change(s: &[u8], t: Task, state: State, store: &mut [u8]) -> Done
     requires { ⌜ Sound state (now store) ⌝ }
 {
@@ -40,10 +74,9 @@ fn change(s: &[u8], t: Task, state: State, store: &mut [u8]) -> Done
         2 => acts::put(
             state,
             store,
-            acts::lifetime_of(x.limited, x.value),
-            x.confirm,
+            cut(s, request_start(t), t.comment.to),
+            carried(t),
             bytes,
-            cut(s, t.fields.from, t.fields.to),
         ),
         3 => acts::remove(state, store, x.place),
         4 => acts::remove_all(state, store),
@@ -64,6 +97,7 @@ fn ask(s: &[u8], t: Task, state: State, store: &[u8]) -> u64
         13 => acts::is_place_zero(state, store, x.place),
         14 => acts::is_passphrase(state, store, bytes),
         15 => acts::lock_length(state),
+        16 => acts::is_comment(state, x.place, bytes),
         _ => 99,
     }
 }

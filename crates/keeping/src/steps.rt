@@ -24,6 +24,7 @@ pub struct Task {
     pub subject: Subject,
     pub bytes: Span,
     pub fields: Span,
+    pub comment: Span,
     pub want: u32,
 }
 
@@ -88,7 +89,15 @@ pub(crate) fn read_task(s: &[u8], c: Cursor) -> Tasked {
     else {
         return Tasked::Malformed;
     };
-    let Number::Value(want, next) = e.number(s) else {
+    let Part::Whole {
+        from: cf,
+        to: ct,
+        next: g,
+    } = e.string(s)
+    else {
+        return Tasked::Malformed;
+    };
+    let Number::Value(want, next) = g.number(s) else {
         return Tasked::Malformed;
     };
     Tasked::Value(
@@ -97,6 +106,7 @@ pub(crate) fn read_task(s: &[u8], c: Cursor) -> Tasked {
             subject,
             bytes: Span { from: bf, to: bt },
             fields: Span { from: ff, to: ft },
+            comment: Span { from: cf, to: ct },
             want,
         },
         next,

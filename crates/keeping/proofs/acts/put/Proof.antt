@@ -7,39 +7,29 @@ use Rattle.table.proofs.ChangeLaws.{place-for-put}
 use Rattle.keeping.proofs.acts.put.Statement.{statement}
 use Rattle.keeping.proofs.acts.put.Tie as tie
 
-put-requires : tie.Need-put-requires
+may : tie.Need-put-requires
 unfolding gatewayOf
-put-requires c κs =
-    let numbers = c .before .before .before .before .before .before in
-    let fields-long = numbers .before .before in
+may c κs =
+    let place = c .before .before in
+    let found = place .before .before in
+    let numbers = found .before .before in
+    let comment-long = numbers .before .before in
+    let fields-long = comment-long .before in
     let fields-short = fields-long .before in
     let blob-long = fields-short .before in
     let blob-short = blob-long .before in
-    let st = blob-short .before .before .before .before in
+    let text = blob-short .before in
+    let part = text .before in
+    let st = part .before .before .before .before in
     let a = st .args in
-    let at = ap foundPlace (sym (c .before .before .before .before .place-for .ensures) ∙ c .before .before .i .given .1) in
-    place-for-put (a .state) (a .store .now) _ (a .blob .now) (a .fields .now) (st .pre) at
-    (blob-short .if1 .left) (blob-long .if2 .left) (fields-short .if3 .left) (fields-long .if4 .left) (numbers .if5 .left)
+    let at = ap foundPlace (sym (found .place-for .ensures) ∙ place .i .given .1) in
+    place-for-put (a .state) (a .store .now) _ _ (st .pre) at
+    (record {
+      blob-some = blob-short .if1 .left;
+      blob-fits = blob-long .if2 .left;
+      fields-some = rw (← part .cut .ensures .bytes) (fields-short .if3 .left);
+      fields-fit = rw (← part .cut .ensures .bytes) (fields-long .if4 .left);
+      comment-fits = rw (← text .cut2 .ensures .bytes) (comment-long .if5 .left);
+    })
+    (numbers .if6 .left)
 
-pub put-spec : {M : Type 1} → statement M
-put-spec =
-    tie.close
-    (tie.spec
-    (λ c κs. search needs)
-    (λ c. search needs)
-    (λ c κs. search needs)
-    (λ c. search needs)
-    (λ c κs. search needs)
-    (λ c. search needs)
-    (λ c κs. search needs)
-    (λ c. search needs)
-    (λ c κs. search needs)
-    (λ c. search needs)
-    (λ c κs. search needs)
-    (λ c. search needs)
-    (λ c. search needs)
-    put-requires
-    (λ c. search needs)
-    (λ c. search needs)
-    (λ c. search needs)
-    (λ c. search needs))
