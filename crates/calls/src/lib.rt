@@ -208,8 +208,8 @@ fn records(store: &mut [u8], payload: &mut [u8], signature: &mut [u8], reply: &m
 // refusals 4 and 5 can be seen.
 pub fn run() {
     let mut store = [0u8; limits::STORE_SIZE];
-    let mut payload = [0u8; 262145];
-    let mut signature = [0u8; 2049];
+    let mut payload = [0u8; limits::PAYLOAD_LIMIT + 1];
+    let mut signature = [0u8; limits::SIGNATURE_LIMIT + 1];
     let mut reply = [0u8; limits::REPLY_ROOM];
     records(&mut store, &mut payload, &mut signature, &mut reply);
 }

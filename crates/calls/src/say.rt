@@ -4,8 +4,9 @@ use libc::STDOUT_FILENO;
 use wire::limits;
 use wire::read::cut;
 ghost use mathlib.Core.Path.{_≡_};
-ghost use Prim.Native.Nat.{_≤_, _+_};
+ghost use Prim.Native.Nat.{_≤_, _+_, _*_};
 ghost use lib.ListN.{length};
+ghost use Rattle.wire.specs.Limits.{replyRoom};
 ghost use Rattle.io.specs.Counts.{Counts};
 
 fn say(text: &[u8]) {
@@ -52,13 +53,13 @@ fn put_hex(bytes: &[u8], out: &mut [u8]) -> usize
     i + i
 }
 
-fn line() -> [u8; 16530]
-    ensures { λ r. ⌜ 16530 ≡ length r ⌝ }
+// Two digits for each byte of the longest reply.
+fn line() -> [u8; 2 * limits::REPLY_ROOM]
+    ensures { λ r. ⌜ 2 * replyRoom ≡ length r ⌝ }
 {
-    [0; 16530]
+    [0; 2 * limits::REPLY_ROOM]
 }
 
-// A reply is at most 8,265 bytes.
 fn say_reply(bytes: &[u8]) {
     if limits::REPLY_ROOM < bytes.len() {
         return;

@@ -62,7 +62,11 @@ fn store_key(
 {
     let to = carried.places.end;
     let comment = carried.comment;
-    if !fits(blob, cut(payload, 1, to), cut(payload, comment.from, comment.to)) {
+    if !fits(
+        blob,
+        cut(payload, 1, to),
+        cut(payload, comment.from, comment.to),
+    ) {
         return failure(state, reply);
     }
     if state.next == limits::LAST_NUMBER {

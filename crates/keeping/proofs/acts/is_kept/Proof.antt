@@ -1,0 +1,31 @@
+-- The length is within the array, whose type says its own. Assumes nothing.
+use native.Mathlib.Omega.{arith}
+use borrow.Author.Needs.{needs}
+use mathlib.Core.Path.{sym}
+use lib.Seq.{length-take-le}
+use Rattle.table.proofs.ArrayLaws.{comment-of}
+use Rattle.keeping.proofs.acts.is_kept.Statement.{statement}
+use Rattle.keeping.proofs.acts.is_kept.Tie as tie
+
+behind : tie.Need-part-is-zero-end
+behind c =
+    let st = c .before .before .before .before in
+    let long = comment-of (st .args .c) _ (st .good .0) in
+    omega arith
+
+inside : tie.Need-array-share-prefix-bytes
+inside c =
+    let tested = c .before .before .before .before .before in
+    let st = tested .before .before in
+    let long = comment-of (st .args .c) _ (st .good .0) in
+    omega arith
+
+size : tie.Need-slice-aggregate-is-same
+size c =
+    let tested = c .before .before .before .before .before .before in
+    let st = tested .before .before in
+    let long = comment-of (st .args .c) _ (st .good .0) in
+    sym (length-take-le (st .args .c .len) (st .args .c .bytes) (omega arith))
+
+pub is-kept-spec : {M : Type 1} → statement M
+is-kept-spec = tie.close (tie.spec (λ c. search needs) (λ c. search needs) behind (λ c κs. search needs) (λ c. search needs) inside size (λ c κs. search needs) (λ c. search needs))
