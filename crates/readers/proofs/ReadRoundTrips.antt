@@ -14,13 +14,13 @@ use Rattle.wire.specs.Steps.{so, number, part}
 use Rattle.wire.specs.Write.{string}
 use Rattle.wire.proofs.Reading.{number-read, number-cut}
 use Rattle.wire.proofs.Format.{be-small, be-shape, number-form}
+use Rattle.wire.proofs.ByteLaws.{bytes-cons, bytes-append, be32-bytes, string-bytes}
 use Rattle.keys.proofs.FieldLaws.{Lies, lies-at, lies-none, lies-cut, behind, found, At, inside, string-stands, string-reads}
 use Rattle.rule.specs.Gateway.{Entry}
 use Rattle.rule.specs.Rule.{items, listed}
 use Rattle.rule.proofs.Cases.{part-cases, number-cases}
 use Rattle.client.specs.declared.Refusal.the-variants.{Malformed}
 use Rattle.client.specs.Values.{grants}
-use Rattle.client.proofs.ByteLaws.{bytes-cons, bytes-append, be32-bytes, string-bytes}
 use Rattle.client.proofs.WriterTables.{not-granted}
 use Rattle.readers.specs.declared.Reach.{Reach}
 use Rattle.readers.specs.declared.Reach.the-variants.{End, Fault}
