@@ -31,7 +31,7 @@ module _ (P : Entry → Type 0) where
   abbrev Has : Gateway → Type 0
   Has g = EveryEntry P (g .places)
 
-  advance-has : (r : ℕ) (g : Gateway) → Has g → Has (advance r g)
+  pub advance-has : (r : ℕ) (g : Gateway) → Has g → Has (advance r g)
   unfolding advance atClock
   advance-has r g h =
       let clock = max (g .clock) r in
