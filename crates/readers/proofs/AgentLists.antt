@@ -4,14 +4,13 @@ use mathlib.Core.Path.{_≡_, refl, sym, ap, subst, _∙_}
 use mathlib.Core.Option.{none, some}
 use mathlib.Core.List.{List, [], _∷_, _++_, append-assoc, append-nil}
 use native.Mathlib.Omega.{arith}
-use lib.ListN.{length, getD, take, drop, length-append, length-map}
+use lib.ListN.{length, getD, take, drop, length-map}
 use lib.Seq.{length-take-le}
-use Rattle.wire.specs.Limits.{payloadLimit}
 use Rattle.wire.specs.Numbers.{Bytes, be32}
 use Rattle.wire.specs.Abnf.{Octets}
 use Rattle.wire.specs.Write.{string}
 use Rattle.wire.proofs.ByteLaws.{bytes-cons, bytes-append, be32-bytes, string-bytes, octets-bytes}
-use Rattle.rule.specs.Gateway.{Entry, Place, Gateway, fresh}
+use Rattle.rule.specs.Gateway.{Entry, Place, fresh}
 use Rattle.rule.specs.Soundness.{EveryEntry, SoundEntry}
 use Rattle.rule.specs.Rule.{reply}
 use Rattle.rule.specs.Calls.{lands}
@@ -25,7 +24,6 @@ use Rattle.rule.proofs.RowLaws.{landing-beyond, through}
 use Rattle.rule.proofs.ListLaws.{list-rule}
 use Rattle.rule.proofs.CommentLaws.{advance-has, text-from-fresh, bytes-from-fresh}
 use Rattle.client.proofs.RoundTrips.{splits}
-use Rattle.readers.specs.declared.Reach.{Reach}
 use Rattle.readers.specs.declared.Reach.the-variants.{End}
 use Rattle.readers.specs.Identities.{itemsAt}
 use Rattle.readers.specs.Promises.{ItemForms, item, ListForm, HandsOut, listReply, blobsOf, blobPlace, Listable, Each, ListReplyRead, AgentListRead, FreshListRead}

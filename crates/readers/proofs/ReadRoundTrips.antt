@@ -1,12 +1,12 @@
 -- The promises of the identities reader: what is read has the draft's form and what has the form is read, string by string from a place on.
 use Prim.Native.Nat.{ℕ, zero, suc, _+_, _-_, _^_, _≤_, _<_}
 use mathlib.Core.Path.{_≡_, refl, sym, ap, ap₂, _∙_}
-use mathlib.Core.List.{List, [], _∷_, _++_, append-assoc, append-nil}
+use mathlib.Core.List.{List, [], _∷_, _++_, append-assoc}
 use mathlib.Core.Bool.{Bool, true}
 use native.Mathlib.Omega.{arith}
 use borrow.Author.Tests.{lt-ltb}
 use lib.Dec.{ltb}
-use lib.ListN.{length, getD, take, drop, length-append, length-map}
+use lib.ListN.{length, getD, take, drop, length-append}
 use Rattle.wire.specs.Numbers.{Bytes, be32, beAt}
 use Rattle.wire.specs.Abnf.{Octets}
 use Rattle.wire.specs.Read.{numberAt, stringAt, textAt}
@@ -14,7 +14,7 @@ use Rattle.wire.specs.Steps.{so, number, part}
 use Rattle.wire.specs.Write.{string}
 use Rattle.wire.proofs.Reading.{number-read, number-cut}
 use Rattle.wire.proofs.Format.{be-small, be-shape, number-form}
-use Rattle.wire.proofs.ByteLaws.{bytes-cons, bytes-append, be32-bytes, string-bytes}
+use Rattle.wire.proofs.ByteLaws.{bytes-cons}
 use Rattle.keys.proofs.FieldLaws.{Lies, lies-at, lies-none, lies-cut, behind, found, At, inside, string-stands, string-reads}
 use Rattle.rule.proofs.Cases.{part-cases, number-cases}
 use Rattle.client.specs.declared.Refusal.the-variants.{Malformed}
