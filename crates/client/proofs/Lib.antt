@@ -1,6 +1,5 @@
 -- The laws that the proofs of functions cite, and the proofs of what is promised.
 pub mod FrameLaws
-pub mod ByteLaws
 pub mod WriteLaws
 pub mod ConstraintLaws
 pub mod SmartcardLaws

@@ -14,6 +14,7 @@ use Rattle.wire.specs.Steps.{so}
 use Rattle.wire.specs.Values.{numberReads, partReads}
 use Rattle.wire.specs.Write.{write, string}
 use Rattle.wire.proofs.Format.{number-form, string-form}
+use Rattle.wire.proofs.ByteLaws.{bytes-cons, bytes-append, be32-bytes, string-bytes}
 use Rattle.keys.specs.Forms.{constraintForm, constraintForms}
 use Rattle.rule.specs.Order.{Begins, Carries}
 use Rattle.client.specs.declared.Refusal.{Refusal}
@@ -21,7 +22,6 @@ use Rattle.client.specs.declared.Wrote.{Wrote}
 use Rattle.client.specs.declared.Wrote.the-variants.{Refused}
 use Rattle.client.specs.Requests.{signRequest, removeSmartcardAnswer, removeSmartcardLeft, addSmartcardAnswer, addSmartcardLeft}
 use Rattle.client.specs.Promises.{Holds, Splits, Sent, Writes, WriterRule, RemoveSmartcardRule, AddSmartcardRule, ListRead, LockRead, UnlockRead, SignRead, CardReads, SmartcardRead}
-use Rattle.client.proofs.ByteLaws.{bytes-cons, bytes-append, be32-bytes, string-bytes}
 use Rattle.client.proofs.WriteLaws.{Met, Stage, stage, untouched}
 use Rattle.client.proofs.SplitTables.{split-table}
 use Rattle.client.proofs.WriterTables.{not-granted, wrote-written, wrote-refused}

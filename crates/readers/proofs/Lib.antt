@@ -6,4 +6,5 @@ pub mod FormLaws
 pub mod ReadRoundTrips
 pub mod SignatureRoundTrips
 pub mod ReadTables
+pub mod AgentLists
 pub mod SignatureTables

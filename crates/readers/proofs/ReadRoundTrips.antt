@@ -1,12 +1,12 @@
 -- The promises of the identities reader: what is read has the draft's form and what has the form is read, string by string from a place on.
 use Prim.Native.Nat.{ℕ, zero, suc, _+_, _-_, _^_, _≤_, _<_}
 use mathlib.Core.Path.{_≡_, refl, sym, ap, ap₂, _∙_}
-use mathlib.Core.List.{List, [], _∷_, _++_, append-assoc, append-nil}
+use mathlib.Core.List.{List, [], _∷_, _++_, append-assoc}
 use mathlib.Core.Bool.{Bool, true}
 use native.Mathlib.Omega.{arith}
 use borrow.Author.Tests.{lt-ltb}
 use lib.Dec.{ltb}
-use lib.ListN.{length, getD, take, drop, length-append, length-map}
+use lib.ListN.{length, getD, take, drop, length-append}
 use Rattle.wire.specs.Numbers.{Bytes, be32, beAt}
 use Rattle.wire.specs.Abnf.{Octets}
 use Rattle.wire.specs.Read.{numberAt, stringAt, textAt}
@@ -14,13 +14,11 @@ use Rattle.wire.specs.Steps.{so, number, part}
 use Rattle.wire.specs.Write.{string}
 use Rattle.wire.proofs.Reading.{number-read, number-cut}
 use Rattle.wire.proofs.Format.{be-small, be-shape, number-form}
+use Rattle.wire.proofs.ByteLaws.{bytes-cons}
 use Rattle.keys.proofs.FieldLaws.{Lies, lies-at, lies-none, lies-cut, behind, found, At, inside, string-stands, string-reads}
-use Rattle.rule.specs.Gateway.{Entry}
-use Rattle.rule.specs.Rule.{items, listed}
 use Rattle.rule.proofs.Cases.{part-cases, number-cases}
 use Rattle.client.specs.declared.Refusal.the-variants.{Malformed}
 use Rattle.client.specs.Values.{grants}
-use Rattle.client.proofs.ByteLaws.{bytes-cons, bytes-append, be32-bytes, string-bytes}
 use Rattle.client.proofs.WriterTables.{not-granted}
 use Rattle.readers.specs.declared.Reach.{Reach}
 use Rattle.readers.specs.declared.Reach.the-variants.{End, Fault}
@@ -28,7 +26,7 @@ use Rattle.readers.specs.declared.identities.Listing.{Listing}
 use Rattle.readers.specs.Reaches.{reach}
 use Rattle.readers.specs.Values.{listingSays}
 use Rattle.readers.specs.Identities.{itemsAt, countOf, counted, itemAt, itemOf, blobOfItem, certificate, certificateEnd}
-use Rattle.readers.specs.Promises.{ItemForms, item, ListForm, ItemFault, blob-cut, comment-cut, comment-no-text, ListFault, count-cut, item-cut, CountRule, ItemRule, blobsOf, ListedIs, ListReplyRead, Marked, MarkRule}
+use Rattle.readers.specs.Promises.{ItemForms, item, ListForm, ItemFault, blob-cut, comment-cut, comment-no-text, ListFault, count-cut, item-cut, CountRule, ItemRule, Marked, MarkRule}
 use Rattle.readers.proofs.ReadSteps.{reach-cases, fault}
 use Rattle.readers.proofs.FormLaws.{lies-next, ends-rule, text-reads, took, string-missing, text-missing, no-text}
 
@@ -216,34 +214,6 @@ item-rule p blobs small l i h =
     let (e, r) = number-form s 1 (length blobs) (l .forms ++ l .rest) (twelve p small) (l .few) .0 (l .shape) in
     let x = forms-at s (twelve p small) 5 (l .rest) (l .whole) r i h in
     rw (lists-counted p blobs small l, lt-ltb i (length blobs) h, x .passed, x .here .read) (lies-cut (inside (x .here)))
-
--- ## The gateway's list reply
-
-pub listed-is : ListedIs
-unfolding listed
-listed-is ps = refl
-
-items-form : (es : List Entry) → ((i : ℕ) → length (getD (blobsOf es) i []) < 2 ^ 32) → ItemForms (blobsOf es) (items es)
-unfolding items
-items-form [] h = ItemForms.none
-items-form (e ∷ es) h = rw (append-assoc (string (e .blob)) (string []) (items es)) (item (e .blob) [] (h 0) (omega arith) Octets.none (items-form es (λ i. h (suc i))))
-
-items-bytes : (es : List Entry) → ((i : ℕ) → Bytes (getD (blobsOf es) i [])) → Bytes (items es)
-unfolding items
-items-bytes [] h = λ i. omega arith
-items-bytes (e ∷ es) h =
-    bytes-append (string (e .blob) ++ string []) (items es)
-    (bytes-append (string (e .blob)) (string []) (string-bytes (e .blob) (h 0)) (be32-bytes 0))
-    (items-bytes es (λ i. h (suc i)))
-
-pub list-reply-read : ListReplyRead
-list-reply-read es h few =
-    let p = be32 (length es) ++ items es in
-    let small : Bytes p = bytes-append (be32 (length es)) (items es) (be32-bytes (length es)) (items-bytes es (λ i. h i .0)) in
-    let n : length (blobsOf es) ≡ length es = length-map es (λ e. e .blob) in
-    let l : ListForm p (blobsOf es) =
-    record { forms = items es; rest = []; few = omega arith; whole = items-form es (λ i. h i .1); shape = rw (n, append-nil) refl } in
-    record { count = rw n at (ap listingSays (lists-counted p (blobsOf es) small l)); blobs = λ i k. item-rule p (blobsOf es) small l i (omega arith) }
 
 -- ## The mark
 

@@ -20,11 +20,11 @@ use Rattle.wire.specs.Values.{read, octetReads}
 use Rattle.wire.proofs.Reading.{le-or-lt, byte-there, byte-cut, number-read, same-true}
 use Rattle.wire.proofs.Format.{be-small, be-shape, number-form}
 use Rattle.wire.proofs.Laws.{byte-rule, answers-apart}
+use Rattle.wire.proofs.ByteLaws.{bytes-cons, string-bytes}
 use Rattle.keys.proofs.FieldLaws.{Lies, lies-join, lies-cut, lies-split, lies-bytes, behind, found, At, inside, string-stands, string-reads}
 use Rattle.rule.specs.Rule.{signatureReply}
 use Rattle.rule.proofs.Cases.{so-cases, part-cases, number-cases, true-not-false}
 use Rattle.client.specs.Values.{grants, wroteSays}
-use Rattle.client.proofs.ByteLaws.{bytes-cons, string-bytes}
 use Rattle.client.proofs.WriterTables.{not-granted}
 use Rattle.readers.specs.declared.Reach.{Reach}
 use Rattle.readers.specs.declared.Reach.the-variants.{End}

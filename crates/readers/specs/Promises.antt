@@ -3,18 +3,23 @@ use Prim.Native.Nat.{ℕ, _+_, _^_, _≤_, _<_}
 use mathlib.Core.Path.{_≡_}
 use mathlib.Core.List.{List, [], _∷_, _++_, map}
 use mathlib.Core.Bool.{true}
-use mathlib.Core.Logic.{_↔_}
+use mathlib.Core.Logic.{_↔_, _≢_}
 use lib.ListN.{length, getD, take}
 use Rattle.wire.specs.Numbers.{Bytes, be32}
 use Rattle.wire.specs.Texts.{bytes}
 use Rattle.wire.specs.Abnf.{Octets}
 use Rattle.wire.specs.Write.{write, string}
 use Rattle.wire.specs.Promises.{OneToOne, Longest}
-use Rattle.rule.specs.Gateway.{Entry, Place}
+use Rattle.rule.specs.Gateway.{Entry, Gateway, fresh}
+use Rattle.rule.specs.Rule.{reply, FAILURE, signatureReply}
+use Rattle.rule.specs.Calls.{Call, lands, call}
+use Rattle.rule.specs.Runs.{endOf}
 use Rattle.rule.specs.Order.{Begins}
-use Rattle.rule.specs.Rule.{live, items, listed, signatureReply}
+use Rattle.rule.specs.Content.{atCall, payloadOf, Lists, itemForms}
+use Rattle.rule.specs.Comments.{TextComments, ByteBlobs, BytesIn}
 use Rattle.client.specs.Refusals.{Where, no-place, at-place}
 use Rattle.client.specs.Values.{Says, grants, refuses, wroteSays}
+use Rattle.client.specs.Promises.{Holds}
 use Rattle.readers.specs.declared.identities.Listing.{Listing}
 use Rattle.readers.specs.declared.identities.Item.{Item}
 use Rattle.readers.specs.Values.{listingSays, Identity, itemSays}
@@ -104,25 +109,57 @@ pub record ListingsApart : Type 0 where
   pub listings : OneToOne Listing (Says ℕ) listingSays
   pub items : OneToOne Item (Says Identity) itemSays
 
--- the payload of the gateway's list reply
+-- ## The agent's lists: what it sends, the client reads
+
+-- the payload of the agent's list reply
 abbrev pub listReply : List Entry → List ℕ
-listReply es = 12 ∷ (be32 (length es) ++ items es)
+listReply es = 12 ∷ (be32 (length es) ++ itemForms es)
 
 abbrev pub blobsOf : List Entry → List (List ℕ)
 blobsOf es = map (λ e. e .blob) es
 
-abbrev pub ListedIs : Type 0
-ListedIs = (ps : List Place) → listed ps ≡ string (listReply (live ps))
+-- where in it the blob of entry i begins: behind the 12, the count, the items before it and its own length
+abbrev pub blobPlace : List Entry → ℕ → ℕ
+blobPlace es i = 5 + length (itemForms (take i es)) + 4
 
-pub record ReadsList (es : List Entry) : Type 0 where
-  pub count : listingSays (countOf (listReply es)) ≡ grants (length es)
-  pub blobs : (i : ℕ) → i < length es → blobOfItem (listReply es) i ≡ getD (blobsOf es) i []
+-- the entries are counted, and each is handed out as its blob, where it lies
+pub record ReadsEntries (payload : List ℕ) (es : List Entry) : Type 0 where
+  pub count : listingSays (countOf payload) ≡ grants (length es)
+  pub items : (i : ℕ) → i < length es → HandsOut payload i (getD (blobsOf es) i []) (blobPlace es i)
 
--- the list reply is read item by item
+-- an entry whose item has the draft's form
+pub record Listable (e : Entry) : Type 0 where
+  pub bytes : Bytes (e .blob)
+  pub text : Octets (e .comment)
+  pub blob-small : length (e .blob) < 2 ^ 32
+  pub comment-small : length (e .comment) < 2 ^ 32
+
+abbrev pub Each : (Entry → Type 0) → List Entry → Type 0
+Each P [] = Unit {0}
+Each P (e ∷ es) = P e × Each P es
+
 abbrev pub ListReplyRead : Type 0
-ListReplyRead =
-    (es : List Entry) → ((i : ℕ) → Bytes (getD (blobsOf es) i []) × (length (getD (blobsOf es) i []) < 2 ^ 32)) → length es < 2 ^ 32
-    → ReadsList es
+ListReplyRead = (es : List Entry) → Each Listable es → length es < 2 ^ 32 → ReadsEntries (listReply es) es
+
+-- bytes that were sent reach the client: its splitter gives back a payload, and its reader these entries in it
+pub record ReachesClient (sent : List ℕ) (es : List Entry) : Type 0 where
+  pub payload : List ℕ
+  pub splits : Holds sent payload
+  pub reads : ReadsEntries payload es
+
+-- a list request that lands, and does not fail, sends the entries of this moment, in place order, to the client
+abbrev pub SendsList : Gateway → Call → Type 0
+SendsList g c =
+    (sent : List ℕ) → Begins 11 (payloadOf c) → call g c .outcome ≡ lands (reply sent) → reply sent ≢ FAILURE
+    → (es : List Entry) × Lists (atCall g c .places) es × ReachesClient sent es
+
+-- where every held comment is UTF-8, the client reads every list; a call that lands is of a sound gateway
+abbrev pub AgentListRead : Type 0
+AgentListRead = (g : Gateway) (c : Call) → TextComments g → ByteBlobs g → SendsList g c
+
+-- so it does of every list from a fresh gateway on
+abbrev pub FreshListRead : Type 0
+FreshListRead = (cs : List Call) (c : Call) → BytesIn cs → SendsList (endOf fresh cs) c
 
 -- ## The mark
 

@@ -53,11 +53,11 @@ add-past true g c past state begins = past-gate add-constrained g c past state b
 abbrev read-key : Call → Carried → NewKey
 read-key c carried = brought (payloadOf c) carried (blobOf (payloadOf c) 1 (carried .places))
 
-abbrev read-entry : Gateway → Call → Carried → Entry
+abbrev pub read-entry : Gateway → Call → Carried → Entry
 read-entry g c carried = entryOf (atCall g c) (payloadOf c) carried (blobOf (payloadOf c) 1 (carried .places))
 
 -- the entry that is read is the entry that the request makes
-read-made : (g : Gateway) (c : Call) (carried : Carried) (k : NewKey) → read-key c carried ≡ k → read-entry g c carried ≡ madeBy g c k
+pub read-made : (g : Gateway) (c : Call) (carried : Carried) (k : NewKey) → read-key c carried ≡ k → read-entry g c carried ≡ madeBy g c k
 unfolding advance atClock
 read-made g c carried k brings = ap (madeBy g c) brings
 

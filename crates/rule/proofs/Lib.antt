@@ -26,4 +26,5 @@ pub mod AddLaws
 pub mod SignLaws
 pub mod CloseLaws
 pub mod UsableLaws
+pub mod CommentLaws
 pub mod Starred

@@ -7,4 +7,5 @@ pub mod Calls
 pub mod Runs
 pub mod Order
 pub mod Content
+pub mod Comments
 pub mod Examples

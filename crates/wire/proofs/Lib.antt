@@ -7,4 +7,5 @@ pub mod Abnf
 pub mod Longest
 pub mod Mpint
 pub mod Writing
+pub mod ByteLaws
 pub mod Laws
