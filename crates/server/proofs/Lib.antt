@@ -3,4 +3,5 @@ pub mod RowSteps
 pub mod CallLaws
 pub mod Leavings
 pub mod Numbers
+pub mod Lists
 pub mod Lift

@@ -10,14 +10,17 @@ use mathlib.Core.List.{List, [], _∷_, _++_, map}
 use native.Mathlib.Omega.{arith}
 use borrow.Author.Tests.{lt-ltb}
 use lib.Dec.{leb}
+use lib.ListN.{replicate}
 use Rattle.wire.specs.Limits.{payloadLimit, storeSize, signatureLimit, replyRoom}
+use Rattle.wire.specs.Numbers.{Bytes}
 use Rattle.wire.specs.Steps.{so}
-use Rattle.rule.specs.Gateway.{Gateway, locked}
+use Rattle.rule.specs.Gateway.{Gateway, fresh, locked}
 use Rattle.rule.specs.Rule.{gate}
 use Rattle.rule.specs.Calls as calls
 use Rattle.rule.specs.Calls.{given, refusalOf, Frame, Call, refused, asks, Result, refusal, call}
 use Rattle.rule.specs.Runs.{heard, heardIn, turn, turnsFrom, endOf, Oracle}
 use Rattle.rule.specs.Order.{EveryAccepted, Keeps, AsOneAtATime, asked, askedIn, ownFrame, ownAnswers, Begins, NoUnlocking, NeverFall, EveryQuestion, EveryOutcome, someAccepted, OnlyExpiry}
+use Rattle.rule.specs.Comments.{TextComments, BytesIn}
 use Rattle.rule.proofs.Cases.{so-cases, true-not-false}
 use Rattle.rule.proofs.PlaceLaws.{some-not-none}
 use Rattle.rule.proofs.RefusalLaws.{refused-by}
@@ -26,19 +29,21 @@ use Rattle.rule.proofs.Demands as demands
 use Rattle.rule.proofs.LockLaws.{lock-holds}
 use Rattle.rule.proofs.LockedRuns as locks
 use Rattle.rule.proofs.SoundLaws.{never-refused-3}
+use Rattle.rule.proofs.CommentLaws.{text-from-fresh}
 use Rattle.table.specs.declared.State.{State}
-use Rattle.table.specs.Meaning.{gatewayOf}
+use Rattle.table.specs.Meaning.{gatewayOf, stateOf}
 use Rattle.table.specs.Soundness.{Means}
-use Rattle.table.proofs.WritingLaws.{sound-meaning}
+use Rattle.table.proofs.WritingLaws.{sound-meaning, fresh-means}
 use Rattle.requests.specs.declared.Outcome.{Outcome}
 use Rattle.requests.specs.declared.Outcome.the-variants.{Refused, Gate, Check, Confirm, Sign, Reply, Close}
 use Rattle.requests.specs.Outcomes.{code, outcomeValues, outcomeFor, outcomeIn}
 use Rattle.server.specs.Runs.{Step, ByCall, EndedWith, Asked, Unchanged, EndsAs, CodeRun, endState, endStore, EveryStep, asCall, RuleRun, IsARun, CodeIsARun}
 use Rattle.server.specs.Runs.{outcomeAfter, isAccepted, Accepted, heardAt, heardOver, turnsOver, turnsOf, askedOver, acceptedOver, acceptedSteps}
-use Rattle.server.specs.Runs.{CodeAsOneAtATime, CodeDemand3, CodeAsLent, CodeRefusedDropOut, NeverFallOver, CodeOwnReadings, CodeOnlyExpiry, CodeWhileLocked, CodeBetweenLockAndUnlock, CodeNeverRefused3, CodePromises}
+use Rattle.server.specs.Runs.{CodeAsOneAtATime, CodeDemand3, CodeAsLent, CodeRefusedDropOut, NeverFallOver, CodeOwnReadings, CodeOnlyExpiry, CodeWhileLocked, CodeBetweenLockAndUnlock, CodeNeverRefused3, CodeTextFromFresh, CodePromises}
 use Rattle.server.proofs.Leavings.{no-second-answer, code-refusals, code-refusal-leaves, step-ends, ended-is, asked-question, replied}
 use Rattle.server.proofs.Leavings.{code-question-leaves, code-close-leaves, code-failure-leaves, code-reply-leaves, code-reply-bytes, code-others-stay}
 use Rattle.server.proofs.Numbers.{code-numbers, code-gate-asks, code-hashes}
+use Rattle.server.proofs.Lists.{code-lists}
 
 -- ## The run
 
@@ -303,6 +308,19 @@ code-never-refused-3 state store ks S run =
       end-sound = is .end .sound;
     }
 
+-- ## Comments from a fresh state on
+
+bytes-in : (ks : List Step) → EveryStep (λ k. Bytes (k .payload)) ks → BytesIn (map asCall ks)
+bytes-in [] all = tt
+bytes-in (k ∷ ks) all = (all .0, bytes-in ks (all .1))
+
+pub code-text-from-fresh : CodeTextFromFresh ByCall
+code-text-from-fresh ks run bytes =
+    let cs = map asCall ks in
+    let is = code-is-a-run (stateOf fresh) (replicate storeSize 0) ks (fresh-means .sound) run in
+    let from-fresh : endOf (gatewayOf (stateOf fresh) (replicate storeSize 0)) cs ≡ endOf fresh cs = ap (λ (g : Gateway). endOf g cs) (fresh-means .gateway) in
+    subst TextComments (sym (is .end .gateway ∙ from-fresh)) (text-from-fresh cs (bytes-in ks bytes))
+
 -- ## All of them, of any kind of call that meets the contract of `call`
 
 module _ (Met : State → List ℕ → Step → Type 0) (by-call : (state : State) (store : List ℕ) (k : Step) → Met state store k → ByCall state store k) where
@@ -318,6 +336,7 @@ module _ (Met : State → List ℕ → Step → Type 0) (by-call : (state : Stat
     numbers = λ state store k S m. code-numbers state store k S (by-call _ _ _ m);
     gate-asks = λ state store k byte needs class S m. code-gate-asks state store k byte needs class S (by-call _ _ _ m);
     hashes = λ state store k n from to bits S m. code-hashes state store k n from to bits S (by-call _ _ _ m);
+    lists = λ state store k es S m. code-lists state store k es S (by-call _ _ _ m);
     question-leaves = λ state store k S m. code-question-leaves state store k S (by-call _ _ _ m);
     close-leaves = λ state store k S m. code-close-leaves state store k S (by-call _ _ _ m);
     failure-leaves = λ state store k S m. code-failure-leaves state store k S (by-call _ _ _ m);
@@ -332,6 +351,7 @@ module _ (Met : State → List ℕ → Step → Type 0) (by-call : (state : Stat
     while-locked = λ state store ks S run. code-while-locked state store ks S (as-calls ks state store run);
     between-lock-and-unlock = λ state store before lock ks passphrase S run. code-between-lock-and-unlock state store before lock ks passphrase S (as-calls (before ++ lock ∷ ks) state store run);
     never-refused-3 = λ state store ks S run. code-never-refused-3 state store ks S (as-calls ks state store run);
+    text-from-fresh = λ ks run. code-text-from-fresh ks (as-calls ks _ _ run);
   }
 
 pub call-promises : CodePromises ByCall

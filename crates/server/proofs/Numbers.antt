@@ -34,7 +34,7 @@ code-numbers state store k S m =
 
 -- ## The gate
 
-not-refused : (g : Gateway) (c : Call) → isAccepted (call g c .outcome) ≡ true → refusal g c ≡ none
+pub not-refused : (g : Gateway) (c : Call) → isAccepted (call g c .outcome) ≡ true → refusal g c ≡ none
 unfolding isAccepted
 not-refused g c =
     own-cases g c (λ (o : Option ℕ) (r : Result). isAccepted (r .outcome) ≡ true → o ≡ none) (λ n never. absurd (true-not-false (sym never))) (λ q needs _. refl) (λ _. refl)

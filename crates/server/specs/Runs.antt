@@ -5,22 +5,24 @@ use mathlib.Core.Path.{_≡_}
 use mathlib.Core.Logic.{_≢_}
 use mathlib.Core.Bool.{Bool, true, false}
 use mathlib.Core.List.{List, [], _∷_, _++_, map}
-use lib.ListN.{length, getD, take, drop}
+use lib.ListN.{length, getD, take, drop, replicate}
 use Rattle.wire.specs.Limits.{payloadLimit, storeSize, passphraseLimit, signatureLimit, replyRoom}
-use Rattle.wire.specs.Numbers.{Bytes}
+use Rattle.wire.specs.Numbers.{Bytes, be32}
 use Rattle.wire.specs.Steps.{so}
+use Rattle.wire.specs.Write.{string, write}
 use Rattle.rule.specs.declared.Millis.{Millis}
-use Rattle.rule.specs.Gateway.{Gateway, advance, locked}
+use Rattle.rule.specs.Gateway.{Entry, Gateway, fresh, advance, locked}
 use Rattle.rule.specs.Rule.{FAILURE}
 use Rattle.rule.specs.Calls as rule
 use Rattle.rule.specs.Calls.{Frame, Call, refused, asks, lands, call}
 use Rattle.rule.specs.Runs.{Turn, turn, endOf, landings, Oracle, oneAtATime, oneAtATimeEnd}
 use Rattle.rule.specs.Order.{EveryTurn, Keeps, asked, settled, ownFrame, ownAnswers, Begins, Carries, NoUnlocking}
-use Rattle.rule.specs.Content.{Row, SignRequest}
+use Rattle.rule.specs.Content.{Row, Lists, itemForms, SignRequest}
+use Rattle.rule.specs.Comments.{TextComments}
 use Rattle.table.specs.declared.State.{State}
-use Rattle.table.specs.Meaning.{gatewayOf}
+use Rattle.table.specs.Meaning.{gatewayOf, stateOf}
 use Rattle.table.specs.Soundness.{Sound, Means}
-use Rattle.requests.specs.declared.Said.the-variants.{Missing}
+use Rattle.requests.specs.declared.Said.the-variants.{Missing, Yes}
 use Rattle.requests.specs.declared.Signed.the-variants.{Given}
 use Rattle.requests.specs.declared.Answers.{Answers}
 use Rattle.requests.specs.declared.Outcome.{Outcome}
@@ -186,6 +188,11 @@ pub record Fills (n : ℕ) (k : Step) : Type 0 where
   pub length-stays : length (k .gave .reply) ≡ length (k .buffer)
   pub others-stay : drop n (k .gave .reply) ≡ drop n (k .buffer)
 
+-- it replied these bytes, at the reply buffer's front, and its others stay
+pub record Fronted (bytes : List ℕ) (k : Step) : Type 0 where
+  pub ended : EndedWith (5 ∷ length bytes ∷ []) k
+  pub buffer : k .gave .reply ≡ write (k .buffer) 0 bytes
+
 -- it ended as the rule's call does
 pub record EndsAs (k : Step) (result : rule.Result) : Type 0 where
   pub ended : EndedWith (outcomeValues (code (result .outcome))) k
@@ -286,6 +293,13 @@ module _ (Met : State → List ℕ → Step → Type 0) where
       → EndedWith (4 ∷ n ∷ from ∷ to ∷ bits ∷ []) k
       → (blob bytes : List ℕ) × (flags : ℕ) × SignRequest (k .payload) blob bytes flags × BitsTable flags bits
 
+  -- 11 answers the live entries' count, and of each, in place order, the blob and its own comment
+  abbrev pub CodeLists : Type 0
+  CodeLists =
+      (state : State) (store : List ℕ) (k : Step) (es : List Entry) → Sound state store → Met state store k → Accepted k → Begins 11 (k .payload)
+      → locked (gatewayOf state store) ≡ false → k .answers .gate ≡ Yes → Lists (advance (k .reading .count) (gatewayOf state store) .places) es
+      → Fronted (string (12 ∷ (be32 (length es) ++ itemForms es))) k
+
   -- "Questions and closing alter nothing but clock and expiry"
   abbrev pub CodeQuestionLeaves : Type 0
   CodeQuestionLeaves = (state : State) (store : List ℕ) (k : Step) → Sound state store → Met state store k → Asked k → Quiet state store k
@@ -362,6 +376,12 @@ module _ (Met : State → List ℕ → Step → Type 0) where
   abbrev pub CodeNeverRefused3 : Type 0
   CodeNeverRefused3 = (state : State) (store : List ℕ) (ks : List Step) → Sound state store → CodeRun state store ks → NeverUnsound state store ks
 
+  -- #101: from a fresh state on, every comment that is kept is UTF-8
+  abbrev pub CodeTextFromFresh : Type 0
+  CodeTextFromFresh =
+      (ks : List Step) → CodeRun (stateOf fresh) (replicate storeSize 0) ks → EveryStep (λ k. Bytes (k .payload)) ks
+      → TextComments (gatewayOf (endState (stateOf fresh) ks) (endStore (replicate storeSize 0) ks))
+
   -- ### All of them
 
   pub record CodePromises : Type 0 where
@@ -371,6 +391,7 @@ module _ (Met : State → List ℕ → Step → Type 0) where
     pub numbers : CodeNumbers
     pub gate-asks : CodeGateAsks
     pub hashes : CodeHashes
+    pub lists : CodeLists
     pub question-leaves : CodeQuestionLeaves
     pub close-leaves : CodeCloseLeaves
     pub failure-leaves : CodeFailureLeaves
@@ -385,3 +406,4 @@ module _ (Met : State → List ℕ → Step → Type 0) where
     pub while-locked : CodeWhileLocked
     pub between-lock-and-unlock : CodeBetweenLockAndUnlock
     pub never-refused-3 : CodeNeverRefused3
+    pub text-from-fresh : CodeTextFromFresh

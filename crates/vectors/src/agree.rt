@@ -116,11 +116,10 @@ fn limits_of(lifetime: Lifetime, confirm: bool) -> Limits {
 pub(crate) fn has_addition(payload: &[u8], constrained: bool, want: Limits) -> bool {
     let addition = addition_at(payload, 1, constrained);
     match addition {
-        Addition::Whole {
-            places: _,
-            lifetime,
-            confirm,
-        } => is_same_limits(limits_of(lifetime, confirm), want),
+        Addition::Whole(carried) => {
+            let lifetime = carried.lifetime;
+            is_same_limits(limits_of(lifetime, carried.confirm), want)
+        }
         Addition::Fault(place) => is_same_limits(faulty(1, place), want),
     }
 }

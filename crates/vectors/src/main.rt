@@ -9,17 +9,15 @@ use libc::STDOUT_FILENO;
 use report::sections::Step;
 use report::sections::first;
 use report::sections::next;
-use wire::limits;
 use wire::read::Cursor;
 use wire::read::cut;
 ghost use mathlib.Core.Path.{_≡_};
 ghost use lib.ListN.{length};
-ghost use Rattle.wire.specs.Limits.{payloadLimit};
 
-fn space() -> [u8; limits::PAYLOAD_LIMIT]
-    ensures { λ r. ⌜ payloadLimit ≡ length r ⌝ }
+fn space() -> [u8; 262144]
+    ensures { λ r. ⌜ 262144 ≡ length r ⌝ }
 {
-    [0; limits::PAYLOAD_LIMIT]
+    [0; 262144]
 }
 
 // A record takes up a byte or more, so there are no more of them than bytes.

@@ -1,0 +1,25 @@
+-- The list of the code: its call ends as the rule's does, which lists the live entries.
+use mathlib.Core.Path.{sym, ap, _∙_}
+use Rattle.rule.specs.Calls as calls
+use Rattle.rule.specs.Calls.{call}
+use Rattle.rule.specs.Content.{PastGate}
+use Rattle.rule.proofs.ListLaws.{list-rule}
+use Rattle.table.specs.Meaning.{gatewayOf}
+use Rattle.requests.specs.Outcomes.{lentOf, grantOf, code, written, outcomeValues}
+use Rattle.server.specs.Runs.{ByCall, isAccepted, asCall, CodeLists}
+use Rattle.server.proofs.Leavings.{step-ends, ended-is}
+use Rattle.server.proofs.Numbers.{not-refused}
+
+pub code-lists : CodeLists ByCall
+unfolding lentOf code written
+code-lists state store k es S m accepted begins state-open yes lists =
+    let g = gatewayOf state store in
+    let c = asCall k in
+    let ends = step-ends state store S k m in
+    let ok = not-refused g c (ap isAccepted (sym (ended-is k (call g c) ends)) ∙ accepted) in
+    let past : PastGate g c = record { accepted = ok; gate = ap grantOf yes } in
+    let listed = list-rule g c es past state-open begins lists in
+    record {
+      ended = ends .ended ∙ ap (λ (o : calls.Outcome). outcomeValues (code o)) listed;
+      buffer = ends .bytes ∙ ap (λ (o : calls.Outcome). written o (k .buffer)) listed;
+    }
