@@ -2,20 +2,17 @@
 use Prim.Native.Nat.{ℕ}
 use mathlib.Core.Path.{_≡_, refl, sym, ap, _∙_, subst}
 use mathlib.Core.List.{List}
-use lib.ListN.{length}
 use Rattle.wire.specs.Limits.{storeSize}
 use Rattle.wire.specs.Steps.{so}
 use Rattle.rule.specs.declared.Hash.{Hash}
 use Rattle.rule.specs.Gateway.{Gateway}
 use Rattle.rule.specs.Calls as rule
-use Rattle.rule.specs.Calls.{Call, Result, call}
+use Rattle.rule.specs.Calls.{Result, call}
 use Rattle.rule.specs.Examples.{oneKey, signWith, pastGate, asksHash}
 use Rattle.rule.proofs.Starred.{starred-examples}
 use Rattle.table.specs.declared.State.{State}
 use Rattle.table.specs.Meaning.{gatewayOf}
-use Rattle.table.specs.Soundness.{Sound}
 use Rattle.requests.specs.declared.Answers.{Answers}
-use Rattle.requests.specs.declared.Outcome.{Outcome}
 use Rattle.requests.specs.Ends.{Done}
 use Rattle.requests.specs.Outcomes.{lentOf, code, hashBits, outcomeValues}
 use Rattle.requests.proofs.OutcomeLaws.{outcomes-apart}
@@ -23,7 +20,7 @@ use Rattle.server.specs.Calls.{callOf, Meets}
 use Rattle.server.specs.Runs.{Step, ByCall, asCall}
 use Rattle.server.proofs.Leavings.{step-ends}
 use Rattle.server.proofs.Lift.{code-promises}
-use Rattle.gateway.specs.Flat.{saidOf, confirmedOf, signedOf, answersOf, flatOf, FlatMeets}
+use Rattle.gateway.specs.Flat.{saidOf, confirmedOf, signedOf, answersOf, flatOf}
 use Rattle.gateway.specs.Promises.{flatValues, ByExport, ExportPromises, gateYes, TellsBits, FlagsTold}
 use Rattle.gateway.proofs.FlatLaws.{same-values}
 

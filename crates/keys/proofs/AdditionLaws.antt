@@ -1,25 +1,21 @@
 -- Add requests at fault: the reader goes through key fields, comment and constraints in this order, and hands on the first fault.
 use Prim.Native.Nat.{ℕ}
-use mathlib.Core.Path.{_≡_, refl, ap, _∙_}
-use mathlib.Core.Bool.{Bool, true}
-use mathlib.Core.Option.{none, some}
-use mathlib.Core.List.{List}
+use mathlib.Core.Path.{_≡_, ap}
+use mathlib.Core.Option.{some}
 use native.Mathlib.Omega.{arith}
-use lib.ListN.{drop}
 use Rattle.wire.specs.declared.read.Part.{Part}
-use Rattle.wire.specs.Values.{read, fault, partReads}
+use Rattle.wire.specs.Values.{fault}
 use Rattle.wire.specs.Read.{textAt}
 use Rattle.wire.specs.Steps.{part}
 use Rattle.wire.proofs.Laws.{answers-apart, whole-of}
 use Rattle.keys.specs.declared.kinds.Places.{Places}
-use Rattle.keys.specs.declared.kinds.Key.{Key}
 use Rattle.keys.specs.declared.constraints.Walk.{Walk}
 use Rattle.keys.specs.declared.constraints.Walk.the-variants.{Done, Duplicate, Unknown, Cut}
 use Rattle.keys.specs.declared.addition.Piece.{Piece}
 use Rattle.keys.specs.declared.addition.Addition.{Addition}
 use Rattle.keys.specs.Kinds.{keyAt}
 use Rattle.keys.specs.Additions.{limitsOf, commentedAt, key, additionAt}
-use Rattle.keys.specs.Values.{walkSays, faultOf, additionReads}
+use Rattle.keys.specs.Values.{walkSays, faultOf}
 use Rattle.keys.specs.Promises.{AdditionFault}
 use Rattle.keys.proofs.KeyLaws.{read-whole}
 use Rattle.keys.proofs.FaultLaws.{fault-so}

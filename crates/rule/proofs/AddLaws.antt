@@ -6,12 +6,10 @@ use mathlib.Core.Logic.{_≢_, _⊎_, inl, inr}
 use mathlib.Core.Bool.{Bool, true, false}
 use mathlib.Core.Option.{Option, none, some}
 use mathlib.Core.List.{List}
-use borrow.Author.Tests.{le-leb, leb-true, lt-ltb}
-use lib.Dec.{leb}
+use borrow.Author.Tests.{lt-ltb}
 use lib.ListN.{length}
 use lib.Seq.{getD-set-same, getD-set-other}
 use Rattle.wire.specs.Numbers.{Bytes}
-use Rattle.wire.specs.Read.{cutOf}
 use Rattle.wire.specs.Steps.{so}
 use Rattle.keys.specs.declared.addition.Carried.{Carried}
 use Rattle.keys.specs.declared.addition.Addition.{Addition}
@@ -26,8 +24,7 @@ use Rattle.rule.specs.Rule.{Question, gate, check, Answer, SUCCESS, adde
 use Rattle.rule.specs.Calls.{lent, Call, Outcome, asks, lands, Result, follow, call}
 use Rattle.rule.specs.Order.{Begins}
 use Rattle.rule.specs.Content.{HeldAt, FreeAt, atCall, payloadOf, PastGate, add, add-constrained, addByte, AddRequest, madeBy, Put, MayStore, AddedOnly, AddedAlways, CheckAsks}
-use Rattle.rule.proofs.Cases.{true-not-false, and-right, both-true}
-use Rattle.rule.proofs.Clock.{advance-next}
+use Rattle.rule.proofs.Cases.{true-not-false}
 use Rattle.rule.proofs.PlaceLaws.{every-at, seek-first, seek-none, found-at, absent-differs, Placed, replacing, anew, placed, no-place, place-inside}
 use Rattle.rule.proofs.Effects.{Storable}
 use Rattle.rule.proofs.SoundLaws.{fit-says}

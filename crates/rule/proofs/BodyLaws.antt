@@ -7,7 +7,6 @@ use mathlib.Core.Bool.{Bool, true, false}
 use mathlib.Core.Option.{Option, none, some}
 use mathlib.Core.List.{List, []}
 use borrow.Author.Tests.{ltb-true}
-use lib.ListN.{length}
 use lib.Dec.{leb, ltb}
 use Rattle.wire.specs.Limits.{passphraseLimit, lastNumber}
 use Rattle.wire.specs.declared.read.Cursor.{Cursor}

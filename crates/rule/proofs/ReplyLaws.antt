@@ -21,7 +21,7 @@ use Rattle.rule.specs.Calls.{given, Numbered, forNumber, lent, lentLengt
 use Rattle.rule.specs.Order.{RepliesFit}
 use Rattle.rule.proofs.Cases.{so-cases, part-cases, number-cases, found-cases, added-cases, given-cases}
 use Rattle.rule.proofs.Plans.{asks-not-lands, refused-not-lands}
-use Rattle.rule.proofs.PlaceLaws.{some-not-none, every-imp}
+use Rattle.rule.proofs.PlaceLaws.{some-not-none}
 use Rattle.rule.proofs.RefusalLaws.{accepted}
 use Rattle.rule.proofs.SoundLaws.{sound-advance}
 

@@ -40,7 +40,7 @@ use Rattle.requests.specs.Ends.{Done, laidOut}
 use Rattle.server.specs.Calls.{callOf}
 use Rattle.server.specs.Runs.{Gave, Step, ByCall, EndedWith, Asked, Replied, failureBytes, successBytes, giving, asCall, outcomeAfter, Unchanged, EndsAs, OnlyClock, Fills}
 use Rattle.server.specs.Runs.{NoSecondAnswer, CodeRefusals, CodeRefusalLeaves, CodeQuestionLeaves, CodeCloseLeaves, CodeFailureLeaves, CodeReplyLeaves, CodeReplyBytes, CodeOthersStay}
-use Rattle.requests.proofs.OutcomeLaws.{outcomes-apart, outcomes-read}
+use Rattle.requests.proofs.OutcomeLaws.{outcomes-read}
 use Rattle.server.proofs.CallLaws.{sound-passed, refusalHere, refuses-1, refuses-2, refuses-3, refuses-4, refuses-5, none-applies}
 use Rattle.server.proofs.RowSteps.{lent-given}
 

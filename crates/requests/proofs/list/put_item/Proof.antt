@@ -2,8 +2,6 @@
 use Rattle.table.specs.Meaning.{gatewayOf}
 use Rattle.table.proofs.WritingLaws.{sound-meaning}
 use native.Mathlib.Omega.{arith}
-use mathlib.Core.Path.{ap, _∙_}
-use lib.ListN.{length}
 use Rattle.requests.proofs.ListSteps.{free-item, held-item, blob-room, comment-room, comment-taken}
 use borrow.Author.Needs.{needs}
 use Rattle.requests.proofs.list.put_item.Statement.{statement}

@@ -1,7 +1,6 @@
 -- Without Confirm yes is said; with it, what counts for the key's number. Assumes nothing.
 use borrow.Author.Needs.{needs}
 use borrow.Author.Tests.{not-true, not-false}
-use mathlib.Core.Path.{sym, _∙_}
 use Rattle.wire.specs.Steps.{so}
 use Rattle.requests.specs.Outcomes.{agreed}
 use Rattle.requests.proofs.sign.consent.Statement.{statement}

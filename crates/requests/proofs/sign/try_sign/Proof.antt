@@ -1,6 +1,6 @@
 -- The plan goes by the same steps, up to the place that was found. Assumes nothing.
 use Rattle.rule.specs.Rule.{signing}
-use Rattle.requests.proofs.EndSteps.{answering, closing, sought, place-within}
+use Rattle.requests.proofs.EndSteps.{answering, closing, place-within}
 use Rattle.requests.proofs.SignSteps.{signs}
 use borrow.Author.Needs.{needs}
 use Rattle.requests.proofs.sign.try_sign.Statement.{statement}
