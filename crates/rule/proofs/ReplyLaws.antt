@@ -1,4 +1,4 @@
--- Every reply fits the buffer that refusal 1 asks for: the longest is a list of eight blobs of 1,024 bytes; refusal 5 bounds a lent signature.
+-- Every reply fits the buffer that refusal 1 asks for: the longest is a list of eight blobs of 1,024 bytes, each with a comment of 255; refusal 5 bounds a lent signature.
 use Prim.Native.Nat.{ℕ, _-_, _*_, _≤_}
 use native.Mathlib.Omega.{arith}
 use mathlib.Core.Path.{_≡_, refl, sym, ap, _∙_, subst}

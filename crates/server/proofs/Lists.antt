@@ -12,13 +12,13 @@ use Rattle.server.proofs.Numbers.{not-refused}
 
 pub code-lists : CodeLists ByCall
 unfolding lentOf code written
-code-lists state store k es S m accepted begins state-open yes lists =
+code-lists state store k es S m accepted begins open-here granted lists =
     let g = gatewayOf state store in
     let c = asCall k in
     let ends = step-ends state store S k m in
     let ok = not-refused g c (ap isAccepted (sym (ended-is k (call g c) ends)) ∙ accepted) in
-    let past : PastGate g c = record { accepted = ok; gate = ap grantOf yes } in
-    let listed = list-rule g c es past state-open begins lists in
+    let past : PastGate g c = record { accepted = ok; gate = ap grantOf granted } in
+    let listed = list-rule g c es past open-here begins lists in
     record {
       ended = ends .ended ∙ ap (λ (o : calls.Outcome). outcomeValues (code o)) listed;
       buffer = ends .bytes ∙ ap (λ (o : calls.Outcome). written o (k .buffer)) listed;
