@@ -28,7 +28,7 @@ extern "C" {
 
 enum {
     KEY_AGENT_STORE_BYTES = 32768,     /* the key store's exact length */
-    KEY_AGENT_REPLY_BYTES = 8265,      /* the reply buffer's least length */
+    KEY_AGENT_REPLY_BYTES = 10305,     /* the reply buffer's least length */
     KEY_AGENT_PAYLOAD_BYTES = 262144,  /* the longest payload */
     KEY_AGENT_SIGNATURE_BYTES = 2048   /* the longest signature */
 };
@@ -45,6 +45,12 @@ typedef struct {
     uint32_t count;
 } key_agent_seconds;
 
+/* The comment that the key was added with: its first len bytes, at most 255; the rest is zero. Not ended by a zero byte, and may hold some. */
+typedef struct {
+    uint8_t bytes[255];
+    size_t len;
+} key_agent_comment;
+
 /* limited (has it a lifetime?) and confirm are 0 or 1; any other value is unsound. */
 typedef struct {
     uint64_t number;
@@ -54,6 +60,7 @@ typedef struct {
     uint8_t confirm;
     size_t blob_len;
     size_t fields_len;
+    key_agent_comment comment;
 } key_agent_entry;
 
 typedef struct {
@@ -165,8 +172,9 @@ key_agent_split_result key_agent_split(const uint8_t *bytes, size_t bytes_len);
 
 #ifdef __STDC_VERSION__
 #if __STDC_VERSION__ >= 201112L
-_Static_assert(sizeof(key_agent_entry) == 48 && offsetof(key_agent_entry, seconds) == 20 && offsetof(key_agent_entry, blob_len) == 32, "layout of an entry");
-_Static_assert(sizeof(key_agent_state) == 1432 && offsetof(key_agent_state, lock) == 384 && offsetof(key_agent_state, clock) == 1416 && offsetof(key_agent_state, next) == 1424, "layout of a state");
+_Static_assert(sizeof(key_agent_comment) == 264 && offsetof(key_agent_comment, len) == 256, "layout of a comment");
+_Static_assert(sizeof(key_agent_entry) == 312 && offsetof(key_agent_entry, seconds) == 20 && offsetof(key_agent_entry, blob_len) == 32 && offsetof(key_agent_entry, comment) == 48, "layout of an entry");
+_Static_assert(sizeof(key_agent_state) == 3544 && offsetof(key_agent_state, lock) == 2496 && offsetof(key_agent_state, clock) == 3528 && offsetof(key_agent_state, next) == 3536, "layout of a state");
 _Static_assert(sizeof(key_agent_answers) == 24 && offsetof(key_agent_answers, confirmation_number) == 8, "layout of answers");
 _Static_assert(sizeof(key_agent_outcome) == 32 && offsetof(key_agent_outcome, hash) == 2 && offsetof(key_agent_outcome, number) == 8, "layout of an outcome");
 _Static_assert(sizeof(key_agent_split_result) == 24 && offsetof(key_agent_split_result, from) == 8, "layout of a split");
