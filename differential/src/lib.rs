@@ -86,3 +86,24 @@ pub fn without_comments(line: &str) -> String {
     let all: Vec<u8> = items(&reply).iter().flat_map(|(b, _)| [string(b), string(b"")].concat()).collect();
     format!("reply {}", hex(&string(&[&reply[4..9], &all].concat())))
 }
+
+#[cfg(test)]
+mod tests {
+    use super::*;
+    #[test]
+    fn lists() {
+        let list = |items: &[(&str, &str)]| {
+            let all: Vec<u8> = items.iter().flat_map(|(b, c)| [string(b.as_bytes()), string(c.as_bytes())].concat()).collect();
+            string(&[&[12][..], &(items.len() as u32).to_be_bytes(), &all].concat())
+        };
+        let line = |f: Vec<u8>| format!("reply {}", hex(&f));
+        let full = list(&[("zz", "温室"), ("a", ""), ("ab", "c")]);
+        assert_eq!(items(&full), [(&b"zz"[..], "温室".as_bytes()), (b"a", b""), (b"ab", b"c")]);
+        assert_eq!(sorted(&full), list(&[("a", ""), ("ab", "c"), ("zz", "温室")]));
+        assert_eq!(without_comments(&line(full)), line(list(&[("zz", ""), ("a", ""), ("ab", "")])));
+        for other in ["reply 0000000105", "close", "ask gate 1", &line(list(&[])), &line(string(&[&[14][..], &string(b"sig")].concat()))] {
+            assert_eq!(without_comments(other), other);
+        }
+        assert!(items(&string(&[5])).is_empty() && sorted(&list(&[])) == list(&[]));
+    }
+}
