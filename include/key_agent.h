@@ -10,7 +10,7 @@
  *   - store, reply and state are written: they overlap neither each other nor payload, signature or the result, and nobody else reads or
  *     writes them while a call runs. So: one call at a time on one state. Payload and signature are only read, and may overlap;
  *   - state and store belong together: keep, copy and restore them as a pair;
- *   - the stack has room: a call takes up to 16 KB of it (measured on x86-64), a state by value 1.5 KB more.
+ *   - the stack has room: a call takes up to 16 KB of it (measured on x86-64), a state by value 3.5 KB more.
  *
  * Of what state and store hold nothing is asked: every bit pattern of both is covered by the proof, and one that is not sound is refused (3).
  * The padding of a state is not defined and not read, so states are not to be compared by memcmp.
@@ -30,7 +30,8 @@ enum {
     KEY_AGENT_STORE_BYTES = 32768,     /* the key store's exact length */
     KEY_AGENT_REPLY_BYTES = 10305,     /* the reply buffer's least length */
     KEY_AGENT_PAYLOAD_BYTES = 262144,  /* the longest payload */
-    KEY_AGENT_SIGNATURE_BYTES = 2048   /* the longest signature */
+    KEY_AGENT_SIGNATURE_BYTES = 2048,  /* the longest signature */
+    KEY_AGENT_COMMENT_BYTES = 255      /* the longest comment */
 };
 
 /* ---- State: kept by this side, read and written by the agent ---- */
@@ -45,9 +46,9 @@ typedef struct {
     uint32_t count;
 } key_agent_seconds;
 
-/* The comment that the key was added with: its first len bytes, at most 255; the rest is zero. Not ended by a zero byte, and may hold some. */
+/* The comment that the key was added with: its first len bytes; the rest is zero. Not ended by a zero byte, and may hold some. */
 typedef struct {
-    uint8_t bytes[255];
+    uint8_t bytes[KEY_AGENT_COMMENT_BYTES];
     size_t len;
 } key_agent_comment;
 
