@@ -7,12 +7,12 @@
 
 typedef struct {
     const char *type;
-    size_t blob, fields;
+    size_t blob, fields, comment;
 } kind;
 
-static const kind ED = {"ssh-ed25519", 51, 119}, P256 = {"ecdsa-sha2-nistp256", 104, 141}, P384 = {"ecdsa-sha2-nistp384", 136, 189},
-                  P521 = {"ecdsa-sha2-nistp521", 172, 242}, R2 = {"ssh-rsa", 279, 929}, R3 = {"ssh-rsa", 407, 1381}, R4 = {"ssh-rsa", 535, 1833},
-                  FULL = {"ssh-rsa", 1024, 3072}, LATE = {"ssh-rsa", 1023, 1};
+static const kind ED = {"ssh-ed25519", 51, 119, 10}, P256 = {"ecdsa-sha2-nistp256", 104, 141, 10}, P384 = {"ecdsa-sha2-nistp384", 136, 189, 10},
+                  P521 = {"ecdsa-sha2-nistp521", 172, 242, 10}, R2 = {"ssh-rsa", 279, 929, 10}, R3 = {"ssh-rsa", 407, 1381, 10},
+                  R4 = {"ssh-rsa", 535, 1833, 10}, FULL = {"ssh-rsa", 1024, 3072, 255}, LATE = {"ssh-rsa", 1023, 1, 0};
 
 static key_agent_state state;
 static uint8_t store[KEY_AGENT_STORE_BYTES];
@@ -27,7 +27,8 @@ static void hold(size_t i, kind k, int late) {
     memcpy(blob + 4, k.type, n);
     blob[k.blob - 1] = mark;
     memset(blob + 1024, mark, k.fields);
-    state.entries[i] = (key_agent_entry){.number = i + 1, .blob_len = k.blob, .fields_len = k.fields};
+    state.entries[i] = (key_agent_entry){.number = i + 1, .blob_len = k.blob, .fields_len = k.fields, .comment.len = k.comment};
+    memset(state.entries[i].comment.bytes, mark, k.comment);
     state.next = i + 2;
 }
 

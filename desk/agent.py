@@ -26,7 +26,7 @@ HERE = os.path.dirname(os.path.abspath(__file__))
 CORE = os.path.join(os.path.dirname(HERE), 'target', 'bin', 'desk')
 EMULATED = os.path.join(os.path.dirname(HERE), '.ci', 'program')
 LONGEST = 262144  # bytes of a payload
-ROOM = 8265  # bytes of the reply buffer
+ROOM = 10305  # bytes of the reply buffer
 SIGNATURE = 2048  # bytes of a lent signature
 
 MESSAGES = {
@@ -64,12 +64,12 @@ def reply_name(reply):
 
 def listed(reply):
     """The public blobs of a list reply."""
-    at, blobs = 9, []
+    at, strings = 9, []
     while at < len(reply):
         n = struct.unpack('>I', reply[at:at + 4])[0]
-        blobs.append(reply[at + 4:at + 4 + n])
-        at += 4 + n + 4  # and an empty comment
-    return blobs
+        strings.append(reply[at + 4:at + 4 + n])
+        at += 4 + n
+    return strings[::2]  # a comment stands behind each
 
 
 # --- What is written on the terminal

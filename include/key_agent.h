@@ -10,7 +10,7 @@
  *   - store, reply and state are written: they overlap neither each other nor payload, signature or the result, and nobody else reads or
  *     writes them while a call runs. So: one call at a time on one state. Payload and signature are only read, and may overlap;
  *   - state and store belong together: keep, copy and restore them as a pair;
- *   - the stack has room: a call takes up to 16 KB of it (measured on x86-64), a state by value 1.5 KB more.
+ *   - the stack has room: a call takes up to 16 KB of it (measured on x86-64), a state by value 3.5 KB more.
  *
  * Of what state and store hold nothing is asked: every bit pattern of both is covered by the proof, and one that is not sound is refused (3).
  * The padding of a state is not defined and not read, so states are not to be compared by memcmp.
@@ -28,9 +28,10 @@ extern "C" {
 
 enum {
     KEY_AGENT_STORE_BYTES = 32768,     /* the key store's exact length */
-    KEY_AGENT_REPLY_BYTES = 8265,      /* the reply buffer's least length */
+    KEY_AGENT_REPLY_BYTES = 10305,     /* the reply buffer's least length */
     KEY_AGENT_PAYLOAD_BYTES = 262144,  /* the longest payload */
-    KEY_AGENT_SIGNATURE_BYTES = 2048   /* the longest signature */
+    KEY_AGENT_SIGNATURE_BYTES = 2048,  /* the longest signature */
+    KEY_AGENT_COMMENT_BYTES = 255      /* the longest comment */
 };
 
 /* ---- State: kept by this side, read and written by the agent ---- */
@@ -45,6 +46,12 @@ typedef struct {
     uint32_t count;
 } key_agent_seconds;
 
+/* The comment that the key was added with: its first len bytes; the rest is zero. Not ended by a zero byte, and may hold some. */
+typedef struct {
+    uint8_t bytes[KEY_AGENT_COMMENT_BYTES];
+    size_t len;
+} key_agent_comment;
+
 /* limited (has it a lifetime?) and confirm are 0 or 1; any other value is unsound. */
 typedef struct {
     uint64_t number;
@@ -54,6 +61,7 @@ typedef struct {
     uint8_t confirm;
     size_t blob_len;
     size_t fields_len;
+    key_agent_comment comment;
 } key_agent_entry;
 
 typedef struct {
@@ -165,8 +173,9 @@ key_agent_split_result key_agent_split(const uint8_t *bytes, size_t bytes_len);
 
 #ifdef __STDC_VERSION__
 #if __STDC_VERSION__ >= 201112L
-_Static_assert(sizeof(key_agent_entry) == 48 && offsetof(key_agent_entry, seconds) == 20 && offsetof(key_agent_entry, blob_len) == 32, "layout of an entry");
-_Static_assert(sizeof(key_agent_state) == 1432 && offsetof(key_agent_state, lock) == 384 && offsetof(key_agent_state, clock) == 1416 && offsetof(key_agent_state, next) == 1424, "layout of a state");
+_Static_assert(sizeof(key_agent_comment) == 264 && offsetof(key_agent_comment, len) == 256, "layout of a comment");
+_Static_assert(sizeof(key_agent_entry) == 312 && offsetof(key_agent_entry, seconds) == 20 && offsetof(key_agent_entry, blob_len) == 32 && offsetof(key_agent_entry, comment) == 48, "layout of an entry");
+_Static_assert(sizeof(key_agent_state) == 3544 && offsetof(key_agent_state, lock) == 2496 && offsetof(key_agent_state, clock) == 3528 && offsetof(key_agent_state, next) == 3536, "layout of a state");
 _Static_assert(sizeof(key_agent_answers) == 24 && offsetof(key_agent_answers, confirmation_number) == 8, "layout of answers");
 _Static_assert(sizeof(key_agent_outcome) == 32 && offsetof(key_agent_outcome, hash) == 2 && offsetof(key_agent_outcome, number) == 8, "layout of an outcome");
 _Static_assert(sizeof(key_agent_split_result) == 24 && offsetof(key_agent_split_result, from) == 8, "layout of a split");

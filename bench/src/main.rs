@@ -17,7 +17,20 @@ fn key(i: u8) -> (Vec<u8>, Vec<u8>) {
     ([blob.clone(), s(&[i + 1; 32])].concat(), blob)
 }
 fn add(i: u8) -> Vec<u8> {
-    [vec![17], key(i).0, s(b"c")].concat()
+    [vec![17], key(i).0, s(b"technician")].concat()
+}
+/// What russh drops: the comments of a list; and its items in any order.
+fn without_comments(mut r: Vec<u8>) -> Vec<u8> {
+    if r[4] == 12 {
+        let comment = s(b"technician");
+        while let Some(at) = r.windows(comment.len()).position(|w| w == comment) {
+            r.splice(at..at + comment.len(), s(b""));
+        }
+        let n = r.len() as u32 - 4;
+        r[..4].copy_from_slice(&n.to_be_bytes());
+        r.sort();
+    }
+    r
 }
 /// The requests of a work: with 8 keys held.
 fn work(name: &str) -> Vec<Vec<u8>> {
@@ -142,7 +155,7 @@ impl Side {
     }
 }
 
-/// All sides give the same replies (lists as sets).
+/// All sides give the same replies, the core and the table to the last byte.
 fn agree() {
     for w in WORKS {
         let all: Vec<Vec<Vec<u8>>> = SIDES
@@ -153,16 +166,14 @@ fn agree() {
                     .iter()
                     .map(|p| {
                         side.serve(p);
-                        let mut r = side.reply();
-                        if r[4] == 12 {
-                            r.sort();
-                        }
-                        r
+                        side.reply()
                     })
                     .collect()
             })
             .collect();
-        assert!(all.iter().all(|r| r == &all[0]), "{w}: {all:?}");
+        assert!(all[1..4].iter().all(|r| r == &all[0]), "{w}: {all:?}");
+        let blank = |replies: &[Vec<u8>]| replies.iter().cloned().map(without_comments).collect::<Vec<_>>();
+        assert_eq!(blank(&all[0]), blank(&all[4]), "{w}");
     }
 }
 

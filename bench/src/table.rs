@@ -5,7 +5,7 @@ pub const STORE: usize = 32_768;
 const PLACE: usize = 4_096;
 const FIELDS: usize = 1_024;
 
-#[derive(Clone, Copy, Default, PartialEq)]
+#[derive(Clone, Copy)]
 pub struct Entry {
     number: u64,
     reading: u64,
@@ -14,7 +14,11 @@ pub struct Entry {
     confirm: bool,
     blob_len: usize,
     fields_len: usize,
+    comment: [u8; 255],
+    comment_len: usize,
 }
+const FREE: Entry =
+    Entry { number: 0, reading: 0, limited: false, seconds: 0, confirm: false, blob_len: 0, fields_len: 0, comment: [0; 255], comment_len: 0 };
 pub struct Table {
     entries: [Entry; 8],
     lock: [u8; 1024],
@@ -125,13 +129,16 @@ fn key(c: &mut Cursor<'_>) -> Option<[(usize, usize); 3]> {
 
 impl Table {
     pub fn new() -> Table {
-        Table { entries: [Entry::default(); 8], lock: [0; 1024], lock_len: 0, clock: 0, next: 1, store: Box::new([0; STORE]) }
+        Table { entries: [FREE; 8], lock: [0; 1024], lock_len: 0, clock: 0, next: 1, store: Box::new([0; STORE]) }
     }
     fn place(&self, i: usize) -> &[u8] {
         &self.store[i * PLACE..(i + 1) * PLACE]
     }
     fn blob(&self, i: usize) -> &[u8] {
         &self.place(i)[..self.entries[i].blob_len]
+    }
+    fn comment(&self, i: usize) -> &[u8] {
+        &self.entries[i].comment[..self.entries[i].comment_len]
     }
     pub fn is_sound(&self) -> bool {
         // over all bytes with no early exit, as the core does it: this is compiled to vector code, `all` is not (eleven times as long)
@@ -141,8 +148,12 @@ impl Table {
         }
         for (i, e) in self.entries.iter().enumerate() {
             let p = self.place(i);
+            if e.comment_len > 255 || !zero(&e.comment[e.comment_len..]) {
+                return false;
+            }
             if e.number == 0 {
-                if *e != Entry::default() || !zero(p) {
+                let sizes = e.seconds as usize | e.blob_len | e.fields_len | e.comment_len;
+                if e.reading != 0 || e.limited || e.confirm || sizes != 0 || !zero(p) {
                     return false;
                 }
                 continue;
@@ -161,7 +172,7 @@ impl Table {
         })
     }
     fn free(&mut self, i: usize) {
-        self.entries[i] = Entry::default();
+        self.entries[i] = FREE;
         self.store[i * PLACE..(i + 1) * PLACE].fill(0);
     }
     fn advance(&mut self, reading: u64) {
@@ -178,7 +189,7 @@ impl Table {
     }
 
     pub fn call(&mut self, payload: &[u8], reading: u64, a: Answers<'_>, out: &mut [u8]) -> Outcome {
-        if out.len() < 8265 {
+        if out.len() < 10_305 {
             return Refused(1);
         }
         if !self.is_sound() {
@@ -218,7 +229,7 @@ impl Table {
                 for i in 0..8 {
                     if self.entries[i].number != 0 {
                         at = put_string(out, at, self.blob(i));
-                        at = put_string(out, at, &[]);
+                        at = put_string(out, at, self.comment(i));
                     }
                 }
                 put(out, 0, &(at as u32 - 4).to_be_bytes());
@@ -293,7 +304,7 @@ impl Table {
     fn add(&mut self, mut c: Cursor<'_>, constrained: bool, a: Answers<'_>, out: &mut [u8]) -> Option<Outcome> {
         let parts = key(&mut c)?;
         let fields = (1, c.at);
-        std::str::from_utf8(c.string()?).ok()?;
+        let text = std::str::from_utf8(c.string()?).ok()?.as_bytes();
         let (mut limited, mut seconds, mut confirm) = (false, 0, false);
         while constrained && c.at < c.all.len() {
             c.at += 1;
@@ -308,7 +319,7 @@ impl Table {
         }
         let blob_len: usize = parts.iter().map(|p| p.1 - p.0).sum();
         let fields_len = fields.1 - fields.0;
-        if blob_len > 1024 || fields_len > 3072 || self.next == u64::MAX {
+        if blob_len > 1024 || fields_len > 3072 || text.len() > 255 || self.next == u64::MAX {
             return None;
         }
         let mut blob = [0; 1024];
@@ -326,7 +337,10 @@ impl Table {
         let p = &mut self.store[i * PLACE..(i + 1) * PLACE];
         p[..n].copy_from_slice(&blob[..n]);
         p[FIELDS..FIELDS + fields_len].copy_from_slice(&c.all[fields.0..fields.1]);
-        self.entries[i] = Entry { number: self.next, reading: self.clock, limited, seconds, confirm, blob_len: n, fields_len };
+        let mut comment = [0; 255];
+        put(&mut comment, 0, text);
+        let comment_len = text.len();
+        self.entries[i] = Entry { number: self.next, reading: self.clock, limited, seconds, confirm, blob_len: n, fields_len, comment, comment_len };
         self.next += 1;
         Some(said(out, true))
     }

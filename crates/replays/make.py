@@ -10,9 +10,9 @@ fresh agent and followed by a list.
 
 Each request is called first without an answer, then with one answer more for each question, until it lands. The rule below, written from document
 01 and not from the Rattle code, says which question must come (class, part, insertion number, hash) and how the request must land; what it says
-must be what russh answered, the signature too, which is made here from the key's type and the data. A list's items stand in place order; russh's
-come in any order. Gate and confirmation say yes. The key check says yes, but in the cases that 01 leaves to it, where it says what russh's library
-said.
+must be what russh answered, the signature too, which is made here from the key's type and the data. A list's items stand in place order, each with
+the comment of its add; russh's come in any order, and without. Gate and confirmation say yes. The key check says yes, but in the cases that 01
+leaves to it, where it says what russh's library said.
 
 Where russh answers otherwise it must be a key of a kind that is not 01's, or one of the 25 cases that 01 decides otherwise; the rest of such a session
 is left out.
@@ -102,8 +102,8 @@ def lifetime(b):
 
 
 class Entry:
-    def __init__(self, number, blob, due, confirm):
-        self.number, self.blob, self.due, self.confirm = number, blob, due, confirm
+    def __init__(self, number, blob, comment, due, confirm):
+        self.number, self.blob, self.comment, self.due, self.confirm = number, blob, comment, due, confirm
 
 
 class Gateway:
@@ -133,8 +133,8 @@ def rule(gateway, payload):
 
 def listing(gateway, _):
     yield from ()
-    blobs = [e.blob for e in gateway.places if e]
-    return b'\x0c' + struct.pack('>I', len(blobs)) + b''.join(string(b) + string(b'') for b in blobs)
+    held = [e for e in gateway.places if e]
+    return b'\x0c' + struct.pack('>I', len(held)) + b''.join(string(e.blob) + string(e.comment) for e in held)
 
 
 def add(gateway, payload):
@@ -145,13 +145,13 @@ def add(gateway, payload):
     except UnicodeDecodeError:
         raise Fault
     seconds, confirm = lifetime(payload[behind:]) if payload[0] == 25 else (None, False)
-    need(len(blob) <= 1024 and end - 1 <= 3072)
+    need(len(blob) <= 1024 and end - 1 <= 3072 and len(comment) <= 255)
     place = gateway.held(blob)
     if place is None:
         need(None in gateway.places)
         place = gateway.places.index(None)
     need((yield 'check', 1, end))
-    gateway.places[place] = Entry(gateway.next, blob, None if seconds is None else gateway.clock + 1000 * seconds, confirm)
+    gateway.places[place] = Entry(gateway.next, blob, comment, None if seconds is None else gateway.clock + 1000 * seconds, confirm)
     gateway.next += 1
     return SUCCESS
 
@@ -244,7 +244,7 @@ def say(text):
 
 def record(payload, clock, lent):
     *values, signature = lent.values()
-    records.append(b'\1' + struct.pack('>QBBBBQQIII', clock, *values, 8265, len(payload), len(signature)) + payload + signature)
+    records.append(b'\1' + struct.pack('>QBBBBQQIII', clock, *values, 10305, len(payload), len(signature)) + payload + signature)
 
 
 def serve(gateway, payload, clock, check):
@@ -265,15 +265,15 @@ def serve(gateway, payload, clock, check):
 
 
 def items(line):
-    """A line of the oracle, a list's items in the order of their bytes."""
+    """A line of the oracle; of a list the blobs, in the order of their bytes."""
     if line[14:16] != '0c':
         return line
     reply, at, found = bytes.fromhex(line[6:]), 9, []
     while at < len(reply):
-        end = string_at(reply, string_at(reply, at)[1])[1]
-        found.append(reply[at:end])
-        at = end
-    return reply[:9], sorted(found)
+        blob, at = string_at(reply, at)
+        _, at = string_at(reply, at)
+        found.append(blob)
+    return reply[4:9], sorted(found)
 
 
 KINDS = (b'ssh-ed25519', b'ssh-rsa', b'ecdsa-sha2-nistp256', b'ecdsa-sha2-nistp384', b'ecdsa-sha2-nistp521')

@@ -59,19 +59,51 @@ pub fn strings(mut b: &[u8], n: usize) -> (Vec<&[u8]>, &[u8]) {
     }
     (out, b)
 }
+/// The items of a list reply, blob and comment each; none of another reply.
+pub fn items(f: &[u8]) -> Vec<(&[u8], &[u8])> {
+    if f.get(4) != Some(&12) {
+        return Vec::new();
+    }
+    let (s, _) = strings(&f[9..], usize::MAX);
+    s.chunks(2).map(|c| (c[0], c[1])).collect()
+}
 /// A list reply with its items in the order of their bytes; other replies as they stand.
 pub fn sorted(f: &[u8]) -> Vec<u8> {
-    if f.get(4) != Some(&12) {
-        return f.to_vec();
+    let mut all: Vec<Vec<u8>> = items(f).iter().map(|(b, c)| [string(b), string(c)].concat()).collect();
+    all.sort();
+    if all.is_empty() {
+        f.to_vec()
+    } else {
+        [&f[..9], &all.concat()].concat()
     }
-    let (mut at, mut items) = (9, Vec::new());
-    while at < f.len() {
-        let from = at;
-        for _ in 0..2 {
-            at += 4 + u32::from_be_bytes(f[at..at + 4].try_into().unwrap()) as usize;
+}
+/// A line of answer, a list's with each comment empty, as the Rust has it; other lines as they stand.
+pub fn without_comments(line: &str) -> String {
+    if line.len() <= 24 || &line[14..16] != "0c" {
+        return line.to_string();
+    }
+    let reply = unhex(&line[6..]);
+    let all: Vec<u8> = items(&reply).iter().flat_map(|(b, _)| [string(b), string(b"")].concat()).collect();
+    format!("reply {}", hex(&string(&[&reply[4..9], &all].concat())))
+}
+
+#[cfg(test)]
+mod tests {
+    use super::*;
+    #[test]
+    fn lists() {
+        let list = |items: &[(&str, &str)]| {
+            let all: Vec<u8> = items.iter().flat_map(|(b, c)| [string(b.as_bytes()), string(c.as_bytes())].concat()).collect();
+            string(&[&[12][..], &(items.len() as u32).to_be_bytes(), &all].concat())
+        };
+        let line = |f: Vec<u8>| format!("reply {}", hex(&f));
+        let full = list(&[("zz", "温室"), ("a", ""), ("ab", "c")]);
+        assert_eq!(items(&full), [(&b"zz"[..], "温室".as_bytes()), (b"a", b""), (b"ab", b"c")]);
+        assert_eq!(sorted(&full), list(&[("a", ""), ("ab", "c"), ("zz", "温室")]));
+        assert_eq!(without_comments(&line(full)), line(list(&[("zz", ""), ("a", ""), ("ab", "")])));
+        for other in ["reply 0000000105", "close", "ask gate 1", &line(list(&[])), &line(string(&[&[14][..], &string(b"sig")].concat()))] {
+            assert_eq!(without_comments(other), other);
         }
-        items.push(&f[from..at]);
+        assert!(items(&string(&[5])).is_empty() && sorted(&list(&[])) == list(&[]));
     }
-    items.sort();
-    [&f[..9], &items.concat()].concat()
 }

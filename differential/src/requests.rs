@@ -75,8 +75,35 @@ pub fn any_key(r: &mut Random) -> Key {
         }
     }
 }
+/// A comment that is kept: UTF-8 of at most 255 bytes.
 pub fn comment(r: &mut Random) -> Vec<u8> {
-    string(r.pick(&["", "c", "technician", "Gewächshaus 3", "温室", "a\0b", "🌱"]).as_bytes())
+    string(text(r).as_bytes())
+}
+fn text(r: &mut Random) -> String {
+    match r.below(10) {
+        0..=5 => r.pick(&["", "", "c", "technician", "Gewächshaus 3", "温室", "a\0b", "🌱"]).to_string(),
+        6 => "x".repeat(255),
+        7 => r.pick(&["é", "温", "🌱"]).repeat(30 + r.below(33)),
+        8 => "é".repeat(127) + "x",
+        _ => (0..r.below(256)).map(|_| (r.next() % 128) as u8 as char).collect(),
+    }
+}
+/// One that is not UTF-8, of any length.
+pub fn no_text(r: &mut Random) -> Vec<u8> {
+    let bad = *r.pick(&[&b"\xff"[..], b"\xc0\x80", b"\xed\xa0\x80", b"\xf4\x90\x80\x80", b"\xe2\x82", b"\x80"]);
+    let front = if r.percent(50) { text(r) } else { "x".repeat(250 + r.below(8)) };
+    string(&[front.as_bytes(), bad].concat())
+}
+/// One of more than 255 bytes.
+fn long_text(r: &mut Random) -> Vec<u8> {
+    string(r.pick(&["x".repeat(256), "x".repeat(257), "é".repeat(128), "温".repeat(86), "\0".repeat(256), "x".repeat(5_000)]).as_bytes())
+}
+fn any_comment(r: &mut Random) -> Vec<u8> {
+    if r.percent(3) {
+        no_text(r)
+    } else {
+        comment(r)
+    }
 }
 /// Constraints of a 25.
 pub fn constraints(r: &mut Random) -> Vec<u8> {
@@ -131,10 +158,10 @@ pub fn whole(r: &mut Random, keys: &[Key]) -> Vec<u8> {
     match r.below(100) {
         0..=7 => trailing(r, vec![11]),
         8..=24 => {
-            let p = [vec![17], k.fields, comment(r)].concat();
+            let p = [vec![17], k.fields, any_comment(r)].concat();
             trailing(r, p)
         }
-        25..=41 => [vec![25], k.fields, comment(r), constraints(r)].concat(),
+        25..=41 => [vec![25], k.fields, any_comment(r), constraints(r)].concat(),
         42..=50 => {
             let p = [vec![18], string(&k.blob)].concat();
             trailing(r, p)
@@ -167,7 +194,7 @@ pub fn whole(r: &mut Random, keys: &[Key]) -> Vec<u8> {
 pub fn special(r: &mut Random, keys: &[Key]) -> Vec<u8> {
     let fs = |k: &Key| -> Vec<Vec<u8>> { crate::strings(&k.fields, 7).0.iter().map(|s| s.to_vec()).collect() };
     let put = |f: Vec<Vec<u8>>| [vec![17], f.iter().flat_map(|s| string(s)).collect(), string(b"c")].concat();
-    match r.below(16) {
+    match r.below(18) {
         0 => {
             let mut f = fs(&ed25519_key(r));
             let i = 1 + r.below(2);
@@ -262,11 +289,9 @@ pub fn special(r: &mut Random, keys: &[Key]) -> Vec<u8> {
             }
             put(f)
         }
-        _ => {
-            let k = r.pick(keys).clone();
-            let c = r.pick(&[&b"\xff"[..], b"\xc0\x80", b"\xed\xa0\x80", b"\xf4\x90\x80\x80", b"\xf4\x8f\xbf\xbf", b"\xe2\x82"]).to_vec();
-            [vec![17], k.fields, string(&c)].concat()
-        }
+        15 => [vec![17], r.pick(keys).fields.clone(), string(b"\xf4\x8f\xbf\xbf")].concat(),
+        16 => [vec![17], r.pick(keys).fields.clone(), long_text(r)].concat(),
+        _ => [vec![25], r.pick(keys).fields.clone(), long_text(r), constraints(r)].concat(),
     }
 }
 /// A damaged copy.

@@ -26,13 +26,13 @@ pub struct Stale {
 fn reply(body: Vec<u8>) -> String {
     format!("reply {}", hex(&sorted(&string(&body))))
 }
-/// The blob of a whole add request, and what is behind its comment.
-pub fn addition(payload: &[u8]) -> (Vec<u8>, &[u8]) {
+/// The blob and the comment of a whole add request, and what is behind them.
+pub fn addition(payload: &[u8]) -> (Vec<u8>, &[u8], &[u8]) {
     let kind = strings(&payload[1..], 1).0[0];
     let n = if kind == b"ssh-ed25519" { 3 } else if kind == b"ssh-rsa" { 7 } else { 4 };
     let (s, rest) = strings(&payload[1..], n + 1);
     let parts = if n == 7 { vec![s[0], s[2], s[1]] } else { s[..n - 1].to_vec() };
-    (parts.iter().flat_map(|p| string(p)).collect(), rest)
+    (parts.iter().flat_map(|p| string(p)).collect(), s[n], rest)
 }
 
 impl Stale {
@@ -96,7 +96,7 @@ impl Stale {
                 reply(b)
             }
             17 | 25 => {
-                let (blob, mut rest) = addition(&p);
+                let (blob, _, mut rest) = addition(&p);
                 let (mut confirm, mut due) = (false, None);
                 while p[0] == 25 && !rest.is_empty() {
                     if rest[0] == 2 {

@@ -1,6 +1,7 @@
 //! The core as a program that answers scripts: the host of a gateway, with connections, questions left open, a clock that is moved, the key
 //! check that ssh-key makes and the signer that the oracle `scripted` has.
-use crate::{ed25519, hex, sorted, string, strings, unhex};
+use crate::stale::addition;
+use crate::{ed25519, hex, items, sorted, string, strings, unhex};
 use key_agent::{split, Answers, Gateway, Hash, Numbered, Outcome, Question, Reply, Split};
 use std::collections::{HashMap, VecDeque};
 
@@ -84,6 +85,12 @@ pub struct World {
     pub sort: bool,
     /// Signer and key check are those of the oracle `standin`: the check always says yes.
     pub standin: bool,
+    /// Listed comments that were compared: all, empty ones, those with bytes beyond ASCII, those of 255 bytes.
+    pub listed: [u64; 4],
+    /// Each listed comment that is not the one of the last add of its blob that was answered with SUCCESS.
+    pub wrong: Vec<String>,
+    /// By blob, that comment.
+    comments: HashMap<Vec<u8>, Vec<u8>>,
     known: HashMap<[u8; 32], [u8; 32]>,
     conns: HashMap<String, Conn>,
     gate: VecDeque<char>,
@@ -110,6 +117,9 @@ impl World {
             hold: false,
             sort: false,
             standin: false,
+            listed: [0; 4],
+            wrong: Vec::new(),
+            comments: HashMap::new(),
             known: HashMap::new(),
             conns: HashMap::new(),
             gate: VecDeque::new(),
@@ -203,6 +213,22 @@ impl World {
         s.filter(|s| s.len() <= key_agent::MAX_SIGNATURE)
     }
 
+    /// The comments of a list beside those that the add requests had.
+    fn compare_comments(&mut self, payload: &[u8], reply: &[u8]) {
+        if matches!(payload.first(), Some(17 | 25)) && reply == [0, 0, 0, 1, 6] {
+            let (blob, comment, _) = addition(payload);
+            self.comments.insert(blob, comment.to_vec());
+        }
+        for (blob, comment) in items(reply) {
+            let kinds = [true, comment.is_empty(), !comment.is_ascii(), comment.len() == 255];
+            self.listed.iter_mut().zip(kinds).for_each(|(n, is)| *n += is as u64);
+            let sent = self.comments.get(blob);
+            if sent.is_none_or(|sent| sent != comment) {
+                self.wrong.push(format!("blob {}: comment {} listed, {} sent", hex(blob), hex(comment), sent.map_or("none".into(), |s| hex(s))));
+            }
+        }
+    }
+
     /// Calls until the request lands or a question stays open.
     fn step(&mut self, name: &str, mut r: Request) -> String {
         loop {
@@ -222,6 +248,9 @@ impl World {
                     } else {
                         format!("reply {}", hex(&reply))
                     };
+                    if outcome == Outcome::Reply {
+                        self.compare_comments(&r.payload, &reply);
+                    }
                     let clock = self.gateway.clock();
                     self.landings.push(Landing { conn: name.to_string(), request: r, clock, was_locked, full, outcome, reply });
                     return line;

@@ -180,11 +180,11 @@ fn main() -> io::Result<()> {
     std::thread::spawn(move || serve(listener, Panel));
     let q = [&[4][..], &[1; 64]].concat();
     let blob = [string(b"ecdsa-sha2-nistp256"), string(b"nistp256"), string(&q)].concat();
-    let add = [&[25][..], &blob, &string(&[1; 32]), &string(b"comment"), &[2]].concat();
+    let add = [&[25][..], &blob, &string(&[1; 32]), &string(b"night shift"), &[2]].concat();
     assert_eq!(request(&path, &add)?, [6]);
     let signed = request(&path, &[&[13][..], &string(&blob), &string(b"data"), &[0; 4]].concat())?;
     assert_eq!(signed[5..], [string(b"ecdsa-sha2-nistp256"), string(b"data")].concat());
-    assert_eq!(request(&path, &[11])?[..5], [12, 0, 0, 0, 1]);
+    assert_eq!(request(&path, &[11])?, [&[12, 0, 0, 0, 1][..], &string(&blob), &string(b"night shift")].concat());
     // a list waits at the gate, a lock lands: the list finds it
     let list = std::thread::spawn({
         let path = path.clone();

@@ -32,8 +32,10 @@ use std::sync::OnceLock;
 
 /// The length of the key store: eight places of 4,096 bytes.
 pub const STORE_LEN: usize = 32_768;
-/// The length of a reply buffer: the longest list of eight keys is 8,265 bytes.
-pub const REPLY_LEN: usize = 8_265;
+/// The length of a reply buffer: the longest list of eight keys is 10,305 bytes.
+pub const REPLY_LEN: usize = 10_305;
+/// The longest comment that is taken.
+pub const MAX_COMMENT: usize = 255;
 /// The longest payload that is taken.
 pub const MAX_PAYLOAD: usize = 262_144;
 /// The longest signature that is taken.
@@ -259,6 +261,8 @@ pub struct Key<'a> {
     pub lifetime: Option<u32>,
     /// Is a confirmation asked for before each signature?
     pub confirm: bool,
+    /// The comment that the key was added with; a list has it behind the blob.
+    pub comment: &'a str,
     /// The public blob.
     pub blob: &'a [u8],
     /// The key fields, the private ones too, as the add request had them, from the type string on.
@@ -273,6 +277,7 @@ impl fmt::Debug for Key<'_> {
             .field("added", &self.added)
             .field("lifetime", &self.lifetime)
             .field("confirm", &self.confirm)
+            .field("comment", &self.comment)
             .field("blob", &self.blob)
             .finish_non_exhaustive()
     }
@@ -362,6 +367,7 @@ impl Gateway {
             added: e.reading,
             lifetime: (e.limited == 1).then_some(e.seconds),
             confirm: e.confirm == 1,
+            comment: std::str::from_utf8(&e.comment.bytes[..e.comment.len]).expect("the core takes no other"),
             blob: &bytes[..e.blob_len],
             fields: &bytes[FIELDS_AT..FIELDS_AT + e.fields_len],
         })
@@ -416,9 +422,11 @@ impl fmt::Debug for Gateway {
 }
 
 impl Drop for Gateway {
-    // Keys and passphrase do not stay in memory that is handed back.
+    // Keys, comments and passphrase do not stay in memory that is handed back.
     fn drop(&mut self) {
-        for b in self.store.iter_mut().chain(self.state.lock.bytes.iter_mut()) {
+        let raw::State { entries, lock, .. } = &mut *self.state;
+        let comments = entries.iter_mut().flat_map(|e| &mut e.comment.bytes);
+        for b in self.store.iter_mut().chain(comments).chain(&mut lock.bytes) {
             // SAFETY: a reference to one byte. Volatile, so that the write is not left out.
             unsafe { std::ptr::write_volatile(b, 0) };
         }
@@ -455,13 +463,14 @@ fn self_test() {
     let mut g = Gateway::untested();
     let mut reply = Reply::new();
     let fresh = *g.state;
-    let free = raw::Entry { number: 0, reading: 0, limited: 0, seconds: 0, confirm: 0, blob_len: 0, fields_len: 0 };
+    let mut comment = raw::Comment { bytes: [0; 255], len: 0 };
+    let free = raw::Entry { number: 0, reading: 0, limited: 0, seconds: 0, confirm: 0, blob_len: 0, fields_len: 0, comment };
     let lock = raw::LockRecord { bytes: [0; 1024], len: 0 };
     assert_eq!(fresh, raw::State { entries: [free; 8], lock, clock: 0, next: 1 }, "layout of State: fresh");
     // a P-256 key with every field of its entry set: 25, lifetime 0x01020304, Confirm
     let blob = [string(b"ecdsa-sha2-nistp256"), string(b"nistp256"), string(&[4; 65])].concat();
     let fields = [blob.clone(), string(&[5; 32])].concat();
-    let add = [&[25][..], &fields, &string(b""), &[1, 1, 2, 3, 4, 2]].concat();
+    let add = [&[25][..], &fields, &string(b"shed"), &[1, 1, 2, 3, 4, 2]].concat();
     let mut a = Answers::default();
     assert_eq!(g.call(&add, 77, &a, &mut reply), Outcome::Asks(Question::Gate(Class::AddKeys)), "gate");
     a.gate = Some(true);
@@ -470,6 +479,8 @@ fn self_test() {
     assert_eq!(g.call(&add, 78, &a, &mut reply), Outcome::Reply, "add");
     assert_eq!(reply.bytes(), [0, 0, 0, 1, 6], "reply");
     let mut want = fresh;
+    comment.bytes[..4].copy_from_slice(b"shed");
+    comment.len = 4;
     want.entries[0] = raw::Entry {
         number: 1,
         reading: 78,
@@ -478,6 +489,7 @@ fn self_test() {
         confirm: 1,
         blob_len: blob.len(),
         fields_len: fields.len(),
+        comment,
     };
     want.clock = 78;
     want.next = 2;

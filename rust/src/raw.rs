@@ -1,5 +1,13 @@
 //! What the archive exports, as it stands in `crates/gateway` and `crates/table`. Nothing outside this crate sees it.
 
+/// A comment: its first `len` bytes; the rest is zero.
+#[repr(C)]
+#[derive(Clone, Copy, Debug, PartialEq, Eq)]
+pub struct Comment {
+    pub bytes: [u8; 255],
+    pub len: usize,
+}
+
 /// A place's entry; a free place is all zero. `limited` and `confirm` are 0 or 1; any other value is unsound.
 #[repr(C)]
 #[derive(Clone, Copy, Debug, PartialEq, Eq)]
@@ -11,6 +19,7 @@ pub struct Entry {
     pub confirm: u8,
     pub blob_len: usize,
     pub fields_len: usize,
+    pub comment: Comment,
 }
 
 #[repr(C)]
@@ -83,13 +92,14 @@ extern "C" {
 const _: () = {
     use std::mem::{align_of, offset_of, size_of};
     assert!(size_of::<usize>() == 8);
-    assert!(size_of::<Entry>() == 48 && align_of::<Entry>() == 8);
+    assert!(size_of::<Comment>() == 264 && offset_of!(Comment, len) == 256);
+    assert!(size_of::<Entry>() == 312 && align_of::<Entry>() == 8);
     assert!(offset_of!(Entry, number) == 0 && offset_of!(Entry, reading) == 8);
     assert!(offset_of!(Entry, limited) == 16 && offset_of!(Entry, seconds) == 20 && offset_of!(Entry, confirm) == 24);
-    assert!(offset_of!(Entry, blob_len) == 32 && offset_of!(Entry, fields_len) == 40);
+    assert!(offset_of!(Entry, blob_len) == 32 && offset_of!(Entry, fields_len) == 40 && offset_of!(Entry, comment) == 48);
     assert!(size_of::<LockRecord>() == 1032 && offset_of!(LockRecord, len) == 1024);
-    assert!(size_of::<State>() == 1432 && align_of::<State>() == 8);
-    assert!(offset_of!(State, lock) == 384 && offset_of!(State, clock) == 1416 && offset_of!(State, next) == 1424);
+    assert!(size_of::<State>() == 3544 && align_of::<State>() == 8);
+    assert!(offset_of!(State, lock) == 2496 && offset_of!(State, clock) == 3528 && offset_of!(State, next) == 3536);
     assert!(size_of::<FlatAnswers>() == 24 && offset_of!(FlatAnswers, confirmation_number) == 8);
     assert!(size_of::<FlatOutcome>() == 32 && offset_of!(FlatOutcome, hash) == 2 && offset_of!(FlatOutcome, number) == 8);
     assert!(offset_of!(FlatOutcome, from) == 16 && offset_of!(FlatOutcome, to) == 24);

@@ -27,7 +27,7 @@ fn a_flag_is_0_or_1() {
     let blob = [string(b"ecdsa-sha2-nistp256"), string(b"nistp256"), string(&[4; 65])].concat();
     let add = [&[17][..], &blob, &string(&[5; 32]), &string(b"")].concat();
     let sign = [&[13][..], &string(&blob), &string(b"data"), &[0, 0, 0, 0]].concat();
-    let (mut held, mut store, mut reply) = (unsafe { raw::key_agent_fresh() }, vec![0; 32_768], vec![7; 8_265]);
+    let (mut held, mut store, mut reply) = (unsafe { raw::key_agent_fresh() }, vec![0; 32_768], vec![7; 10_305]);
     assert_eq!(call(&mut held, &mut store, &add, &mut reply), (5, 0));
     reply.fill(7);
     // one held key, with neither flag; each flag of each place with each value

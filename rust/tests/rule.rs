@@ -104,7 +104,7 @@ fn lifetimes() {
     // a lower reading counts as the kept one
     assert_eq!(reply(&mut g, &added(1, &[1, 0, 0, 0, 2, 2]), 10), SUCCESS);
     let k = g.keys().next().unwrap();
-    assert_eq!((k.number, k.added, k.lifetime, k.confirm, k.fields), (2, 7_000, Some(2), true, &key(1).0[..]));
+    assert_eq!((k.number, k.added, k.lifetime, k.confirm, k.comment, k.fields), (2, 7_000, Some(2), true, "c", &key(1).0[..]));
     // lifetime 0 goes at the next call, a question too
     assert_eq!(reply(&mut g, &added(2, &[1, 0, 0, 0, 0]), 7_000), SUCCESS);
     assert_eq!(held(&g), 2);
@@ -164,7 +164,7 @@ fn the_longest_reply_and_what_stands_behind_a_shorter_one() {
         let n = vec![i; 1024 - 4 - 7 - 4 - 3 - 4];
         let number = string(&[1, 0, 1]);
         let fields = [string(b"ssh-rsa"), string(&n), number.clone(), number.clone(), number.clone(), number.clone(), number.clone()].concat();
-        assert_eq!(reply(&mut g, &[&[17][..], &fields, &string(b"")].concat(), 0), SUCCESS);
+        assert_eq!(reply(&mut g, &[&[17][..], &fields, &string(&[b'c'; MAX_COMMENT])].concat(), 0), SUCCESS);
     }
     let mut r = Reply::new();
     assert_eq!(g.call(&[11], 0, &yes(), &mut r), Outcome::Reply);

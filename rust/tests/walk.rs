@@ -8,7 +8,7 @@ mod raw;
 
 const CALLS: usize = 100_000;
 /// What the walk comes to on x86-64.
-const FOLDED: u64 = 0x35c0_7b77_00a8_c226;
+const FOLDED: u64 = 0xad89_c89f_5504_3bf3;
 
 struct Random(u64); // SplitMix64
 impl Random {
@@ -53,7 +53,8 @@ impl Fold {
     fn state(&mut self, s: &raw::State) {
         for e in &s.entries {
             let small = u64::from(e.limited) << 40 | u64::from(e.confirm) << 32 | u64::from(e.seconds);
-            self.words([e.number, e.reading, small, e.blob_len as u64, e.fields_len as u64]);
+            self.words([e.number, e.reading, small, e.blob_len as u64, e.fields_len as u64, e.comment.len as u64]);
+            self.bytes(&e.comment.bytes);
         }
         self.bytes(&s.lock.bytes);
         self.words([s.lock.len as u64, s.clock, s.next]);
@@ -82,12 +83,13 @@ fn key(i: u8) -> (Vec<u8>, Vec<u8>) {
 fn request(r: &mut Random) -> Vec<u8> {
     let (fields, blob) = key(1 + r.below(12) as u8);
     let constraints: &[u8] = [&[][..], &[2], &[1, 0, 0, 0, 9], &[1, 0, 1, 0, 0, 2], &[2, 1, 0, 0, 0, 0], &[3]][r.below(6)];
+    let comment = string([&b""[..], b"c", "温室".as_bytes(), b"\xff", &[b'x'; 255], &[b'x'; 256]][r.mostly(1, &[0, 2, 3, 4, 5])]);
     let data = vec![7; r.below(300)];
     let pass = vec![b'a'; [0, 1, 1, 1, 2, 1024, 1025][r.below(7)]];
     let mut p = match r.below(20) {
         0 | 1 => vec![11],
-        2..=5 => [vec![17], fields, string(b"c")].concat(),
-        6..=8 => [vec![25], fields, string(b""), constraints.to_vec()].concat(),
+        2..=5 => [vec![17], fields, comment].concat(),
+        6..=8 => [vec![25], fields, comment, constraints.to_vec()].concat(),
         9 | 10 => [vec![18], string(&blob)].concat(),
         11 if r.percent(20) => vec![19],
         11..=15 => [vec![13], string(&blob), string(&data), vec![0, 0, 0, r.below(8) as u8]].concat(),
@@ -110,7 +112,7 @@ fn request(r: &mut Random) -> Vec<u8> {
 fn one_walk() {
     let (mut r, mut f, mut kinds, mut sound, mut made) = (Random(1), Fold(0), [0; 12], [0; 2], 0);
     let (mut state, mut store) = (unsafe { raw::key_agent_fresh() }, vec![0; 32_768]);
-    let mut reply = vec![0; 9_000];
+    let mut reply = vec![0; 11_000];
     let (long, mut reading) = (vec![11; 262_145], 0u64);
     while made < CALLS {
         if r.percent(1) {
@@ -126,7 +128,7 @@ fn one_walk() {
         // as a host does: call, find out, call again
         for _ in 0..6 {
             reading = reading.wrapping_add(r.mostly(100, &[0, 5_000, u64::MAX]));
-            let (store_len, reply_len) = (r.mostly(32_768, &[32_768, 32_768, 32_767, 0]), r.mostly(8_265, &[9_000, 9_000, 8_264, 0]));
+            let (store_len, reply_len) = (r.mostly(32_768, &[32_768, 32_768, 32_767, 0]), r.mostly(10_305, &[11_000, 11_000, 10_304, 0]));
             // SAFETY: lengths up to those of the vectors, which do not overlap.
             let o = unsafe {
                 let (p, s) = (payload.as_ptr(), signature.as_ptr());
@@ -174,7 +176,7 @@ fn one_walk() {
             let (mut s, mut b) = (state, store.clone());
             let (e, n) = (r.below(8), r.below(1_024));
             let value = [r.next() >> r.below(64), r.below(5) as u64, u64::MAX][r.below(3)];
-            match r.below(10) {
+            match r.below(12) {
                 0 => s.entries[e].number = value,
                 1 => s.entries[e].reading = value,
                 2 => s.entries[e].limited ^= 1,
@@ -184,12 +186,14 @@ fn one_walk() {
                 6 => s.lock.len = value as usize,
                 7 => s.next = value,
                 8 => s.lock.bytes[n] = value as u8,
+                9 => s.entries[e].comment.len = value as usize,
+                10 => s.entries[e].comment.bytes[n % 255] = value as u8,
                 _ => b[4_096 * e + 4 * n] ^= value as u8,
             }
             // SAFETY: as above.
             let (is, o) = unsafe {
                 let is = raw::key_agent_is_sound(s, b.as_ptr(), b.len());
-                (is, raw::key_agent_call(&mut s, b.as_mut_ptr(), b.len(), [11].as_ptr(), 1, 0, a, [0].as_ptr(), 0, reply.as_mut_ptr(), 8_265))
+                (is, raw::key_agent_call(&mut s, b.as_mut_ptr(), b.len(), [11].as_ptr(), 1, 0, a, [0].as_ptr(), 0, reply.as_mut_ptr(), 10_305))
             };
             sound[is as usize] += 1;
             kinds[9] += !is as usize;

@@ -4,7 +4,7 @@
 use differential::requests::{any_key, comment, damaged, special, whole, Key};
 use differential::stale::{addition, Stale};
 use differential::world::{Landing, World};
-use differential::{hex, string, strings, unhex, Random};
+use differential::{hex, string, strings, unhex, without_comments, Random};
 use key_agent::{Gateway, Hash, Reply};
 use std::collections::BTreeMap;
 use std::io::{Read, Write};
@@ -210,6 +210,7 @@ struct Tally {
     held_replayed: u64,
     unlisted: Vec<String>,
     segments: (u64, u64),
+    comments: [u64; 4],
     accepted: u64,
     signed: u64,
 }
@@ -276,7 +277,11 @@ fn listed(standin: bool, p: &[u8], l: &Landing, ours: &str, rust: &str) -> Optio
                 b"ssh-ed25519" | b"ssh-rsa" => return None,
                 _ => return Some(("17, 25: a type that is none of 01's five", true)),
             }
-            let blob = addition(p).0;
+            let (blob, comment, _) = addition(p);
+            if comment.len() > 255 {
+                // with the other limits, before the key check
+                return l.request.check.is_none().then_some(("17, 25: a comment of more than 255 bytes", true));
+            }
             l.full.as_ref().is_some_and(|held| !held.contains(&blob)).then_some(("17, 25: a ninth key", true))
         }
         22 if ours == FAILURE && rust == SUCCESS => (strings(&p[1..], 1).0.first()?.len() > 1024).then_some(("22: a passphrase of more than 1,024 bytes", true)),
@@ -315,6 +320,15 @@ fn show(s: &Segment, upto: usize) -> String {
     text
 }
 
+/// A list that is the Rust's but for its comments.
+fn has_comments(ours: &str, rust: &str, t: &mut Tally) -> bool {
+    let is = ours != rust && without_comments(ours) == rust;
+    if is {
+        note(&mut t.kinds, "11: comments, which the Rust drops", "0b".into());
+    }
+    is
+}
+
 fn judge_serial(standin: bool, s: &Segment, ours: &[String], rust: &[String], landings: &[Landing], t: &mut Tally) {
     t.segments.0 += 1;
     let mut at = 0; // the landing of this request or list
@@ -332,7 +346,7 @@ fn judge_serial(standin: bool, s: &Segment, ours: &[String], rust: &[String], la
             t.compared += 1;
             *t.by_byte.entry(s.requests[i].first().map_or("empty".into(), |b| if [11, 13, 17, 18, 19, 22, 23, 25].contains(b) { b.to_string() } else { "other".into() })).or_default() += 1;
         }
-        if ours[k] == rust[k] {
+        if has_comments(&ours[k], &rust[k], t) || ours[k] == rust[k] {
             if ours[k].len() > 16 && &ours[k][14..16] == "0e" {
                 t.signed += 1;
                 let mine = landings[begun[i]].request.hash.expect("a signature was asked for");
@@ -368,6 +382,14 @@ fn judge_serial(standin: bool, s: &Segment, ours: &[String], rust: &[String], la
                 return;
             }
         }
+    }
+}
+
+/// What the host found of the comments since the script began.
+fn judge_comments(s: &Segment, w: &mut World, t: &mut Tally) {
+    t.comments.iter_mut().zip(std::mem::take(&mut w.listed)).for_each(|(n, m)| *n += m);
+    for wrong in w.wrong.drain(..) {
+        t.unlisted.push(format!("{wrong}\nscript:\n{}", show(s, usize::MAX)));
     }
 }
 
@@ -434,7 +456,7 @@ fn judge_crossing(s: &Segment, ours: &[String], rust: &[String], predicted: &[St
             _ => None,
         });
         let i = i.clone().nth(nth).expect("its request");
-        if mine[i] == theirs[i] {
+        if has_comments(&mine[i], &theirs[i], t) || mine[i] == theirs[i] {
             if l.request.confirmations > 1 {
                 t.asked_again += 1;
             }
@@ -505,6 +527,7 @@ fn main() {
             assert_eq!(ours.len(), s.outs.len());
             let theirs = &rust[at..at + ours.len()];
             at += ours.len();
+            judge_comments(s, &mut w, &mut t);
             if s.crossing {
                 let predicted: Vec<String> = s.lines.iter().filter_map(|l| stale.line(l)).collect();
                 assert_eq!(w.open(), 0, "all have landed");
@@ -522,6 +545,7 @@ fn main() {
                     }
                     held.line(l);
                 }
+                judge_comments(s, &mut held, &mut t);
                 match replay(&held.landings, held.gateway.clone(), held.clock) {
                     Ok(n) => t.held_replayed += n,
                     Err(e) => t.unlisted.push(format!("demand 3, all questions held: {e}\nscript:\n{}", show(s, usize::MAX))),
@@ -565,6 +589,8 @@ fn main() {
     }
     say(format!("  replaced while its confirmation was open, asked again here and not by the Rust, and the same end: {}", t.asked_again), &mut text);
     say(format!("  landings replayed one at a time on the core: {} (check and signature answered at once), {} (all questions held)", t.replayed, t.held_replayed), &mut text);
+    let [all, empty, beyond, longest] = t.comments;
+    say(format!("comments in lists of the core, compared with what the adds carried: {all}; {empty} empty, {beyond} beyond ASCII, {longest} of 255 bytes"), &mut text);
     say(format!("unlisted differences: {}", t.unlisted.len()), &mut text);
     for u in &t.unlisted {
         say(format!("-- UNLISTED\n{u}"), &mut text);

@@ -1,5 +1,5 @@
 //! The core as a program that answers the oracle's scripts: standard input to standard output. SORT=1 sorts lists, INTERACTIVE=1 writes each
-//! line at once. The `client` commands and `check` are not among its commands.
+//! line at once. The `client` commands and `check` are not among its commands. Fails where a list has another comment than was sent.
 use differential::world::World;
 use std::io::{BufRead, Write};
 
@@ -12,6 +12,7 @@ fn main() {
         for answer in w.line(&line.unwrap()) {
             writeln!(out, "{answer}").unwrap();
         }
+        assert!(w.wrong.is_empty(), "{:?}", w.wrong);
         w.landings.clear();
         if interactive {
             out.flush().unwrap();
