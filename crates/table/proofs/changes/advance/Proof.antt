@@ -28,9 +28,10 @@ last-requires : tie.Need-last-requires Inv-loop μ-loop
 last-requires c κs =
     let to = c .before .before .start-of2 in
     let from = c .before .before .before .start-of in
-    let loop = c .before .before .before .before .before .loop in
-    let l = c .before .before .before .before .before .before .before .later in
-    let st = c .before .before .before .before .before .before .before .before .before .before in
+    let turn = c .before .before .before .before .before in
+    let loop = turn .loop in
+    let l = turn .before .before .later in
+    let st = turn .before .before .before .before .before in
     let s = st .args .state in
     let x = st .args .store .now in
     let n : length (view (s .entries) x) ≡ 8 = view-eight s x (st .pre) in
@@ -42,11 +43,13 @@ loop-again : tie.Need-loop-again Inv-loop μ-loop
 loop-again c =
     let last = c .before .before .last in
     let to = c .before .before .before .before .before .start-of2 in
-    let from = c .before .before .before .before .before .before .start-of in
-    let more = c .before .before .before .before .before .before .before .loop-test .taken in
-    let loop = c .before .before .before .before .before .before .before .before .loop in
-    let l = c .before .before .before .before .before .before .before .before .before .before .later in
-    let st = c .before .before .before .before .before .before .before .before .before .before .before .before .before in
+    let begun = c .before .before .before .before .before .before in
+    let from = begun .start-of in
+    let more = begun .before .loop-test .taken in
+    let turn = begun .before .before in
+    let loop = turn .loop in
+    let l = turn .before .before .later in
+    let st = turn .before .before .before .before .before in
     let s = st .args .state in
     let x = st .args .store .now in
     let n : length (view (s .entries) x) ≡ 8 = view-eight s x (st .pre) in
@@ -56,13 +59,17 @@ loop-again c =
     (omega arith, writing-size _ _ _ _ _ w (swept-length _ _ _ ∙ n), w)
 
 same-length : tie.Need-same-length Inv-loop μ-loop
-same-length c = c .before .before .loop .inv .1 ∙ sym (c .before .before .before .before .before .before .before .pre .store-size)
+same-length c =
+    let turn = c .before .before in
+    let st = turn .before .before .before .before .before in
+    turn .loop .inv .1 ∙ sym (st .pre .store-size)
 
 returns : tie.Need-returns Inv-loop μ-loop
 returns c =
-    let st = c .before .before .before .before .before .before .before in
-    let l = c .before .before .before .before .later in
-    let loop = c .before .before .loop in
+    let turn = c .before .before in
+    let st = turn .before .before .before .before .before in
+    let l = turn .before .before .later in
+    let loop = turn .loop in
     sweep-end (st .args .state) (st .args .store .now) (st .pre) (st .args .reading .count) (l .result) (l .ensures) (loop .i) (loop .es) (loop .store) (omega arith) (loop .inv .2)
 
 pub advance-spec : {M : Type 1} → statement M

@@ -19,9 +19,10 @@ room c κs = rw (length-take-le fieldsAt (c .before .before .before .before .arg
 returns : tie.Need-returns
 unfolding heldBytes
 returns c =
-    let st = c .before .before .before .before .before .before .before .before .before .before .before in
+    let at-blob = c .before .before .before .before .before .before in
+    let st = at-blob .before .before .before .before .before in
     let p = st .args .p .now in
-    let x = c .before .before .before .before .before .before .pad in
+    let x = at-blob .pad in
     let y = c .before .before .pad2 in
     let h : length (take fieldsAt p) ≡ fieldsAt = length-take-le fieldsAt p (omega arith) in
     let l : length (x .last .0) ≡ fieldsAt = x .kept .0 ∙ h in
