@@ -1,4 +1,4 @@
--- What countIn place adds to a list.
+-- What one place adds to a list.
 use Prim.Native.Nat.{ℕ}
 use mathlib.Core.Option.{none, some}
 use mathlib.Core.List.{List, []}
