@@ -28,7 +28,7 @@ mod raw;
 
 use std::fmt;
 use std::ops::Range;
-use std::sync::OnceLock;
+use std::sync::Once;
 
 /// The length of the key store: eight places of 4,096 bytes.
 pub const STORE_LEN: usize = 32_768;
@@ -295,8 +295,8 @@ impl Gateway {
     /// No keys, open, clock at 0. The first gateway of a program also tests that the archive and this crate agree on layout and numbers, and
     /// panics if they do not.
     pub fn new() -> Gateway {
-        static TESTED: OnceLock<()> = OnceLock::new();
-        TESTED.get_or_init(self_test);
+        static TESTED: Once = Once::new();
+        TESTED.call_once(self_test);
         Gateway::untested()
     }
 
