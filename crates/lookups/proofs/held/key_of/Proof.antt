@@ -1,68 +1,66 @@
+-- The definition goes by the same test and search; the place that is found holds the key. Assumes nothing.
 use borrow.Author.Needs.{needs}
+use borrow.Author.Tests.{not-true, not-false}
+use mathlib.Core.Path.{sym, _∙_}
+use Rattle.table.proofs.ArrayLaws.{eight-of, record-of}
+use Rattle.lookups.proofs.ToldLaws.{sound-told, key-unsound, key-absent, key-found, numbered-at, place-within}
 use Rattle.lookups.proofs.held.key_of.Statement.{statement}
 use Rattle.lookups.proofs.held.key_of.Tie as tie
-use Rattle.lookups.proofs.held.key_of.Reads as reads
-use Rattle.lookups.proofs.held.key_of.Lts as lts
-use Rattle.lookups.proofs.held.find_number.Reads as find-number-reads
-use Rattle.lookups.proofs.held.told_at.Reads as told-at-reads
-use Rattle.lookups.proofs.held.untold.Reads as untold-reads
-use Rattle.table.proofs.soundness.is_sound.Reads as is-sound-reads
 
--- src/held.rt:115:9
-is-sound-requires : tie.Need-is-sound-requires
-is-sound-requires c κs = search needs
-
--- src/held.rt:116:9
-untold-requires : tie.Need-untold-requires
-untold-requires c κs = search needs
-
--- src/held.rt:116:9
--- untold=0 if1=1 is-sound=2 shared-slice-known=3 st=4
 returns : tie.Need-returns
-returns c = ?
+returns c =
+    let tested = c .before in
+    let st = tested .before .before .before in
+    c .untold .ensures ∙ key-unsound (st .args .state) (st .args .store .now) (st .args .number) (sym (tested .before .is-sound .ensures) ∙ not-true _ (tested .if1 .taken))
 
--- src/held.rt:118:11
-find-number-requires : tie.Need-find-number-requires
-find-number-requires c κs = search needs
-
--- src/held.rt:119:19
-enum-known-i : tie.Need-enum-known-i
-enum-known-i c = search needs
-
--- src/held.rt:119:25
--- known-told=0 i=1 match=2 find-number=3 if1=4 is-sound=5 shared-slice-known=6 st=7
 told-at-requires : tie.Need-told-at-requires
-told-at-requires c κs = ?
+told-at-requires c κs =
+    let place = c .before in
+    let search = place .before .before in
+    let tested = search .before in
+    let st = tested .before .before .before in
+    let s = st .args .state in
+    let x = st .args .store .now in
+    let eight = eight-of s _ (st .good .0) in (
+      place-within s x (st .args .number) _ eight (sym (search .find-number .ensures x) ∙ place .i .given .1),
+      sound-told s x _ eight (record-of s _ (st .good .0)) (tested .if1 .left) (tested .before .is-sound .ensures),
+    )
 
--- src/held.rt:120:27
-enum-told : tie.Need-enum-told
-enum-told c = search needs
-
--- src/held.rt:120:27
-untold-requires-2 : tie.Need-untold-requires-2
-untold-requires-2 c κs = search needs
-
--- src/held.rt:112:1
--- told-at=0 known-told=1 i=2 match=3 find-number=4 if1=5 is-sound=6 shared-slice-known=7 st=8
 returns-2 : tie.Need-returns-2
-returns-2 c = ?
+returns-2 c =
+    let place = c .before .before in
+    let search = place .before .before in
+    let tested = search .before in
+    let st = tested .before .before .before in
+    let s = st .args .state in
+    let x = st .args .store .now in
+    let n = st .args .number in
+    let at = sym (search .find-number .ensures x) ∙ place .i .given .1 in
+    let k = numbered-at s x n _ at in
+    c .told-at .ensures (k .key) (k .there) ∙ key-found s x n (sym (tested .before .is-sound .ensures) ∙ not-false _ (tested .if1 .left)) _ (k .key) at (k .there)
 
--- src/held.rt:112:1
--- untold2=0 enum-told=1 match=2 find-number=3 if1=4 is-sound=5 shared-slice-known=6 st=7
 returns-3 : tie.Need-returns-3
-returns-3 c = ?
+returns-3 c =
+    let absent = c .before in
+    let search = absent .before .before in
+    let tested = search .before in
+    let st = tested .before .before .before in
+    let s = st .args .state in
+    let x = st .args .store .now in
+    c .untold2 .ensures
+    ∙ key-absent s x (st .args .number) (sym (tested .before .is-sound .ensures) ∙ not-false _ (tested .if1 .left)) (sym (search .find-number .ensures x) ∙ absent .enum-told .given .1)
 
 pub key-of-spec : {M : Type 1} → statement M
 key-of-spec =
     tie.close
     (tie.spec
-    is-sound-requires
-    untold-requires
+    (λ c κs. search needs)
+    (λ c κs. search needs)
     returns
-    find-number-requires
-    enum-known-i
+    (λ c κs. search needs)
+    (λ c. search needs)
     told-at-requires
-    enum-told
-    untold-requires-2
+    (λ c. search needs)
+    (λ c κs. search needs)
     returns-2
     returns-3)
