@@ -1,7 +1,7 @@
 //! What the panel knows and what its user has selected: lines in, key presses in, lines out. No clock, no terminal, no socket.
 use crate::keys::Press;
 use crate::view::sentence;
-use crate::words::{Event, Key, Question};
+use crate::words::{answer_line, Event, Key, Question};
 use std::collections::{BTreeMap, VecDeque};
 use std::time::Duration;
 
@@ -64,7 +64,7 @@ pub struct Model {
     pub selected: Option<Selected>,
     typed: Option<(u64, Duration)>,
     block: Option<Block>,
-    settled: bool,
+    blocks: u64,
     notes: VecDeque<Note>,
     bell: bool,
 }
@@ -97,7 +97,7 @@ impl Model {
             self.left_out = self.left_out.saturating_add(1);
             return;
         }
-        self.questions.insert(number, Open { question, came: now, older: !self.settled, sent: None });
+        self.questions.insert(number, Open { question, came: now, older: self.blocks == 0, sent: None });
         self.bell = true;
     }
 
@@ -131,7 +131,7 @@ impl Model {
             self.locked = Some(block.locked);
             self.keys = block.keys;
             self.told = now;
-            self.settled = true;
+            self.blocks += 1;
         }
     }
 
@@ -140,9 +140,9 @@ impl Model {
         self.locked != Some(false)
     }
 
-    /// Has the agent told its state?
-    pub fn is_settled(&self) -> bool {
-        self.settled
+    /// How often the agent has told its state.
+    pub fn blocks(&self) -> u64 {
+        self.blocks
     }
 
     /// A key press of the user.
@@ -203,13 +203,13 @@ impl Model {
         };
         self.selected = None;
         self.questions.get_mut(&number)?.sent = Some(yes);
-        Some(Deed::Say(format!("{number} {}", if yes { 'y' } else { 'n' })))
+        Some(Deed::Say(answer_line(number, yes)))
     }
 
     /// The screen now shows this question as selected, or none.
     pub fn shown(&mut self, number: Option<u64>) {
         if let Some(selected) = &mut self.selected {
-            selected.seen = number == Some(selected.number);
+            selected.seen |= number == Some(selected.number);
         }
     }
 
@@ -218,15 +218,18 @@ impl Model {
         self.typed.map(|(number, _)| number)
     }
 
+    /// Shows this for a moment; what is shown already stays longer.
     pub fn note(&mut self, text: String, now: Duration) {
+        self.notes.retain(|n| n.text != text);
         if self.notes.len() == MOST_NOTES {
             self.notes.pop_front();
         }
         self.notes.push_back(Note { until: now + NOTE, text });
     }
 
+    /// The newest first.
     pub fn notes(&self) -> impl Iterator<Item = &str> {
-        self.notes.iter().map(|n| n.text.as_str())
+        self.notes.iter().rev().map(|n| n.text.as_str())
     }
 
     /// Time has passed.
@@ -289,7 +292,7 @@ mod tests {
     fn nothing_is_selected_of_itself() {
         let mut m = asks(&[1]);
         assert_eq!(press(&mut m, &[Press::Yes, Press::No]), []);
-        assert_eq!(m.notes().count(), 2);
+        assert_eq!(m.notes().count(), 1);
     }
 
     #[test]
@@ -385,9 +388,9 @@ mod tests {
     #[test]
     fn keys_come_with_the_end_of_their_block() {
         let mut m = hearing(&["lock open", "key 1 SHA256:a left - confirm no comment x"]);
-        assert!(m.keys.is_empty() && m.hides() && !m.is_settled());
+        assert!(m.keys.is_empty() && m.hides() && m.blocks() == 0);
         hear(&mut m, &["end"]);
-        assert!(m.keys.len() == 1 && !m.hides() && m.is_settled());
+        assert!(m.keys.len() == 1 && !m.hides() && m.blocks() == 1);
         hear(&mut m, &["lock open", "key 2 SHA256:b left 5 confirm yes comment y", "key 3 SHA256:c left - confirm no comment z", "end"]);
         assert_eq!(m.keys.iter().map(|k| k.number).collect::<Vec<_>>(), [2, 3]);
     }
@@ -408,7 +411,7 @@ mod tests {
     fn nothing_grows_without_bound() {
         let mut m = hearing(&["lock open"]);
         for n in 0..3 * MOST_QUESTIONS {
-            hear(&mut m, &[&format!("ask {n} conn 1 LIST gate RequestKeys"), &format!("key {n} SHA256:a left - confirm no comment x"), "what", "error e"]);
+            hear(&mut m, &[&format!("ask {n} conn 1 LIST gate RequestKeys"), &format!("key {n} SHA256:a left - confirm no comment x"), "what", &format!("error {n}")]);
         }
         hear(&mut m, &["end"]);
         assert_eq!((m.questions.len(), m.left_out, m.keys.len(), m.notes().count()), (MOST_QUESTIONS, 2 * MOST_QUESTIONS, MOST_KEYS, MOST_NOTES));

@@ -217,8 +217,26 @@ pub fn sentence(event: &Event) -> Option<String> {
     }
 }
 
-/// An open question in a sentence.
-pub fn question_sentence(m: &Model, q: &Question) -> String {
+/// Hears a line, and says what came of it in sentences. Questions that were open before are told with the first block.
+pub fn tell(m: &mut Model, event: Event, now: Duration) -> Vec<String> {
+    let blocks = m.blocks();
+    let mut lines: Vec<String> = sentence(&event).into_iter().collect();
+    if let Event::Ask(q) = &event {
+        if blocks > 0 {
+            lines.push(question_sentence(m, q));
+        }
+    }
+    m.hear(event, now);
+    if m.blocks() > blocks {
+        lines.extend(state_sentences(m, now));
+        if blocks == 0 {
+            lines.extend(question_sentences(m));
+        }
+    }
+    lines
+}
+
+fn question_sentence(m: &Model, q: &Question) -> String {
     let key = of_key(m, q).map_or(String::new(), |(fingerprint, comment)| format!(", key {fingerprint} comment {comment}"));
     format!("question {}: {}, {}{key}", q.number, what(q), who(q))
 }
@@ -331,7 +349,7 @@ mod tests {
         for n in 1..=50 {
             m.hear(read(Some(&format!("ask {n} conn {n} SIGN gate Sign uid 1 pid 2 program p key SHA256:abc comment {}", "c".repeat(250)))), NOW);
         }
-        for height in SMALLEST.0..60 {
+        for height in [SMALLEST.0, 12, 13, 24, 60] {
             m.selected = None;
             for n in 1..=50 {
                 m.press(Press::Down, NOW);
@@ -372,14 +390,23 @@ mod tests {
         assert_eq!(said("answered 3 n timeout"), "question 3: no, its time was over");
         assert_eq!(said("gone 3"), "question 3: nobody waits for it any more");
         assert_eq!(said("error question 3 is not open"), "the agent says: question 3 is not open");
-        let m = hearing(&["lock open", KEY, "end", SIGN, LOCK]);
-        assert_eq!(state_sentences(&m, NOW), ["the agent is open", "key 1: SHA256:abc, 1:05 left, confirm, comment night shift"]);
-        assert_eq!(
-            question_sentences(&m),
-            [
-                "question 3: SIGN, confirm key 1, uid 1000, pid 42, program ssh, connection 7, key SHA256:abc comment night shift",
-                "question 4: LOCK, gate Lock, uid 1000, pid 43, program ssh-add, connection 8",
-            ]
-        );
+    }
+
+    #[test]
+    fn telling() {
+        let mut m = Model::default();
+        let mut told = Vec::new();
+        for line in ["end", SIGN, "lock open", KEY, "end", LOCK, "gone 3", "lock locked", "end", "end"] {
+            told.extend(tell(&mut m, read(Some(line)), NOW));
+        }
+        let want = [
+            "the agent is open",
+            "key 1: SHA256:abc, 1:05 left, confirm, comment night shift",
+            "question 3: SIGN, confirm key 1, uid 1000, pid 42, program ssh, connection 7, key SHA256:abc comment night shift",
+            "question 4: LOCK, gate Lock, uid 1000, pid 43, program ssh-add, connection 8",
+            "question 3: nobody waits for it any more",
+            "the agent is locked",
+        ];
+        assert_eq!(told, want);
     }
 }

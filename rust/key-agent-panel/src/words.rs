@@ -205,6 +205,17 @@ pub fn said(word: &str) -> Option<bool> {
     }
 }
 
+/// The line to send for an answer that was typed, `NUMBER y` or `NUMBER n`.
+pub fn answer(line: &str) -> Option<String> {
+    let mut words = line.split_whitespace();
+    let (number, yes) = (number(words.next()?)?, said(words.next()?)?);
+    words.next().is_none().then(|| answer_line(number, yes))
+}
+
+pub fn answer_line(number: u64, yes: bool) -> String {
+    format!("{number} {}", if yes { 'y' } else { 'n' })
+}
+
 fn known(word: &str) -> Option<String> {
     (word != "-").then(|| cut(word, LONGEST_WORD))
 }
@@ -287,6 +298,14 @@ mod tests {
             assert_eq!(read(line), Event::Unknown, "{line:?}");
         }
         assert_eq!(super::read(None), Event::Unknown);
+    }
+
+    #[test]
+    fn typed_answers() {
+        assert_eq!([answer("3 y"), answer(" 04  no ")], [Some("3 y".into()), Some("4 n".into())]);
+        for line in ["", "3", "y", "y 3", "3 y 4", "3 maybe", "-3 y", "3y", "1111111111111111111 y"] {
+            assert_eq!(answer(line), None, "{line:?}");
+        }
     }
 
     #[test]
