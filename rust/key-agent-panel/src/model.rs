@@ -182,7 +182,7 @@ impl Model {
             (true, Some(at)) => numbers.find(|&n| n > at),
             (true, None) => numbers.next(),
             (false, Some(at)) => numbers.take_while(|&n| n < at).last(),
-            (false, None) => numbers.last(),
+            (false, None) => numbers.next_back(),
         };
         if let Some(number) = next {
             self.selected = Some(Selected { number, seen: false });
@@ -411,7 +411,8 @@ mod tests {
     fn nothing_grows_without_bound() {
         let mut m = hearing(&["lock open"]);
         for n in 0..3 * MOST_QUESTIONS {
-            hear(&mut m, &[&format!("ask {n} conn 1 LIST gate RequestKeys"), &format!("key {n} SHA256:a left - confirm no comment x"), "what", &format!("error {n}")]);
+            hear(&mut m, &[&format!("ask {n} conn 1 LIST gate RequestKeys"), &format!("key {n} SHA256:a left - confirm no comment x")]);
+            hear(&mut m, &["what", &format!("error {n}")]);
         }
         hear(&mut m, &["end"]);
         assert_eq!((m.questions.len(), m.left_out, m.keys.len(), m.notes().count()), (MOST_QUESTIONS, 2 * MOST_QUESTIONS, MOST_KEYS, MOST_NOTES));

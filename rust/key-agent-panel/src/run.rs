@@ -266,7 +266,7 @@ fn not_stopped_by_reading() -> nix::Result<()> {
 fn say_away(watch: &Watch<'_>, said: String) -> Result<String, String> {
     let note = watch.model.notes().next().filter(|_| watch.link.is_none()).unwrap_or("").to_string();
     if !note.is_empty() && said.is_empty() {
-        print(&[note.clone()])?;
+        print(std::slice::from_ref(&note))?;
     }
     Ok(note)
 }

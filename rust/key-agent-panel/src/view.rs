@@ -51,7 +51,7 @@ pub fn screen(m: &Model, now: Duration, height: usize, width: usize) -> Screen {
     for r in &mut rows {
         r.text = cut(r.text.trim_end(), width);
     }
-    let selected = at.filter(|i| shown.contains(i)).and_then(|_| m.selected).map(|s| s.number);
+    let selected = at.filter(|i| shown.contains(i)).and(m.selected).map(|s| s.number);
     Screen { rows, selected }
 }
 
@@ -373,7 +373,7 @@ mod tests {
 
     #[test]
     fn rows_are_cut_between_characters() {
-        let m = hearing(&["lock open", "key 1 SHA256:a left - confirm no comment 温室温室温室温室温室温室温室温室温室温室", "end"]);
+        let m = hearing(&["lock open", "key 1 SHA256:a left - confirm no comment 温室温室温室温室温室", "end"]);
         assert!(texts(&m, NOW, 24, 36).join("\n").contains("温"));
     }
 

@@ -280,7 +280,8 @@ mod tests {
         assert_eq!(read("lock open"), Event::Lock(false));
         assert_eq!(read("lock locked"), Event::Lock(true));
         assert_eq!(read("end"), Event::End);
-        let key = |left, confirm, comment: &str| Event::Key(Key { number: 1, fingerprint: "SHA256:a".into(), left, confirm, comment: comment.into() });
+        let fingerprint = || "SHA256:a".to_string();
+        let key = |left, confirm, comment: &str| Event::Key(Key { number: 1, fingerprint: fingerprint(), left, confirm, comment: comment.into() });
         assert_eq!(read("key 1 SHA256:a left - confirm no comment "), key(None, false, ""));
         assert_eq!(read("key 1 SHA256:a left 59 confirm yes comment left 3"), key(Some(59), true, "left 3"));
     }
@@ -290,9 +291,9 @@ mod tests {
         let lines = [
             "", " ", "ask", "ask 1", "ask x conn 1 LIST gate RequestKeys", "ask -1 conn 1 LIST gate RequestKeys", "ask 1 conn", "ask 1 conn 1",
             "ask 1 conn 1 LIST", "ask 1 conn 1 LIST gate", "ask 1 conn 1 LIST door X", "ask 1 conn 1 SIGN confirm", "ask 1 conn 1 SIGN confirm key x",
-            "ask 9999999999999999999 conn 1 LIST gate RequestKeys", "ask +1 conn 1 LIST gate X", "ask ١ conn 1 LIST gate X", "answered", "answered 1",
-            "answered 1 maybe", "gone", "gone 1.5", "lock", "lock ajar", "key", "key 1", "key 1 SHA256:a left soon", "key 1 SHA256:a confirm perhaps",
-            "ASK 1 conn 1 LIST gate RequestKeys", " ask 1 conn 1 LIST gate RequestKeys", "question 1: conn 1",
+            "ask 9999999999999999999 conn 1 LIST gate RequestKeys", "ask +1 conn 1 LIST gate X", "ask ١ conn 1 LIST gate X", "answered",
+            "answered 1", "answered 1 maybe", "gone", "gone 1.5", "lock", "lock ajar", "key", "key 1", "key 1 SHA256:a left soon",
+            "key 1 SHA256:a confirm perhaps", "ASK 1 conn 1 LIST gate RequestKeys", " ask 1 conn 1 LIST gate RequestKeys", "question 1: conn 1",
         ];
         for line in lines {
             assert_eq!(read(line), Event::Unknown, "{line:?}");
