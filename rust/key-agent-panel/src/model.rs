@@ -13,6 +13,8 @@ const MOST_NOTES: usize = 3;
 const NOTE: Duration = Duration::from_secs(5);
 /// Digits that come later begin a new number.
 const TYPING: Duration = Duration::from_secs(2);
+/// Many that count must not draw all the time.
+const SHORTEST: Duration = Duration::from_millis(100);
 
 /// A question, and what happened to it here.
 pub struct Open {
@@ -197,7 +199,7 @@ impl Model {
                 return None;
             }
             None => {
-                self.note("no question is selected: up, down or its number selects one".into(), now);
+                self.note("no question is selected".into(), now);
                 return None;
             }
         };
@@ -238,15 +240,23 @@ impl Model {
         self.typed = self.typed.filter(|(_, at)| now.saturating_sub(*at) < TYPING);
     }
 
-    /// Does the screen change with time alone?
-    pub fn counts(&self) -> bool {
-        !self.questions.is_empty() || !self.notes.is_empty() || self.typed.is_some() || self.keys.iter().any(|k| k.left.is_some())
+    /// How long until the screen changes with time alone.
+    pub fn until_change(&self, now: Duration) -> Option<Duration> {
+        let keys = self.keys.iter().any(|k| k.left.is_some()).then_some(self.told);
+        let seconds = self.questions.values().map(|open| open.came).chain(keys).map(|from| to_whole_second(now.saturating_sub(from)));
+        let typed = self.typed.map(|(_, at)| at + TYPING);
+        let ends = self.notes.iter().map(|n| n.until).chain(typed).map(|end| end.saturating_sub(now));
+        seconds.chain(ends).min().map(|d| d.max(SHORTEST))
     }
 
     /// Has a question come since the last time?
     pub fn take_bell(&mut self) -> bool {
         std::mem::take(&mut self.bell)
     }
+}
+
+fn to_whole_second(past: Duration) -> Duration {
+    Duration::from_secs(1) - Duration::from_nanos(past.subsec_nanos().into())
 }
 
 #[cfg(test)]
@@ -435,9 +445,22 @@ mod tests {
         let mut m = asks(&[1]);
         hear(&mut m, &["gone 1"]);
         assert_eq!(m.notes().collect::<Vec<_>>(), ["question 1: nobody waits for it any more"]);
-        assert!(m.counts());
+        assert_eq!(m.until_change(NOW), Some(NOTE));
         m.tick(NOW + NOTE);
-        assert!(m.notes().next().is_none() && !m.counts());
+        assert!(m.notes().next().is_none() && m.until_change(NOW + NOTE).is_none());
+    }
+
+    #[test]
+    fn the_next_second_that_is_shown() {
+        let at = |ms| NOW + Duration::from_millis(ms);
+        assert_eq!(hearing(&["lock open", "key 1 SHA256:a left - confirm no comment x", "end"]).until_change(at(300)), None);
+        let mut m = asks(&[1]);
+        assert_eq!([m.until_change(NOW), m.until_change(at(300))], [Some(Duration::from_secs(1)), Some(Duration::from_millis(700))]);
+        assert_eq!(m.until_change(at(1999)), Some(SHORTEST));
+        m.hear(read(Some("lock open")), at(500));
+        m.hear(read(Some("key 1 SHA256:a left 5 confirm no comment x")), at(500));
+        m.hear(Event::End, at(500));
+        assert_eq!(m.until_change(at(3250)), Some(Duration::from_millis(250)));
     }
 
     #[test]

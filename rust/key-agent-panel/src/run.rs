@@ -153,13 +153,12 @@ impl Panel<'_> {
         Ok(())
     }
 
-    /// The longest sleep in milliseconds: to the next second, where something counts.
+    /// The longest sleep in milliseconds.
     fn sleep(&self) -> Option<u64> {
-        if self.keys.waits() {
-            return Some(ESCAPE);
-        }
-        let counts = self.watch.link.is_none() || self.watch.model.counts();
-        counts.then(|| SECOND - now().as_millis() as u64 % SECOND)
+        let escape = self.keys.waits().then_some(ESCAPE);
+        let retry = self.watch.link.is_none().then_some(SECOND);
+        let change = self.watch.model.until_change(now()).map(|d| d.as_millis() as u64 + 1);
+        [escape, retry, change].into_iter().flatten().min()
     }
 
     fn hear(&mut self) -> Result<(), String> {

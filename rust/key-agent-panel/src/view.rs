@@ -114,7 +114,7 @@ fn question_rows(m: &Model, open: &Open, now: Duration, width: usize) -> Vec<Row
     let q = &open.question;
     let selected = m.selected.map(|s| s.number) == Some(q.number);
     let mark = if selected { '>' } else { ' ' };
-    let mut texts = vec![format!("{mark}{:>4}  {}, {}", q.number, what(q), state(open, now)), format!("{INDENT}{}", who(q))];
+    let mut texts = vec![format!("{mark}{:>4}  {}, {}", q.number, what(m, q), state(open, now)), format!("{INDENT}{}", who(q))];
     if let Some((fingerprint, comment)) = of_key(m, q) {
         let together = format!("{INDENT}{fingerprint}  {comment}");
         if together.chars().count() <= width {
@@ -134,9 +134,10 @@ fn state(open: &Open, now: Duration) -> String {
     }
 }
 
-fn what(q: &Question) -> String {
+fn what(m: &Model, q: &Question) -> String {
     match &q.what {
         What::Gate(class) => format!("{}, gate {class}", q.message),
+        What::Confirm(_) if m.hides() => format!("{}, confirm", q.message),
         What::Confirm(key) => format!("{}, confirm key {key}", q.message),
     }
 }
@@ -238,7 +239,7 @@ pub fn tell(m: &mut Model, event: Event, now: Duration) -> Vec<String> {
 
 fn question_sentence(m: &Model, q: &Question) -> String {
     let key = of_key(m, q).map_or(String::new(), |(fingerprint, comment)| format!(", key {fingerprint} comment {comment}"));
-    format!("question {}: {}, {}{key}", q.number, what(q), who(q))
+    format!("question {}: {}, {}{key}", q.number, what(m, q), who(q))
 }
 
 /// Lock and keys in sentences.
@@ -317,7 +318,7 @@ mod tests {
         for _ in 0..2 {
             let locked = texts(&m, NOW, 24, 80).join("\n");
             assert!(!locked.contains("SHA256") && !locked.contains("night shift") && locked.contains("LOCKED"), "{locked}");
-            assert!(locked.contains("SIGN, confirm key 1") && locked.contains("program ssh"));
+            assert!(locked.contains("SIGN, confirm, waits") && locked.contains("program ssh"));
             let plain = [state_sentences(&m, NOW), question_sentences(&m)].concat().join("\n");
             assert!(!plain.contains("SHA256") && !plain.contains("night shift") && plain.contains("the agent is locked"), "{plain}");
             m.hear(read(Some("end")), NOW);

@@ -115,7 +115,7 @@ fn once() {
 fn once_while_locked() {
     let (_folder, _listener, mut agent, mut p) = start("once-locked", &["--once"], "show");
     agent.say(&[SIGN, "lock locked", "end"]);
-    assert_eq!([p.line(), p.line()], ["the agent is locked", "question 5: SIGN, confirm key 1, uid 1000, pid 44, program ssh, connection 9"]);
+    assert_eq!([p.line(), p.line()], ["the agent is locked", "question 5: SIGN, confirm, uid 1000, pid 44, program ssh, connection 9"]);
     assert_eq!(p.ends(), (Some(0), String::new()));
 }
 
