@@ -651,8 +651,9 @@ impl Loop {
 
     /// What a crowd of connections has taken goes back to the system.
     fn hand_memory_back(&mut self) {
-        if self.peak > 64 && self.connections.len() < self.peak / 8 {
+        if self.peak > 8 && self.connections.len() <= self.peak / 8 {
             self.peak = self.connections.len();
+            secret::trim();
             self.connections.shrink_to_fit();
             self.works.shrink_to_fit();
             self.ready.shrink_to_fit();
