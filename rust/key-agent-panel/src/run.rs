@@ -59,8 +59,8 @@ impl<'a> Watch<'a> {
         if self.link.is_none() && now().saturating_sub(self.tried) >= Duration::from_millis(SECOND) {
             self.tried = now();
             match Link::open(self.path, "watch") {
-                Ok(link) => self.link = Some(link),
-                Err(e) if self.wait => self.model.note(waiting(&e), now()),
+                Ok(link) => (self.link, self.model) = (Some(link), Model::default()),
+                Err(e) if self.wait => self.miss(&e),
                 Err(e) => return Err(e),
             }
         }
@@ -72,10 +72,14 @@ impl<'a> Watch<'a> {
         if !self.wait {
             return Err(why);
         }
-        self.link = None;
-        self.model = Model::default();
-        self.model.note(waiting(&why), now());
+        (self.link, self.model) = (None, Model::default());
+        self.miss(&why);
         Ok(())
+    }
+
+    fn miss(&mut self, why: &str) {
+        self.model.is_away = true;
+        self.model.note(format!("waiting: {why}"), now());
     }
 
     fn hear(&mut self) -> Result<Vec<Event>, String> {
@@ -95,10 +99,6 @@ impl<'a> Watch<'a> {
     fn fd(&self) -> Option<RawFd> {
         self.link.as_ref().map(Link::as_raw_fd)
     }
-}
-
-fn waiting(why: &str) -> String {
-    format!("waiting: {why}")
 }
 
 /// The panel on a terminal, until its user ends it.

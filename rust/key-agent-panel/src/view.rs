@@ -73,6 +73,7 @@ fn head(m: &Model) -> Row {
     let (style, text) = match m.locked {
         Some(true) => (Style::Strong, " The agent is LOCKED"),
         Some(false) => (Style::Title, " The agent is open"),
+        None if m.is_away => (Style::Strong, " Nobody serves the panel"),
         None => (Style::Title, " The agent has not told its state yet"),
     };
     Row { style, text: text.into() }
