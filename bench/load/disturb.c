@@ -1,7 +1,9 @@
 /* Clients that disturb: each runs until it is killed. What they send alters neither keys nor lock. */
 #define _GNU_SOURCE
 #include "load.h"
+#include <errno.h>
 #include <pthread.h>
+#include <sched.h>
 #include <stdio.h>
 #include <stdlib.h>
 #include <string.h>
@@ -9,6 +11,12 @@
 #include <unistd.h>
 
 static const char *agent;
+
+/* Behind all others on the processors, so that what disturbs is what the agent does about it. */
+static void give_way(void) {
+    struct sched_param none = {0};
+    if (sched_setscheduler(0, SCHED_IDLE, &none)) die("SCHED_IDLE: %s", strerror(errno));
+}
 
 static void stay(void) {
     puts("ready");
@@ -92,6 +100,7 @@ static void *big(void *seed) {
 
 static void start(const char *path, size_t connections, void *(*client)(void *)) {
     agent = path;
+    give_way();
     for (size_t i = 1; i <= connections; i++) {
         pthread_t t;
         if (pthread_create(&t, NULL, client, (void *)i)) die("no thread");
