@@ -10,13 +10,15 @@ use std::process::{Child, Command};
 pub struct Before {
     core: Option<(u64, u64)>,
     files: Option<(u64, u64)>,
+    mask: SigSet,
 }
 
 /// Nobody attaches to us or reads our memory, no core file is written, and as many descriptors as the system allows are ours.
 pub fn keep_to_ourselves() -> Before {
     // SAFETY: sets an attribute of this process.
     unsafe { libc::prctl(libc::PR_SET_DUMPABLE, 0, 0, 0, 0) };
-    let before = Before { core: getrlimit(Resource::RLIMIT_CORE).ok(), files: getrlimit(Resource::RLIMIT_NOFILE).ok() };
+    let mask = SigSet::thread_get_mask().unwrap_or_else(|_| SigSet::empty());
+    let before = Before { core: getrlimit(Resource::RLIMIT_CORE).ok(), files: getrlimit(Resource::RLIMIT_NOFILE).ok(), mask };
     if let Some((_, hard)) = before.core {
         let _ = setrlimit(Resource::RLIMIT_CORE, 0, hard);
     }
@@ -58,11 +60,11 @@ pub fn signals() -> nix::Result<SignalFd> {
     SignalFd::with_flags(&set, SfdFlags::SFD_NONBLOCK | SfdFlags::SFD_CLOEXEC)
 }
 
-/// Starts a command under the agent, with the limits that we had.
+/// Starts a command under the agent, with the limits and the signals that we had.
 pub fn start(words: &[std::ffi::OsString], socket: &std::path::Path, before: Before) -> Result<Child, String> {
     let mut command = Command::new(&words[0]);
     command.args(&words[1..]).env("SSH_AUTH_SOCK", socket).env("SSH_AGENT_PID", std::process::id().to_string());
-    // SAFETY: setrlimit may be called between fork and exec. The signal mask is emptied by the library.
+    // SAFETY: both calls may be made between fork and exec.
     unsafe {
         command.pre_exec(move || {
             for (what, value) in [(Resource::RLIMIT_CORE, before.core), (Resource::RLIMIT_NOFILE, before.files)] {
@@ -70,7 +72,7 @@ pub fn start(words: &[std::ffi::OsString], socket: &std::path::Path, before: Bef
                     let _ = setrlimit(what, soft, hard);
                 }
             }
-            Ok(())
+            Ok(before.mask.thread_set_mask()?)
         });
     }
     command.spawn().map_err(|e| format!("{}: {e}", words[0].to_string_lossy()))

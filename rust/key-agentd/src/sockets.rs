@@ -54,7 +54,10 @@ fn new_folder(parent: &Path) -> io::Result<PathBuf> {
     let mut n = 0;
     loop {
         let folder = parent.join(format!("key-agentd-{}.{n}", std::process::id()));
-        match fs::DirBuilder::new().mode(0o700).create(&folder) {
+        let before = umask(Mode::from_bits_truncate(0o077));
+        let created = fs::DirBuilder::new().mode(0o700).create(&folder);
+        umask(before);
+        match created {
             Ok(()) => return Ok(folder),
             Err(e) if e.kind() == io::ErrorKind::AlreadyExists && n < 1000 => n += 1,
             Err(e) => return Err(e),
