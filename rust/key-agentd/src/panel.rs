@@ -7,8 +7,10 @@ use std::os::unix::net::UnixStream;
 
 /// A line from a panel is an answer: a longer one is none.
 const LINE: usize = 256;
-/// What may wait for a panel that does not read.
-const UNREAD: usize = 65_536;
+/// What may wait for a panel: the open questions of many connections fit.
+const UNREAD: usize = 2 << 20;
+/// A panel that takes nothing for so many milliseconds, while something waits for it, does not read.
+const PATIENCE: u64 = 5000;
 
 /// What is asked, in the words of the panel: the key's words are left out while locked.
 pub struct Text {
@@ -54,6 +56,9 @@ struct Watcher {
     is_watching: bool,
     /// Is the loop told of room to write?
     is_told: bool,
+    /// The bytes that it has taken; how many they were, and at which reading, when it was looked at and nothing waited or some had been taken.
+    taken: u64,
+    seen: (u64, u64),
 }
 
 /// What came of a line.
@@ -135,9 +140,10 @@ impl Panel {
     }
 
     pub fn connect(&mut self, token: u64, stream: UnixStream, is_locked: bool) {
-        let mut w = Watcher { stream, line: Vec::new(), unread: Vec::new(), is_watching: false, is_told: false };
-        for (n, q) in &self.open {
-            w.put(&format!("ask {n} {}", q.text.words(is_locked)));
+        let mut w = Watcher { stream, line: Vec::new(), unread: Vec::new(), is_watching: false, is_told: false, taken: 0, seen: (0, 0) };
+        let lines: Vec<String> = self.open.iter().map(|(n, q)| format!("ask {n} {}", q.text.words(is_locked))).collect();
+        if !lines.is_empty() {
+            w.put(&lines.join("\n"));
         }
         self.watchers.insert(token, w);
     }
@@ -198,8 +204,14 @@ impl Panel {
     }
 
     /// Those that do not read.
-    pub fn unread(&self) -> Vec<u64> {
-        self.watchers.iter().filter(|(_, w)| w.unread.len() > UNREAD).map(|(t, _)| *t).collect()
+    pub fn unread(&mut self, reading: u64) -> Vec<u64> {
+        self.watchers.iter_mut().filter_map(|(t, w)| w.is_unread(reading).then(|| *t)).collect()
+    }
+
+    /// How long until one of them may count as one that does not read.
+    pub fn until_unread(&self, reading: u64) -> Option<u64> {
+        let waiting = self.watchers.values().filter(|w| !w.unread.is_empty());
+        waiting.map(|w| (w.seen.1 + PATIENCE).saturating_sub(reading)).min()
     }
 
     /// The panels for which the loop is to be told otherwise than before: of room to write, or no more of it.
@@ -243,12 +255,22 @@ impl Watcher {
         while !self.unread.is_empty() {
             match self.stream.write(&self.unread) {
                 Ok(0) => break,
-                Ok(n) => drop(self.unread.drain(..n)),
+                Ok(n) => {
+                    self.taken += n as u64;
+                    self.unread.drain(..n);
+                }
                 Err(e) if e.kind() == ErrorKind::Interrupted => {}
                 Err(e) if e.kind() == ErrorKind::WouldBlock => break,
                 Err(_) => return self.unread.clear(), // its end is seen by the next read
             }
         }
+    }
+
+    fn is_unread(&mut self, reading: u64) -> bool {
+        if self.unread.is_empty() || self.taken != self.seen.0 {
+            self.seen = (self.taken, reading);
+        }
+        self.unread.len() > UNREAD || self.seen.1 + PATIENCE <= reading
     }
 
     fn read(&mut self) -> Option<Vec<String>> {

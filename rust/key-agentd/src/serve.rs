@@ -164,7 +164,8 @@ impl Loop {
         let reading = self.set.clock.reading();
         let sweep = self.set.options.idle_timeout.map(|_| (self.swept + 1000).saturating_sub(reading));
         let pause = self.paused.map(|p| p.saturating_sub(reading));
-        let least = [self.core.until_due(), self.panel.until_due(reading), sweep, pause].into_iter().flatten().min();
+        let panel = self.panel.until_due(reading).into_iter().chain(self.panel.until_unread(reading)).min();
+        let least = [self.core.until_due(), panel, sweep, pause].into_iter().flatten().min();
         least.map_or(-1, |ms| ms.min(i32::MAX as u64 - 1) as isize)
     }
 
@@ -560,13 +561,19 @@ impl Loop {
                 Said::Nothing => {}
                 Said::Answer { number, asker, yes } => self.answer(number, asker, yes, ""),
                 Said::Wrong(text) => self.panel.tell_one(token, &format!("error {}", text.replace('\n', "; "))),
-                Said::Show => self.panel.show(Some(token), self.core.is_locked(), &self.core.shown()),
+                Said::Show => self.show(Some(token)),
                 Said::Watch => {
                     self.panel.watch(token);
-                    self.panel.show(Some(token), self.core.is_locked(), &self.core.shown());
+                    self.show(Some(token));
                 }
             }
         }
+    }
+
+    /// Keys and lock as they are now, to one panel or to all that watch.
+    fn show(&mut self, to: Option<u64>) {
+        self.core.let_go();
+        self.panel.show(to, self.core.is_locked(), &self.core.shown());
     }
 
     fn close_panel(&mut self, token: u64, why: &str) {
@@ -644,8 +651,9 @@ impl Loop {
 
     /// What a crowd of connections has taken goes back to the system.
     fn hand_memory_back(&mut self) {
-        if self.peak > 64 && self.connections.len() < self.peak / 8 {
+        if self.peak > 8 && self.connections.len() <= self.peak / 8 {
             self.peak = self.connections.len();
+            secret::trim();
             self.connections.shrink_to_fit();
             self.works.shrink_to_fit();
             self.ready.shrink_to_fit();
@@ -660,9 +668,9 @@ impl Loop {
             self.set.log.write(Level::Info, "-", "", &format!("key {number} is gone: {fingerprint}"));
         }
         if is_changed && self.panel.has_watching() {
-            self.panel.show(None, self.core.is_locked(), &self.core.shown());
+            self.show(None);
         }
-        for token in self.panel.unread() {
+        for token in self.panel.unread(self.set.clock.reading()) {
             self.close_panel(token, "closed: the panel does not read");
         }
         for (token, fd, has_unread) in self.panel.retold() {
