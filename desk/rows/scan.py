@@ -1,6 +1,6 @@
 """Secrets looked for in a process's memory.
 
-A secret is cut into all its words of eight bytes, and memory is read by aligned words, so that of a secret any 15 bytes in a row are found, at any place.
+A secret is cut into all its words of eight bytes, and memory is read by aligned words: any 15 bytes of it in a row are found, wherever they stand.
 """
 import array
 import os

@@ -5,6 +5,8 @@ import subprocess
 from . import base
 from .base import at, must
 
+WORD = 'Taupunkt 11,3 Grad, Luken 40 Prozent.'  # a passphrase of 37 bytes
+
 
 def environment(agent, word=''):
     return {**os.environ, 'SSH_AUTH_SOCK': agent.path, 'DESK_WORD': word, 'SSH_ASKPASS': at('askpass'), 'SSH_ASKPASS_REQUIRE': 'force',
