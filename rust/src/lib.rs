@@ -28,7 +28,7 @@ mod raw;
 
 use std::fmt;
 use std::ops::Range;
-use std::sync::OnceLock;
+use std::sync::Once;
 
 /// The length of the key store: eight places of 4,096 bytes.
 pub const STORE_LEN: usize = 32_768;
@@ -259,6 +259,8 @@ pub struct Key<'a> {
     pub added: u64,
     /// The lifetime in seconds, if there is one.
     pub lifetime: Option<u32>,
+    /// What is left of the lifetime at the kept clock, in milliseconds, if there is one.
+    pub left: Option<u64>,
     /// Is a confirmation asked for before each signature?
     pub confirm: bool,
     /// The comment that the key was added with; a list has it behind the blob.
@@ -295,8 +297,8 @@ impl Gateway {
     /// No keys, open, clock at 0. The first gateway of a program also tests that the archive and this crate agree on layout and numbers, and
     /// panics if they do not.
     pub fn new() -> Gateway {
-        static TESTED: OnceLock<()> = OnceLock::new();
-        TESTED.get_or_init(self_test);
+        static TESTED: Once = Once::new();
+        TESTED.call_once(self_test);
         Gateway::untested()
     }
 
@@ -366,6 +368,7 @@ impl Gateway {
             number: e.number,
             added: e.reading,
             lifetime: (e.limited == 1).then_some(e.seconds),
+            left: (e.limited == 1).then_some((u64::from(e.seconds) * 1000).saturating_sub(self.state.clock - e.reading)),
             confirm: e.confirm == 1,
             comment: std::str::from_utf8(&e.comment.bytes[..e.comment.len]).expect("the core takes no other"),
             blob: &bytes[..e.blob_len],
@@ -387,6 +390,12 @@ impl Gateway {
     pub fn is_sound(&self) -> bool {
         // SAFETY: the store is lent with its own length and only read; the state goes by value.
         unsafe { raw::key_agent_is_sound(*self.state, self.store.as_ptr(), self.store.len()) }
+    }
+
+    /// Where state and store lie, and how long each is: for a host that keeps them out of swap.
+    pub fn memory(&self) -> [(*const u8, usize); 2] {
+        let state: *const raw::State = &*self.state;
+        [(state.cast(), std::mem::size_of::<raw::State>()), (self.store.as_ptr(), self.store.len())]
     }
 
     /// Is the gateway locked?

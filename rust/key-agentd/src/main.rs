@@ -1,0 +1,137 @@
+//! An SSH agent on a Unix socket whose every decision is the proved core's.
+//!
+//! This host owns what the core leaves outside: sockets, frames, the clock, the panel (gate and confirmation), key check and signatures. It
+//! keeps no rule. Each request goes to the core as a call; where the core asks, the host gets the answer and calls again with all answers so
+//! far, until the request lands: the core replies or closes.
+#![deny(unsafe_op_in_unsafe_fn)]
+
+mod clock;
+mod connection;
+mod core;
+mod keys;
+mod log;
+mod names;
+mod options;
+mod panel;
+mod process;
+mod secret;
+mod serve;
+mod sockets;
+mod workers;
+
+use clap::Parser;
+use nix::sys::signal::{SigSet, Signal};
+use options::{Options, Say};
+use sockets::{handed_over, listen, own_path, Made};
+use std::os::unix::net::UnixListener;
+use std::path::PathBuf;
+use std::sync::mpsc::{channel, Sender};
+
+fn main() {
+    let options = Options::parse();
+    // a fault is told by its place alone: what was worked on stays out of every log
+    std::panic::set_hook(Box::new(|fault| match fault.location() {
+        Some(at) => eprintln!("key-agentd: a fault at {}:{}", at.file(), at.line()),
+        None => eprintln!("key-agentd: a fault"),
+    }));
+    let mut made = Made::default();
+    let ended = std::panic::catch_unwind(std::panic::AssertUnwindSafe(|| run(options, &mut made)));
+    made.remove();
+    let status = match ended {
+        Ok(Ok((status, log, is_told))) => {
+            if is_told {
+                log.say("agent: ended, socket removed".to_string());
+            }
+            log.finish();
+            status
+        }
+        Ok(Err(why)) => {
+            eprintln!("key-agentd: {why}");
+            1
+        }
+        Err(_) => 1,
+    };
+    std::process::exit(status);
+}
+
+/// The exit status, the log, and whether its last line is to be written.
+fn run(options: Options, made: &mut Made) -> Result<(i32, log::Log, bool), String> {
+    let before = process::keep_to_ourselves();
+    let signals = process::signals().map_err(|e| e.desc().to_string())?;
+    let (agent, panel_listener, path) = all_sockets(&options, made)?;
+    let has_command = !options.command.is_empty();
+    let log = log::Log::new(options.log, has_command).map_err(|e| format!("no thread: {e}"))?;
+    let is_told = !has_command || log.has(log::Level::Info);
+    if is_told {
+        log.say(format!("export SSH_AUTH_SOCK={}", quoted(&path.to_string_lossy())));
+        log.say(format!("agent: gate {}, confirm {}; Ctrl-C ends it and removes the socket", options.gate.word(), options.confirm.word()));
+    }
+    let wake = workers::Wake::new().map_err(|e| e.desc().to_string())?;
+    let (to_loop, lines) = channel();
+    let is_asking = options.gate == Say::Ask || options.confirm == Say::Ask;
+    if is_asking && !has_command {
+        read_terminal(to_loop, wake).map_err(|e| format!("no thread: {e}"))?;
+    }
+    let child = if has_command { Some(process::start(&options.command, &path, before)?) } else { None };
+    let most = process::most_connections(options.max_connections);
+    let set = serve::Serve { options, log, clock: clock::Clock::new(), wake, lines, signals, agent, panel_listener, child, most };
+    let (status, log) = serve::serve(set)?;
+    Ok((status, log, is_told))
+}
+
+/// The agent's and the panel's, and the agent's path.
+fn all_sockets(options: &Options, made: &mut Made) -> Result<(UnixListener, Option<UnixListener>, PathBuf), String> {
+    let (agent, panel) = handed_over()?;
+    let (agent, path) = match agent {
+        Some(agent) => {
+            let path = agent.local_addr().ok().and_then(|a| a.as_pathname().map(PathBuf::from)).unwrap_or_default();
+            (agent, path)
+        }
+        None => {
+            let path = match &options.socket {
+                Some(path) => std::env::current_dir().map_err(|e| e.to_string())?.join(path),
+                None => own_path(made)?,
+            };
+            (listen(&path, made)?, path)
+        }
+    };
+    let panel = match (panel, &options.panel) {
+        (Some(panel), _) => Some(panel),
+        (None, Some(path)) => Some(listen(path, made)?),
+        (None, None) => None,
+    };
+    Ok((agent, panel, path))
+}
+
+/// Lines from standard input go to the loop, and its end.
+fn read_terminal(to_loop: Sender<Option<String>>, wake: workers::Wake) -> std::io::Result<()> {
+    std::thread::Builder::new().name("terminal".to_string()).spawn(move || {
+        let mut ttin = SigSet::empty();
+        ttin.add(Signal::SIGTTIN);
+        let _ = ttin.thread_block(); // in the background a read then fails and does not stop us
+        loop {
+            let mut line = Vec::new();
+            let read = std::io::BufRead::read_until(&mut std::io::stdin().lock(), b'\n', &mut line);
+            match read {
+                Ok(0) => break,
+                Ok(_) => drop(to_loop.send(Some(String::from_utf8_lossy(&line).into_owned()))),
+                Err(_) => std::thread::sleep(std::time::Duration::from_secs(1)),
+            }
+            wake.call();
+        }
+        let _ = to_loop.send(None);
+        wake.call();
+    })?;
+    Ok(())
+}
+
+/// As a word of a shell's line.
+fn quoted(path: &str) -> String {
+    let is_plain = |c: char| c.is_ascii_alphanumeric() || "@%+=:,./-_".contains(c);
+    if !path.is_empty() && path.chars().all(is_plain) {
+        path.to_string()
+    } else {
+        format!("'{}'", path.replace('\'', "'\"'\"'"))
+    }
+}
+

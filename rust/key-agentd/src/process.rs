@@ -1,0 +1,61 @@
+//! What the process keeps from others, and the signals that it hears.
+use nix::libc;
+use nix::sys::resource::{getrlimit, setrlimit, Resource};
+use nix::sys::signal::{SigSet, Signal};
+use nix::sys::signalfd::{SfdFlags, SignalFd};
+use std::os::unix::process::CommandExt;
+use std::process::{Child, Command};
+
+/// What was set before, for a command that is started.
+pub struct Before {
+    core: Option<(u64, u64)>,
+    files: Option<(u64, u64)>,
+}
+
+/// Nobody attaches to us or reads our memory, no core file is written, and as many descriptors as the system allows are ours.
+pub fn keep_to_ourselves() -> Before {
+    // SAFETY: sets an attribute of this process.
+    unsafe { libc::prctl(libc::PR_SET_DUMPABLE, 0, 0, 0, 0) };
+    let before = Before { core: getrlimit(Resource::RLIMIT_CORE).ok(), files: getrlimit(Resource::RLIMIT_NOFILE).ok() };
+    if let Some((_, hard)) = before.core {
+        let _ = setrlimit(Resource::RLIMIT_CORE, 0, hard);
+    }
+    if let Some((_, hard)) = before.files {
+        let _ = setrlimit(Resource::RLIMIT_NOFILE, hard, hard);
+    }
+    before
+}
+
+/// The connections that can be served beside what else takes a descriptor.
+pub fn most_connections(wished: u32) -> usize {
+    let files = getrlimit(Resource::RLIMIT_NOFILE).map_or(1024, |(soft, _)| soft);
+    (u64::from(wished)).min(files.saturating_sub(64)).max(1) as usize
+}
+
+/// Those that end the agent, and a command's end. To be called before any thread is started, so that all of them leave these to the loop.
+pub fn signals() -> nix::Result<SignalFd> {
+    let mut set = SigSet::empty();
+    for s in [Signal::SIGINT, Signal::SIGTERM, Signal::SIGHUP, Signal::SIGCHLD] {
+        set.add(s);
+    }
+    set.thread_block()?;
+    SignalFd::with_flags(&set, SfdFlags::SFD_NONBLOCK | SfdFlags::SFD_CLOEXEC)
+}
+
+/// Starts a command under the agent, with the limits that we had.
+pub fn start(words: &[std::ffi::OsString], socket: &std::path::Path, before: Before) -> Result<Child, String> {
+    let mut command = Command::new(&words[0]);
+    command.args(&words[1..]).env("SSH_AUTH_SOCK", socket).env("SSH_AGENT_PID", std::process::id().to_string());
+    // SAFETY: setrlimit may be called between fork and exec. The signal mask is emptied by the library.
+    unsafe {
+        command.pre_exec(move || {
+            for (what, value) in [(Resource::RLIMIT_CORE, before.core), (Resource::RLIMIT_NOFILE, before.files)] {
+                if let Some((soft, hard)) = value {
+                    let _ = setrlimit(what, soft, hard);
+                }
+            }
+            Ok(())
+        });
+    }
+    command.spawn().map_err(|e| format!("{}: {e}", words[0].to_string_lossy()))
+}

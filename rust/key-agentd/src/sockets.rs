@@ -1,0 +1,145 @@
+//! The sockets that are served, and who is at the other end.
+use crate::names::word;
+use nix::errno::Errno;
+use nix::sys::socket::{getsockopt, sockopt};
+use nix::sys::stat::{umask, Mode};
+use std::fs;
+use std::io;
+use std::os::unix::fs::{DirBuilderExt, FileTypeExt};
+use std::os::unix::io::{AsRawFd, FromRawFd, RawFd};
+use std::os::unix::net::{UnixListener, UnixStream};
+use std::path::{Path, PathBuf};
+
+/// What was made and is removed at the end.
+#[derive(Default)]
+pub struct Made {
+    sockets: Vec<PathBuf>,
+    folder: Option<PathBuf>,
+}
+
+impl Made {
+    pub fn remove(&mut self) {
+        for path in self.sockets.drain(..) {
+            let _ = fs::remove_file(path);
+        }
+        if let Some(folder) = self.folder.take() {
+            let _ = fs::remove_dir(folder);
+        }
+    }
+}
+
+impl Drop for Made {
+    fn drop(&mut self) {
+        self.remove();
+    }
+}
+
+/// A path in a new folder of mode 0700.
+pub fn own_path(made: &mut Made) -> Result<PathBuf, String> {
+    let parent = match std::env::var_os("XDG_RUNTIME_DIR").filter(|d| !d.is_empty()) {
+        Some(d) if Path::new(&d).is_dir() => PathBuf::from(d),
+        Some(d) => {
+            let d = d.to_string_lossy();
+            return Err(format!("XDG_RUNTIME_DIR names {d}, which is not there: make it, unset it, or name a socket by --socket"));
+        }
+        None => std::env::temp_dir(),
+    };
+    let folder = new_folder(&parent).map_err(|e| format!("no folder in {}: {e}", parent.display()))?;
+    made.folder = Some(folder.clone());
+    Ok(folder.join("agent"))
+}
+
+/// What is there already is not taken, whoever made it.
+fn new_folder(parent: &Path) -> io::Result<PathBuf> {
+    let mut n = 0;
+    loop {
+        let folder = parent.join(format!("key-agentd-{}.{n}", std::process::id()));
+        match fs::DirBuilder::new().mode(0o700).create(&folder) {
+            Ok(()) => return Ok(folder),
+            Err(e) if e.kind() == io::ErrorKind::AlreadyExists && n < 1000 => n += 1,
+            Err(e) => return Err(e),
+        }
+    }
+}
+
+/// A socket of mode 0600 at this path; one that nobody serves any more is replaced.
+pub fn listen(path: &Path, made: &mut Made) -> Result<UnixListener, String> {
+    match UnixStream::connect(path) {
+        Ok(_) => return Err(format!("somebody serves {} already", path.display())),
+        Err(e) if e.kind() == io::ErrorKind::ConnectionRefused => remove_stale(path),
+        Err(e) if Errno::from_i32(e.raw_os_error().unwrap_or(0)) == Errno::EAGAIN => return Err(format!("somebody serves {} already", path.display())),
+        Err(_) => {} // nothing there, or something that bind refuses
+    }
+    let before = umask(Mode::from_bits_truncate(0o177));
+    let bound = UnixListener::bind(path);
+    umask(before);
+    let listener = bound.map_err(|e| format!("no socket at {}: {e}", path.display()))?;
+    made.sockets.push(path.to_path_buf());
+    listener.set_nonblocking(true).map_err(|e| e.to_string())?;
+    Ok(listener)
+}
+
+fn remove_stale(path: &Path) {
+    if fs::symlink_metadata(path).map_or(false, |m| m.file_type().is_socket()) {
+        let _ = fs::remove_file(path);
+    }
+}
+
+/// The sockets that whoever started us listens on: the agent's and the panel's.
+pub fn handed_over() -> Result<(Option<UnixListener>, Option<UnixListener>), String> {
+    let number = |name| std::env::var(name).ok().and_then(|v| v.parse::<u32>().ok());
+    if number("LISTEN_PID") != Some(std::process::id()) {
+        return Ok((None, None));
+    }
+    let names: Vec<String> = std::env::var("LISTEN_FDNAMES").unwrap_or_default().split(':').map(String::from).collect();
+    let count = number("LISTEN_FDS").unwrap_or(0);
+    for name in ["LISTEN_PID", "LISTEN_FDS", "LISTEN_FDNAMES"] {
+        std::env::remove_var(name);
+    }
+    let (mut agent, mut panel) = (None, None);
+    for i in 0..count.min(16) {
+        let listener = take_over(3 + i as RawFd)?;
+        match names.get(i as usize).map(String::as_str) {
+            Some("agent") => agent = Some(listener),
+            Some("panel") => panel = Some(listener),
+            _ if agent.is_none() => agent = Some(listener),
+            _ => panel = Some(listener),
+        }
+    }
+    Ok((agent, panel))
+}
+
+fn take_over(fd: RawFd) -> Result<UnixListener, String> {
+    match getsockopt(fd, sockopt::AcceptConn) {
+        Ok(true) => {}
+        _ => return Err(format!("descriptor {fd}, which LISTEN_FDS names, is no socket that listens")),
+    }
+    // SAFETY: a descriptor that was handed to this process, and nobody else takes it.
+    let listener = unsafe { UnixListener::from_raw_fd(fd) };
+    listener.local_addr().map_err(|_| format!("descriptor {fd}, which LISTEN_FDS names, is no Unix socket"))?;
+    nix::fcntl::fcntl(fd, nix::fcntl::FcntlArg::F_SETFD(nix::fcntl::FdFlag::FD_CLOEXEC)).map_err(|e| e.desc().to_string())?;
+    listener.set_nonblocking(true).map_err(|e| e.to_string())?;
+    Ok(listener)
+}
+
+/// Who is at the other end, as the kernel says.
+#[derive(Clone)]
+pub struct Peer {
+    pub uid: u32,
+    pub pid: i32,
+    pub program: String,
+}
+
+impl Peer {
+    pub fn of(stream: &UnixStream) -> nix::Result<Peer> {
+        let c = getsockopt(stream.as_raw_fd(), sockopt::PeerCredentials)?;
+        let name = fs::read(format!("/proc/{}/comm", c.pid())).unwrap_or_default();
+        let program = word(String::from_utf8_lossy(&name).trim_end_matches('\n'));
+        Ok(Peer { uid: c.uid(), pid: c.pid(), program })
+    }
+
+    /// Our own user, and root.
+    pub fn is_let_in(&self) -> bool {
+        self.uid == 0 || self.uid == nix::unistd::getuid().as_raw()
+    }
+}
