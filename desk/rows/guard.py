@@ -15,6 +15,7 @@ from .frames import EMPTY_LIST, FAILURE, LIST, LOCK, UNLOCK, Raw, receive, strin
 from .processes import ANOTHER, NOBODY, as_user, become, status
 from .tools import WORD, fails, works
 
+
 def root_only(what):
     if os.geteuid() != 0:
         raise Skip(f'only root can {what}')

@@ -1,5 +1,4 @@
 """Rows: timeouts, the cap of connections, load, and a signer that panics."""
-import os
 import re
 import resource
 import select
