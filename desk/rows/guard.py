@@ -108,7 +108,7 @@ def reads_memory(process):
 def _():
     with Desk() as a:
         with open(f'/proc/{a.process.pid}/limits') as f:
-            must(re.search(r'Max core file size +0 +0 ', f.read()), 'core files are allowed')
+            must(re.search(r'Max core file size +0 ', f.read()), 'core files are allowed')
         must(int(status(a.process.pid, 'VmLck').split()[0]) >= 32, f'VmLck is {status(a.process.pid, "VmLck")}')
         locked = status(a.process.pid, 'VmLck')
     root = os.geteuid() == 0
@@ -123,7 +123,7 @@ def _():
         other = subprocess.Popen(['sleep', '60'], cwd=shared.folder, preexec_fn=prepare)
         try:
             until(lambda: os.path.exists(path), 'no agent')
-            must(os.stat(f'/proc/{agent.pid}').st_uid == 0, 'it is dumpable')
+            must(os.stat(f'/proc/{agent.pid}/mem').st_uid == 0, 'it is dumpable')
             user = NOBODY if root else None
             must(as_user(user, reads_memory(other.pid)) == 'read', 'we could read no process of ours')
             said = as_user(user, reads_memory(agent.pid))
@@ -157,7 +157,7 @@ def session(level, word, wrong):
             r.send(frame[:-1])
             r.conn.shutdown(socket.SHUT_WR)
             must(receive(r.conn) is None, 'answered')
-            must(Raw(a).ask(number + string(word.encode()) + b'x') == FAILURE, 'trailing bytes are taken')
+            must(Raw(a).ask(number + string(word.encode())[:-1]) == FAILURE, 'a cut one is taken')
         a.always(None)
         r = Raw(a)
         r.send(string(LOCK + string(word.encode())))

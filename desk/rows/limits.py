@@ -86,7 +86,7 @@ def _():
 
 
 def few_files():
-    resource.setrlimit(resource.RLIMIT_NOFILE, (40, 40))
+    resource.setrlimit(resource.RLIMIT_NOFILE, (100, 100))
 
 
 @row('more connections than file descriptors (raw)')
@@ -94,17 +94,21 @@ def _():
     with Desk(preexec_fn=few_files) as a:
         first = Raw(a)
         must(first.ask(LIST) == EMPTY_LIST, 'not served')
-        conns = [Raw(a) for _ in range(60)]
+        conns = [Raw(a) for _ in range(200)]
         for _ in range(20):
             must(first.ask(LIST) == EMPTY_LIST, 'the others suffer')
+        panel = Panel(a.panel_path)
+        panel.say('?')
+        panel.said('no question is open')
         before = cpu(a)
         time.sleep(1)
         must(cpu(a) - before < 0.5, f'{cpu(a) - before:.1f} s of work in a second of waiting')
+        must('refused' in a.log(), 'no word in the log')
         for r in conns:
             r.conn.close()
         until(lambda: run(a, 'ssh-add', '-l')[1] == 'The agent has no identities.', 'none is taken again')
         must(first.ask(LIST) == EMPTY_LIST, 'the first suffers')
-    return 'the others go on, it does not spin; taken again once they have gone'
+    return 'the others and a new panel are served, it does not spin; taken again once they have gone'
 
 
 @row('at rest, with keys that have a lifetime: no work')
@@ -209,26 +213,25 @@ def _():
     return 'those that had not landed get FAILURE'
 
 
-@row('a panel that sends a line without end; 50 panels (raw)')
+@row('a panel that sends a line without end; 16 panels, and a 17th (raw)')
 def _():
     with Desk('--gate', 'ask') as a:
         before = int(status(a.process.pid, 'VmRSS').split()[0])
-        s = socket.socket(socket.AF_UNIX)
-        s.connect(a.panel_path)
-        s.settimeout(5)
-        try:
+        with socket.socket(socket.AF_UNIX) as s:
+            s.connect(a.panel_path)
+            s.settimeout(5)
             for _ in range(256):
                 s.sendall(b'y' * 65536)
-        except OSError:
-            pass  # closed
-        grown = int(status(a.process.pid, 'VmRSS').split()[0]) - before
-        must(grown < 4096, f'{grown} KB more memory')
-        panels = [Panel(a.panel_path) for _ in range(50)]
+            grown = int(status(a.process.pid, 'VmRSS').split()[0]) - before
+            must(grown < 1024, f'{grown} KB more memory')
+        until(lambda: a.log().count('closed') == 1, 'still open')
+        panels = [a.panel, *(Panel(a.panel_path) for _ in range(15))]
         p = started(a, 'ssh-add', '-l')
         for panel in panels:
             panel.waiting('LIST')
+        must(Panel(a.panel_path).ended.wait(5), 'a 17th is served')
         panels[-1].answer(panels[-1].waiting('LIST')[0], True)
         must(ended(p)[1] == 'The agent has no identities.', 'the answer does not count')
-        for panel in [*panels, a.panel]:
+        for panel in panels:
             panel.said('^answered 1 y$')
-    return 'it takes no memory for it; each of the 50 gets the question and its answer'
+    return 'it takes no memory for it; each of the 16 gets the question and its answer, the 17th is closed'

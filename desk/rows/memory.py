@@ -10,8 +10,8 @@ from .keys import FIVE, KINDS, blob_of, fields_of, make, private, sign_request, 
 from .scan import holds, is_clean
 from .tools import WORD, ended, fails, started, works
 
-OTHER = 'a second passphrase, for another hand'
-WRONG = ['the wrong passphrase, of equal length', 'Taupunkt 12,9 Grad', 'nobody locks with these words ' * 20]
+OTHER = 'Gurken brauchen Schatten, Tomaten nicht'
+WRONG = ['Bodenfeuchte 61 Prozent, Luefter aus.', 'Nebel um 6:40', 'Schneelast auf dem Ostdach! ' * 30]
 
 
 def words(*texts):

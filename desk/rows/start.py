@@ -57,7 +57,7 @@ def _():
         env = {k: v for k, v in os.environ.items() if k not in ('XDG_RUNTIME_DIR', 'TMPDIR')}
         if runtime:
             env['XDG_RUNTIME_DIR'] = runtime
-        for umask in (0, 0o777):
+        for umask in (0, 0o177):
             with tempfile.TemporaryFile('w+') as out:
                 p = subprocess.Popen([AGENT, '--panel', at('run/panel')], stdin=subprocess.DEVNULL, stdout=out, env=env,
                                      preexec_fn=lambda: os.umask(umask))
