@@ -132,6 +132,24 @@ typedef struct {
     size_t to;
 } key_agent_split_result;
 
+/* ---- A held key ---- */
+
+/* number is its insertion number; where it is 0 nothing is told, and every field is 0. confirm and limited (has it a lifetime?) are 0 or 1; left
+ * is what is left of the lifetime at the kept clock, in milliseconds, 0 without one and where none is left. The public blob is
+ * store[blob_from .. blob_to), the key fields, private ones too, as the add request had them, are store[fields_from .. fields_to): never out of
+ * range, from <= to <= store_len. */
+typedef struct {
+    uint64_t number;
+    uint8_t confirm;
+    uint8_t limited;
+    key_agent_millis left;
+    size_t blob_from;
+    size_t blob_to;
+    size_t fields_from;
+    size_t fields_to;
+    key_agent_comment comment;
+} key_agent_held_key;
+
 /* ---- Functions ---- */
 
 /* The state of a fresh gateway: no key, open, clock 0. Its store is KEY_AGENT_STORE_BYTES bytes, all zero. */
@@ -167,6 +185,16 @@ key_agent_outcome key_agent_call(
  */
 key_agent_split_result key_agent_split(const uint8_t *bytes, size_t bytes_len);
 
+/* The held key with this insertion number, as the last call left it; nothing where none has it, for 0, and where state and store are not sound.
+ * The number that KEY_AGENT_ASK_CONFIRM or KEY_AGENT_ASK_SIGN named is held until the next call. Tells of keys while locked too.
+ */
+key_agent_held_key key_agent_key(key_agent_state state, const uint8_t *store, size_t store_len, uint64_t number);
+
+/* The least held insertion number above `after`; 0 where there is none, and where state and store are not sound. From 0 on it walks all held
+ * keys in order of insertion. A number that key_agent_key does not tell of is gone for good: no later key gets it.
+ */
+uint64_t key_agent_next(key_agent_state state, const uint8_t *store, size_t store_len, uint64_t after);
+
 #ifdef __cplusplus
 }
 #endif
@@ -179,6 +207,8 @@ _Static_assert(sizeof(key_agent_state) == 3544 && offsetof(key_agent_state, lock
 _Static_assert(sizeof(key_agent_answers) == 24 && offsetof(key_agent_answers, confirmation_number) == 8, "layout of answers");
 _Static_assert(sizeof(key_agent_outcome) == 32 && offsetof(key_agent_outcome, hash) == 2 && offsetof(key_agent_outcome, number) == 8, "layout of an outcome");
 _Static_assert(sizeof(key_agent_split_result) == 24 && offsetof(key_agent_split_result, from) == 8, "layout of a split");
+_Static_assert(sizeof(key_agent_held_key) == 320 && offsetof(key_agent_held_key, confirm) == 8 && offsetof(key_agent_held_key, limited) == 9 && offsetof(key_agent_held_key, left) == 16, "layout of a held key");
+_Static_assert(offsetof(key_agent_held_key, blob_from) == 24 && offsetof(key_agent_held_key, fields_from) == 40 && offsetof(key_agent_held_key, comment) == 56, "layout of a held key's parts");
 #endif
 #endif
 

@@ -1,4 +1,4 @@
-/* The gateway's four calls for Arm. The module was made for x86-64's rules of structs that go or come by value, and Arm's are others: `archive`
+/* The gateway's six calls for Arm. The module was made for x86-64's rules of structs that go or come by value, and Arm's are others: `archive`
  * gives its functions other names and a pointer for every struct, the result's in front. What stands between the two rules is written by the C
  * compiler, from the header. */
 #include "key_agent.h"
@@ -15,6 +15,8 @@ key_agent_outcome *plain_key_agent_call(
     const uint8_t *signature, size_t signature_len,
     uint8_t *reply, size_t reply_len);
 key_agent_split_result *plain_key_agent_split(key_agent_split_result *result, const uint8_t *bytes, size_t bytes_len);
+key_agent_held_key *plain_key_agent_key(key_agent_held_key *result, const key_agent_state *state, const uint8_t *store, size_t store_len, uint64_t number);
+uint64_t plain_key_agent_next(const key_agent_state *state, const uint8_t *store, size_t store_len, uint64_t after);
 
 key_agent_state key_agent_fresh(void)
 {
@@ -47,4 +49,16 @@ key_agent_split_result key_agent_split(const uint8_t *bytes, size_t bytes_len)
     key_agent_split_result result;
     plain_key_agent_split(&result, bytes, bytes_len);
     return result;
+}
+
+key_agent_held_key key_agent_key(key_agent_state state, const uint8_t *store, size_t store_len, uint64_t number)
+{
+    key_agent_held_key result;
+    plain_key_agent_key(&result, &state, store, store_len, number);
+    return result;
+}
+
+uint64_t key_agent_next(key_agent_state state, const uint8_t *store, size_t store_len, uint64_t after)
+{
+    return plain_key_agent_next(&state, store, store_len, after);
 }

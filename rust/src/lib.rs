@@ -27,7 +27,7 @@
 mod raw;
 
 use std::fmt;
-use std::ops::Range;
+use std::ops::{Deref, Range};
 use std::sync::Once;
 
 /// The length of the key store: eight places of 4,096 bytes.
@@ -40,9 +40,6 @@ pub const MAX_COMMENT: usize = 255;
 pub const MAX_PAYLOAD: usize = 262_144;
 /// The longest signature that is taken.
 pub const MAX_SIGNATURE: usize = 2_048;
-
-const PLACE: usize = 4_096;
-const FIELDS_AT: usize = 1_024;
 
 /// The kind of request that waits at the gate (`MessageType` in russh).
 #[derive(Clone, Copy, Debug, PartialEq, Eq, Hash)]
@@ -250,21 +247,53 @@ impl fmt::Debug for Reply {
     }
 }
 
+/// The comment of a key, read as a text.
+#[derive(Clone, Copy, PartialEq, Eq)]
+pub struct Comment(raw::Comment);
+
+impl Deref for Comment {
+    type Target = str;
+
+    fn deref(&self) -> &str {
+        std::str::from_utf8(&self.0.bytes[..self.0.len]).expect("the core takes no other")
+    }
+}
+
+impl PartialEq<str> for Comment {
+    fn eq(&self, other: &str) -> bool {
+        **self == *other
+    }
+}
+
+impl PartialEq<&str> for Comment {
+    fn eq(&self, other: &&str) -> bool {
+        **self == **other
+    }
+}
+
+impl fmt::Debug for Comment {
+    fn fmt(&self, f: &mut fmt::Formatter<'_>) -> fmt::Result {
+        fmt::Debug::fmt(&**self, f)
+    }
+}
+
+impl fmt::Display for Comment {
+    fn fmt(&self, f: &mut fmt::Formatter<'_>) -> fmt::Result {
+        fmt::Display::fmt(&**self, f)
+    }
+}
+
 /// A held key.
 #[derive(Clone, Copy, PartialEq, Eq)]
 pub struct Key<'a> {
     /// The insertion number: each add takes a new one.
     pub number: u64,
-    /// The kept clock when the key was added, in milliseconds.
-    pub added: u64,
-    /// The lifetime in seconds, if there is one.
-    pub lifetime: Option<u32>,
-    /// What is left of the lifetime at the kept clock, in milliseconds, if there is one.
+    /// What is left of the lifetime at [`Gateway::clock`], in milliseconds, if there is one.
     pub left: Option<u64>,
     /// Is a confirmation asked for before each signature?
     pub confirm: bool,
     /// The comment that the key was added with; a list has it behind the blob.
-    pub comment: &'a str,
+    pub comment: Comment,
     /// The public blob.
     pub blob: &'a [u8],
     /// The key fields, the private ones too, as the add request had them, from the type string on.
@@ -276,8 +305,7 @@ impl fmt::Debug for Key<'_> {
     fn fmt(&self, f: &mut fmt::Formatter<'_>) -> fmt::Result {
         f.debug_struct("Key")
             .field("number", &self.number)
-            .field("added", &self.added)
-            .field("lifetime", &self.lifetime)
+            .field("left", &self.left)
             .field("confirm", &self.confirm)
             .field("comment", &self.comment)
             .field("blob", &self.blob)
@@ -360,30 +388,36 @@ impl Gateway {
         }
     }
 
-    /// The key in one of the eight places.
-    fn key_in(&self, place: usize) -> Option<Key<'_>> {
-        let e = &self.state.entries[place];
-        let bytes = &self.store[place * PLACE..(place + 1) * PLACE];
-        (e.number != 0).then(|| Key {
-            number: e.number,
-            added: e.reading,
-            lifetime: (e.limited == 1).then_some(e.seconds),
-            left: (e.limited == 1).then_some((u64::from(e.seconds) * 1000).saturating_sub(self.state.clock - e.reading)),
-            confirm: e.confirm == 1,
-            comment: std::str::from_utf8(&e.comment.bytes[..e.comment.len]).expect("the core takes no other"),
-            blob: &bytes[..e.blob_len],
-            fields: &bytes[FIELDS_AT..FIELDS_AT + e.fields_len],
+    /// What the core tells of a number; all zero where no held key has it.
+    fn told(&self, number: u64) -> raw::HeldKey {
+        // SAFETY: the store is lent with its own length and only read; the state goes by value.
+        unsafe { raw::key_agent_key(*self.state, self.store.as_ptr(), self.store.len(), number) }
+    }
+
+    /// The held key with this insertion number: what the signer, or whoever asks for a confirmation, looks up. The number that a call asked
+    /// about is held until the next call.
+    pub fn key(&self, number: u64) -> Option<Key<'_>> {
+        let k = self.told(number);
+        (k.number != 0).then(|| Key {
+            number: k.number,
+            left: (k.limited == 1).then_some(k.left),
+            confirm: k.confirm == 1,
+            comment: Comment(k.comment),
+            blob: &self.store[k.blob_from..k.blob_to],
+            fields: &self.store[k.fields_from..k.fields_to],
         })
     }
 
-    /// The held keys in the order of their places, which is the order of lists. Keys whose time is over stay until the next call.
-    pub fn keys(&self) -> impl Iterator<Item = Key<'_>> {
-        (0..8).filter_map(|place| self.key_in(place))
+    /// The least held insertion number above `after`. A number that is no longer held comes never again.
+    pub fn next_held(&self, after: u64) -> Option<u64> {
+        // SAFETY: as above.
+        let n = unsafe { raw::key_agent_next(*self.state, self.store.as_ptr(), self.store.len(), after) };
+        (n != 0).then_some(n)
     }
 
-    /// The held key with this insertion number: what the signer, or whoever asks for a confirmation, looks up.
-    pub fn key(&self, number: u64) -> Option<Key<'_>> {
-        self.keys().find(|k| k.number == number)
+    /// The held keys in order of insertion. Keys whose time is over stay until the next call.
+    pub fn keys(&self) -> impl Iterator<Item = Key<'_>> {
+        std::iter::successors(self.next_held(0), |n| self.next_held(*n)).filter_map(|n| self.key(n))
     }
 
     /// The soundness test that every call begins with. True of every `Gateway`; here for who measures or asserts it.
@@ -503,7 +537,16 @@ fn self_test() {
     want.clock = 78;
     want.next = 2;
     assert_eq!(*g.state, want, "layout of State: an entry");
-    assert!(g.store[..blob.len()] == blob[..] && g.store[FIELDS_AT..FIELDS_AT + fields.len()] == fields[..], "layout of the store");
+    let held = g.told(1);
+    let left = 0x0102_0304 * 1_000;
+    let told = raw::HeldKey { number: 1, confirm: 1, limited: 1, left, comment, ..held };
+    assert_eq!(held, told, "layout of HeldKey");
+    assert!(g.store[held.blob_from..held.blob_to] == blob[..] && g.store[held.fields_from..held.fields_to] == fields[..], "the store's parts");
+    assert!(g.next_held(0) == Some(1) && g.next_held(1).is_none() && g.key(2).is_none(), "next");
+    g.state.entries[0].limited = 0;
+    g.state.entries[0].seconds = 0;
+    assert_eq!(g.told(1), raw::HeldKey { limited: 0, left: 0, ..held }, "layout of HeldKey: no lifetime");
+    *g.state = want;
     let sign = [&[13][..], &string(&blob), &string(b"data"), &[0, 0, 0, 4]].concat();
     let data = 1 + 4 + blob.len() + 4;
     a = Answers { gate: Some(true), ..Answers::default() };
@@ -536,4 +579,5 @@ fn self_test() {
     // the last field of a state by value: the next number is not above a held one
     g.state.next = 1;
     assert!(!g.is_sound(), "is_sound");
+    assert!(g.key(1).is_none() && g.next_held(0).is_none(), "nothing is told");
 }

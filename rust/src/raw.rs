@@ -68,6 +68,21 @@ pub struct FlatSplit {
     pub to: usize,
 }
 
+/// A held key: parts of the store, `left` in milliseconds. Number 0: nothing is told, and all is zero.
+#[repr(C)]
+#[derive(Clone, Copy, Debug, PartialEq, Eq)]
+pub struct HeldKey {
+    pub number: u64,
+    pub confirm: u8,
+    pub limited: u8,
+    pub left: u64,
+    pub blob_from: usize,
+    pub blob_to: usize,
+    pub fields_from: usize,
+    pub fields_to: usize,
+    pub comment: Comment,
+}
+
 // A slice crosses as two words, where it begins and its length.
 extern "C" {
     pub fn key_agent_fresh() -> State;
@@ -86,6 +101,8 @@ extern "C" {
         reply_len: usize,
     ) -> FlatOutcome;
     pub fn key_agent_split(bytes: *const u8, bytes_len: usize) -> FlatSplit;
+    pub fn key_agent_key(state: State, store: *const u8, store_len: usize, number: u64) -> HeldKey;
+    pub fn key_agent_next(state: State, store: *const u8, store_len: usize, after: u64) -> u64;
 }
 
 /// Where an integer of a struct begins (std's is younger than Rust 1.63): it is 1, low byte first, and every other byte is 0.
@@ -124,4 +141,7 @@ const _: () = {
     assert!(size_of::<FlatOutcome>() == 32 && offset_of!(FlatOutcome, hash) == 2 && offset_of!(FlatOutcome, number) == 8);
     assert!(offset_of!(FlatOutcome, from) == 16 && offset_of!(FlatOutcome, to) == 24);
     assert!(size_of::<FlatSplit>() == 24 && offset_of!(FlatSplit, from) == 8);
+    assert!(size_of::<HeldKey>() == 320 && offset_of!(HeldKey, confirm) == 8 && offset_of!(HeldKey, limited) == 9);
+    assert!(offset_of!(HeldKey, left) == 16 && offset_of!(HeldKey, blob_from) == 24 && offset_of!(HeldKey, blob_to) == 32);
+    assert!(offset_of!(HeldKey, fields_from) == 40 && offset_of!(HeldKey, fields_to) == 48 && offset_of!(HeldKey, comment.bytes[0]) == 56);
 };

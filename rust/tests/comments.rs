@@ -50,7 +50,12 @@ fn list<'a>(g: &mut Gateway, items: impl IntoIterator<Item = (&'a Key, &'a str)>
     let items: Vec<_> = items.into_iter().collect();
     let body: Vec<u8> = items.iter().flat_map(|(k, c)| [string(&k.1), string(c.as_bytes())].concat()).collect();
     assert_eq!(reply(g, &[11]), string(&[&[12][..], &(items.len() as u32).to_be_bytes(), &body].concat()));
-    assert_eq!(g.keys().map(|k| (k.blob, k.comment)).collect::<Vec<_>>(), items.iter().map(|(k, c)| (&k.1[..], *c)).collect::<Vec<_>>());
+    // `keys` goes by insertion, the list by place
+    let mut held: Vec<_> = g.keys().map(|k| (k.blob.to_vec(), k.comment.to_string())).collect();
+    let mut want: Vec<_> = items.iter().map(|(k, c)| (k.1.clone(), c.to_string())).collect();
+    held.sort();
+    want.sort();
+    assert_eq!(held, want);
 }
 
 #[test]

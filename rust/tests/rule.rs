@@ -104,7 +104,7 @@ fn lifetimes() {
     // a lower reading counts as the kept one
     assert_eq!(reply(&mut g, &added(1, &[1, 0, 0, 0, 2, 2]), 10), SUCCESS);
     let k = g.keys().next().unwrap();
-    assert_eq!((k.number, k.added, k.lifetime, k.confirm, k.comment, k.fields), (2, 7_000, Some(2), true, "c", &key(1).0[..]));
+    assert_eq!((k.number, k.left, k.confirm, &*k.comment, k.fields), (2, Some(2_000), true, "c", &key(1).0[..]));
     // lifetime 0 goes at the next call, a question too
     assert_eq!(reply(&mut g, &added(2, &[1, 0, 0, 0, 0]), 7_000), SUCCESS);
     assert_eq!(held(&g), 2);
@@ -128,12 +128,14 @@ fn nine_keys() {
     assert_eq!(reply(&mut g, &added(9, &[]), 0), FAILURE);
     // a held one is replaced in its place
     assert_eq!(reply(&mut g, &added(3, &[2]), 0), SUCCESS);
-    assert_eq!(g.keys().map(|k| k.number).collect::<Vec<_>>(), [1, 2, 9, 4, 5, 6, 7, 8]);
+    assert_eq!(g.keys().map(|k| k.number).collect::<Vec<_>>(), [1, 2, 4, 5, 6, 7, 8, 9]);
+    let listed = |keys: [u8; 8]| keys.iter().flat_map(|i| [string(&key(*i).1), string(b"c")].concat()).collect::<Vec<_>>();
     let list = reply(&mut g, &[11], 0);
-    assert_eq!(list[4..9], [12, 0, 0, 0, 8]);
+    assert_eq!((&list[4..9], &list[9..]), (&[12, 0, 0, 0, 8][..], &listed([1, 2, 3, 4, 5, 6, 7, 8])[..]));
     assert_eq!(reply(&mut g, &[&[18][..], &string(&key(2).1)].concat(), 0), SUCCESS);
     assert_eq!(reply(&mut g, &added(9, &[]), 0), SUCCESS);
-    assert_eq!(g.keys().nth(1).unwrap().blob, key(9).1);
+    assert_eq!(g.keys().last().unwrap().blob, key(9).1);
+    assert_eq!(reply(&mut g, &[11], 0)[9..], listed([1, 9, 3, 4, 5, 6, 7, 8]));
     assert_eq!(reply(&mut g, &[19], 0), SUCCESS);
     assert_eq!(g.keys().count(), 0);
 }

@@ -6,6 +6,9 @@ use crate::flat::answers_of;
 use crate::flat::flat_of;
 use crate::flat::split;
 use crate::lent::serve;
+use lookups::HeldKey;
+use lookups::held::key_of;
+use lookups::order::next_of;
 use rule::Millis;
 use table::State;
 use table::fresh;
@@ -14,6 +17,7 @@ ghost use mathlib.Core.Path.{_≡_};
 ghost use Rattle.rule.specs.Gateway.{fresh as freshGateway};
 ghost use Rattle.table.specs.Meaning.{stateOf};
 ghost use Rattle.table.specs.Soundness.{soundState};
+ghost use Rattle.lookups.specs.Told.{keyTold, nextTold};
 ghost use Rattle.gateway.specs.Flat.{FlatMeets, flatSplit};
 
 #[no_mangle]
@@ -53,4 +57,20 @@ pub extern "C" fn key_agent_split(bytes: &[u8]) -> FlatSplit
     ensures { λ r. ⌜ r ≡ flatSplit (now (bytes .entry)) ⌝ }
 {
     split(bytes)
+}
+
+// What a host needs of the key that a question named; number 0 where none is held, and where state and store are not sound.
+#[no_mangle]
+pub extern "C" fn key_agent_key(state: State, store: &[u8], number: u64) -> HeldKey
+    ensures { λ r. ⌜ r ≡ keyTold state (now (store .entry)) number ⌝ }
+{
+    key_of(state, store, number)
+}
+
+// The least held number above `after`, 0 where there is none or state and store are not sound: from 0 on, all held keys in order of insertion.
+#[no_mangle]
+pub extern "C" fn key_agent_next(state: State, store: &[u8], after: u64) -> u64
+    ensures { λ r. ⌜ r ≡ nextTold state (now (store .entry)) after ⌝ }
+{
+    next_of(state, store, after)
 }

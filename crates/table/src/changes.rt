@@ -26,7 +26,7 @@ ghost use Rattle.table.specs.Soundness.{Sound, Means};
 ghost use Rattle.table.specs.Changes.{Standing, MayPut};
 
 // Lifetimes count seconds and the clock counts milliseconds.
-pub(crate) fn millis_of(seconds: Seconds) -> Millis
+pub fn millis_of(seconds: Seconds) -> Millis
     ensures { λ r. ⌜ r .count ≡ millisOf seconds ⌝ }
 {
     Millis {

@@ -52,7 +52,7 @@ pub struct State {
 }
 
 // What a flag says.
-fn is_set(flag: u8) -> bool
+pub fn is_set(flag: u8) -> bool
     ensures { λ r. ⌜ r ≡ isSet flag ⌝ }
 {
     flag == 1

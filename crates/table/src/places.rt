@@ -21,7 +21,7 @@ ghost use Rattle.table.specs.Meaning.{isSet, gatewayOf, placeOf, blobIn,
 ghost use Rattle.table.specs.Soundness.{Sound};
 
 // Where the bytes of place i begin; those of the last end where a ninth place would begin.
-pub(crate) fn start_of(i: usize) -> usize
+pub fn start_of(i: usize) -> usize
     requires { ⌜ i ≤ 8 ⌝ }
     ensures { λ r. ⌜ r ≡ i * placeSize ⌝ }
 {

@@ -57,6 +57,7 @@ fn main() {
 /// The exit status, the log, and whether its last line is to be written.
 fn run(options: Options, made: &mut Made) -> Result<(i32, log::Log, bool), String> {
     let before = process::keep_to_ourselves();
+    process::lock_all();
     let signals = process::signals().map_err(|e| e.desc().to_string())?;
     let (agent, panel_listener, path) = all_sockets(&options, made)?;
     let has_command = !options.command.is_empty();

@@ -26,6 +26,22 @@ pub fn keep_to_ourselves() -> Before {
     before
 }
 
+/// Locks all memory, the library's copies of keys too, where no limit stands against it; is it locked? With a limit each buffer is locked for itself.
+pub fn lock_all() -> bool {
+    const MCL_ONFAULT: i32 = 4; // linux/mman.h
+    let is_unlimited = getrlimit(Resource::RLIMIT_MEMLOCK).map_or(false, |(soft, _)| soft == libc::RLIM_INFINITY);
+    // SAFETY: locks pages as they are used, and alters none.
+    (is_unlimited || may_lock()) && unsafe { libc::mlockall(libc::MCL_CURRENT | libc::MCL_FUTURE | MCL_ONFAULT) } == 0
+}
+
+/// Has the process the capability that stands above the limit?
+fn may_lock() -> bool {
+    const CAP_IPC_LOCK: u64 = 1 << 14;
+    let status = std::fs::read_to_string("/proc/self/status").unwrap_or_default();
+    let effective = status.lines().find_map(|l| l.strip_prefix("CapEff:")).and_then(|v| u64::from_str_radix(v.trim(), 16).ok());
+    effective.map_or(false, |bits| bits & CAP_IPC_LOCK != 0)
+}
+
 /// The connections that can be served beside what else takes a descriptor.
 pub fn most_connections(wished: u32) -> usize {
     let files = getrlimit(Resource::RLIMIT_NOFILE).map_or(1024, |(soft, _)| soft);

@@ -13,13 +13,16 @@ use crate::workers::{Answer, Source, Wake, Work, Workers};
 use key_agent::{Hash, Numbered, Outcome, Question, MAX_SIGNATURE};
 use nix::libc;
 use nix::sys::epoll::{epoll_create1, epoll_ctl, epoll_wait, EpollCreateFlags, EpollEvent, EpollFlags, EpollOp};
-use nix::sys::signal::Signal;
+use nix::sys::signal::{kill, Signal};
 use nix::sys::signalfd::SignalFd;
+use nix::unistd::Pid;
 use std::collections::{HashMap, VecDeque};
 use std::io::ErrorKind;
 use std::ops::Range;
 use std::os::unix::io::{AsRawFd, RawFd};
-use std::os::unix::net::UnixListener;
+use std::os::unix::net::{UnixListener, UnixStream};
+use std::os::unix::process::ExitStatusExt;
+use std::process::ExitStatus;
 use std::sync::mpsc::Receiver;
 
 // What the loop is woken by; connections and panels have the numbers above.
@@ -201,7 +204,7 @@ impl Loop {
         self.watch_for(fd, from, false, false);
     }
 
-    fn take_client(&mut self, stream: std::os::unix::net::UnixStream) {
+    fn take_client(&mut self, stream: UnixStream) {
         self.opened += 1;
         let name = format!("conn {}", self.opened);
         let peer = match let_in(&stream) {
@@ -239,7 +242,7 @@ impl Loop {
         }
     }
 
-    fn take_panel(&mut self, stream: std::os::unix::net::UnixStream) {
+    fn take_panel(&mut self, stream: UnixStream) {
         if let Err(why) = let_in(&stream) {
             return self.set.log.write(Level::Warn, "panel", "", &format!("refused: {why}"));
         }
@@ -334,6 +337,7 @@ impl Loop {
                     self.set.log.write(Level::Info, &c.name, &names::message(&c.bytes()[request.payload.clone()]), &text);
                 }
                 c.drop_front(request.payload.end);
+                c.active = self.set.clock.reading();
                 Ok(c.send(self.core.reply())?)
             }
         }
@@ -502,7 +506,10 @@ impl Loop {
         };
         request.waiting = None;
         let result = match answer {
-            Answer::Panicked => return Err(End("closed: a fault in the signer".to_string())),
+            Answer::Panicked => {
+                self.set.log.write(Level::Error, &c.name, "", "a fault in the signer");
+                return Err(End("closed: a fault in the signer".to_string()));
+            }
             Answer::Checked(found) => {
                 request.lent.check = Some(found.is_ok());
                 found.map_or_else(|why| format!("no: {why}"), |kind| format!("yes: {kind}"))
@@ -569,12 +576,18 @@ impl Loop {
 
     fn on_signal(&mut self) -> Option<i32> {
         let signal = self.set.signals.read_signal().ok().flatten()?;
-        if signal.ssi_signo != Signal::SIGCHLD as u32 {
-            return Some(0);
+        let signal = Signal::try_from(signal.ssi_signo as i32).ok()?;
+        match (&mut self.set.child, signal) {
+            (Some(child), Signal::SIGCHLD) => child.try_wait().ok().flatten().map(status_of),
+            (None, Signal::SIGCHLD) => None,
+            // the agent ends with its command, which has Ctrl-C from the terminal itself
+            (Some(_), Signal::SIGINT) => None,
+            (Some(child), _) => {
+                let _ = kill(Pid::from_raw(child.id() as i32), signal);
+                None
+            }
+            (None, _) => Some(0),
         }
-        let status = self.set.child.as_mut()?.try_wait().ok().flatten()?;
-        use std::os::unix::process::ExitStatusExt;
-        Some(status.code().unwrap_or_else(|| 128 + status.signal().unwrap_or(0)))
     }
 
     // --- After the events of a turn
@@ -688,6 +701,10 @@ impl Loop {
     }
 }
 
+fn status_of(ended: ExitStatus) -> i32 {
+    ended.code().unwrap_or_else(|| 128 + ended.signal().unwrap_or(0))
+}
+
 fn hung_up(c: &Connection) -> End {
     match c.request.as_ref().and_then(|r| r.waiting) {
         Some(Waiting::Question(n)) => End(format!("closed: hung up while question {n} was open")),
@@ -695,7 +712,7 @@ fn hung_up(c: &Connection) -> End {
     }
 }
 
-fn let_in(stream: &std::os::unix::net::UnixStream) -> Result<Peer, String> {
+fn let_in(stream: &UnixStream) -> Result<Peer, String> {
     let peer = Peer::of(stream).map_err(|e| format!("nobody says who it is: {}", e.desc()))?;
     if peer.is_let_in() {
         Ok(peer)

@@ -1,4 +1,5 @@
-//! Threads for cryptography, so that the loop waits for none of it. Signatures go before key checks, and checks never take every thread.
+//! Threads for cryptography, so that the loop waits for none of it. One thread takes key checks first, the others signatures, and checks never
+//! take every thread: neither kind holds up the other.
 use crate::keys::Key;
 use crate::secret::{wipe_stack, Secret};
 use key_agent::Hash;
@@ -81,7 +82,7 @@ impl Workers {
         let shared = Arc::new(shared);
         for n in 0..threads {
             let shared = shared.clone();
-            thread::Builder::new().name(format!("worker {n}")).spawn(move || shared.run())?;
+            thread::Builder::new().name(format!("worker {n}")).spawn(move || shared.run(n == 0))?;
         }
         Ok(Workers { shared, last: 0 })
     }
@@ -95,7 +96,7 @@ impl Workers {
             _ => queue.signs.push_back((self.last, work)),
         }
         drop(queue);
-        self.shared.more.notify_one();
+        self.shared.more.notify_all();
         self.last
     }
 
@@ -112,9 +113,9 @@ impl Workers {
 }
 
 impl Shared {
-    fn run(&self) {
+    fn run(&self, is_for_checks: bool) {
         loop {
-            let (number, work) = self.next();
+            let (number, work) = self.next(is_for_checks);
             let is_check = matches!(work, Work::Check { .. });
             let answer = catch_unwind(AssertUnwindSafe(|| carry_out(work))).unwrap_or(Answer::Panicked);
             wipe_stack();
@@ -127,20 +128,30 @@ impl Shared {
         }
     }
 
-    fn next(&self) -> (u64, Work) {
+    fn next(&self, is_for_checks: bool) -> (u64, Work) {
         let mut queue = self.queue.lock().expect("no panic under it");
         loop {
-            if let Some(work) = queue.signs.pop_front() {
-                return work;
+            let found = if is_for_checks {
+                queue.check(self.most_checks).or_else(|| queue.signs.pop_front())
+            } else {
+                queue.signs.pop_front().or_else(|| queue.check(self.most_checks))
+            };
+            match found {
+                Some(work) => return work,
+                None => queue = self.more.wait(queue).expect("no panic under it"),
             }
-            if queue.checking < self.most_checks {
-                if let Some(work) = queue.checks.pop_front() {
-                    queue.checking += 1;
-                    return work;
-                }
-            }
-            queue = self.more.wait(queue).expect("no panic under it");
         }
+    }
+}
+
+impl Queue {
+    fn check(&mut self, most: usize) -> Option<(u64, Work)> {
+        if self.checking >= most {
+            return None;
+        }
+        let work = self.checks.pop_front()?;
+        self.checking += 1;
+        Some(work)
     }
 }
 

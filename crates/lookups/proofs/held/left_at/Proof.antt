@@ -1,0 +1,31 @@
+-- Without a lifetime nothing is left; with one, what the time since the reading has not used up. Assumes nothing.
+use native.Mathlib.Omega.{arith}
+use borrow.Author.Needs.{needs}
+use borrow.Author.Tests.{not-true, not-false}
+use Rattle.wire.specs.Steps.{so}
+use Rattle.lookups.specs.Told.{leftAt}
+use Rattle.lookups.proofs.held.left_at.Statement.{statement}
+use Rattle.lookups.proofs.held.left_at.Tie as tie
+
+returns : tie.Need-returns
+unfolding leftAt so
+returns c = let asked = c .before .is-set in rw (← asked .ensures, not-true (asked .result) (c .if1 .taken))
+
+returns-2 : tie.Need-returns-2
+unfolding leftAt so
+returns-2 c =
+    let limited = c .before .before .before .before .before .before in
+    let asked = limited .before .is-set in
+    rw (← asked .ensures, not-false (asked .result) (limited .if1 .left)) (omega arith)
+
+returns-3 : tie.Need-returns-3
+unfolding leftAt so
+returns-3 c =
+    let limited = c .before .before .before .before .before .before .before in
+    let asked = limited .before .is-set in
+    rw (← asked .ensures, not-false (asked .result) (limited .if1 .left)) (omega arith)
+
+pub left-at-spec : {M : Type 1} → statement M
+left-at-spec =
+    tie.close
+    (tie.spec (λ c κs. search needs) returns (λ c κs. search needs) (λ c. search needs) returns-2 (λ c. search needs) returns-3)

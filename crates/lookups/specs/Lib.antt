@@ -1,0 +1,2 @@
+-- The definitions that contracts cite, and the statements of what is promised.
+pub mod Told
