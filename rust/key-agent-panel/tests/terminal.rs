@@ -207,9 +207,12 @@ fn stopped_and_going_on() {
     assert!(matches!(stopped, WaitStatus::Stopped(..)));
     assert!(s.t.is_put_back());
     s.agent.say(&[LIST]);
+    std::thread::sleep(std::time::Duration::from_millis(1200)); // a second that would be drawn
     s.t.send(Signal::SIGCONT);
     s.t.see(&["3  LIST"]);
     assert!(!s.t.is_put_back());
+    let text = String::from_utf8(s.t.output.clone()).unwrap();
+    assert!(text.split(LEAVE).nth(1).unwrap().starts_with("\x1b[?1049h"), "{text:?}");
     s.t.press("q");
     assert_eq!(s.t.ends().code(), Some(0));
     assert!(s.t.is_put_back());
