@@ -3,3 +3,4 @@ pub mod FlatSteps
 pub mod FlatLaws
 pub mod WithinLaws
 pub mod ExportLaws
+pub mod AskedLaws

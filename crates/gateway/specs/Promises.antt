@@ -1,4 +1,5 @@
--- What the flat values and the exported call promise, as statements; the proofs are in proofs/FlatLaws.antt, WithinLaws.antt and ExportLaws.antt.
+-- What the flat values and the exported call promise, as statements; the proofs are in proofs/FlatLaws.antt, WithinLaws.antt, ExportLaws.antt and
+-- AskedLaws.antt.
 use Prim.Native.Nat.{ℕ, _+_, _≤_}
 use mathlib.Core.Path.{_≡_}
 use mathlib.Core.Logic.{_⊎_, _≢_}
@@ -7,6 +8,7 @@ use mathlib.Core.List.{List, [], _∷_}
 use lib.ListN.{length}
 use lib.Dec.{eqb}
 use Rattle.wire.specs.Limits.{passphraseLimit, replyRoom}
+use Rattle.wire.specs.Numbers.{Bytes}
 use Rattle.wire.specs.Steps.{so}
 use Rattle.wire.specs.Read.{cutOf}
 use Rattle.wire.specs.Frames.{splitOf, framePayload}
@@ -14,7 +16,8 @@ use Rattle.wire.specs.Promises.{OneToOne}
 use Rattle.rule.specs.declared.Millis.{Millis}
 use Rattle.rule.specs.Examples.{oneKey, signWith}
 use Rattle.table.specs.declared.State.{State}
-use Rattle.table.specs.Soundness.{Means}
+use Rattle.table.specs.Soundness.{Sound, Means}
+use Rattle.lookups.specs.Told.{keyTold}
 use Rattle.requests.specs.declared.Said.{Said}
 use Rattle.requests.specs.declared.Said.the-variants as said
 use Rattle.requests.specs.declared.Confirmed.{Confirmed}
@@ -155,6 +158,22 @@ pub record FlagsTold : Type 0 where
   pub flags-6 : TellsBits 6 256
   pub flags-4 : TellsBits 4 512
   pub flags-1 : TellsBits 1 0
+
+-- ## What a question is about
+
+-- `key_agent_key` tells of the number that was asked about, in the state and store that the call left
+pub record AskedTold (outcome : FlatOutcome) (after : State) (storeAfter : List ℕ) : Type 0 where
+  pub told : keyTold after storeAfter (outcome .number) .number ≢ 0
+  pub number : keyTold after storeAfter (outcome .number) .number ≡ outcome .number
+  pub confirm : outcome .kind ≡ 3 → keyTold after storeAfter (outcome .number) .confirm ≡ 1
+
+-- for every confirmation and every signature that is asked for
+abbrev pub AskedIsTold : Type 0
+AskedIsTold =
+    (state : State) (store payload : List ℕ) (reading : Millis) (answers : FlatAnswers) (signature buffer : List ℕ) (outcome : FlatOutcome) (after : State)
+    (storeAfter reply : List ℕ)
+    → Sound state store → Bytes payload → FlatMeets state store payload reading answers signature buffer outcome after storeAfter reply
+    → (outcome .kind ≡ 3) ⊎ (outcome .kind ≡ 4) → AskedTold outcome after storeAfter
 
 -- ## The split
 

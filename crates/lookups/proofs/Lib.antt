@@ -2,3 +2,5 @@
 pub mod EntryLaws
 pub mod LeastLaws
 pub mod ToldLaws
+pub mod HeldLaws
+pub mod NextLaws

@@ -1,2 +1,3 @@
 -- The definitions that contracts cite, and the statements of what is promised.
 pub mod Told
+pub mod Promises

@@ -1,5 +1,6 @@
 //! One client: the bytes that it has sent, the request that waits, the reply that is on its way.
 use crate::core::Lent;
+use crate::names::is_telling;
 use crate::secret::Secret;
 use crate::sockets::Peer;
 use key_agent::{split, Split};
@@ -133,12 +134,14 @@ impl Connection {
         }
     }
 
-    /// How a frame was cut where the client has ended within one.
+    /// How a frame was cut where the client has ended within one. Of a passphrase not even the length is told.
     pub fn cut(&self) -> Option<String> {
         let bytes = self.bytes();
         match bytes.len() {
             0 => None,
             n @ 1..=3 => Some(format!("cut frame: {n} of 4 bytes of its length")),
+            4 => Some("cut frame: nothing of its payload".to_string()),
+            _ if is_telling(&bytes[4..]) => Some("cut frame: a part of its payload".to_string()),
             n => Some(format!("cut frame: {} of {} bytes of its payload", n - 4, announced(bytes))),
         }
     }

@@ -1,7 +1,7 @@
 //! What the process keeps from others, and the signals that it hears.
 use nix::libc;
 use nix::sys::resource::{getrlimit, setrlimit, Resource};
-use nix::sys::signal::{SigSet, Signal};
+use nix::sys::signal::{signal, SigHandler, SigSet, Signal};
 use nix::sys::signalfd::{SfdFlags, SignalFd};
 use std::os::unix::process::CommandExt;
 use std::process::{Child, Command};
@@ -10,13 +10,15 @@ use std::process::{Child, Command};
 pub struct Before {
     core: Option<(u64, u64)>,
     files: Option<(u64, u64)>,
+    mask: SigSet,
 }
 
 /// Nobody attaches to us or reads our memory, no core file is written, and as many descriptors as the system allows are ours.
 pub fn keep_to_ourselves() -> Before {
     // SAFETY: sets an attribute of this process.
     unsafe { libc::prctl(libc::PR_SET_DUMPABLE, 0, 0, 0, 0) };
-    let before = Before { core: getrlimit(Resource::RLIMIT_CORE).ok(), files: getrlimit(Resource::RLIMIT_NOFILE).ok() };
+    let mask = SigSet::thread_get_mask().unwrap_or_else(|_| SigSet::empty());
+    let before = Before { core: getrlimit(Resource::RLIMIT_CORE).ok(), files: getrlimit(Resource::RLIMIT_NOFILE).ok(), mask };
     if let Some((_, hard)) = before.core {
         let _ = setrlimit(Resource::RLIMIT_CORE, 0, hard);
     }
@@ -50,19 +52,33 @@ pub fn most_connections(wished: u32) -> usize {
 
 /// Those that end the agent, and a command's end. To be called before any thread is started, so that all of them leave these to the loop.
 pub fn signals() -> nix::Result<SignalFd> {
+    // SAFETY: no handler is set. Where it was ignored the system would not tell us of a command's end.
+    unsafe { signal(Signal::SIGCHLD, SigHandler::SigDfl) }?;
     let mut set = SigSet::empty();
-    for s in [Signal::SIGINT, Signal::SIGTERM, Signal::SIGHUP, Signal::SIGCHLD] {
+    for s in [Signal::SIGINT, Signal::SIGTERM, Signal::SIGCHLD] {
         set.add(s);
+    }
+    if !is_hangup_ignored() {
+        set.add(Signal::SIGHUP);
     }
     set.thread_block()?;
     SignalFd::with_flags(&set, SfdFlags::SFD_NONBLOCK | SfdFlags::SFD_CLOEXEC)
 }
 
-/// Starts a command under the agent, with the limits that we had.
+/// As `nohup` leaves it.
+fn is_hangup_ignored() -> bool {
+    // SAFETY: only asks, into a local of plain numbers.
+    unsafe {
+        let mut now: libc::sigaction = std::mem::zeroed();
+        libc::sigaction(libc::SIGHUP, std::ptr::null(), &mut now) == 0 && now.sa_sigaction == libc::SIG_IGN
+    }
+}
+
+/// Starts a command under the agent, with the limits and the signals that we had.
 pub fn start(words: &[std::ffi::OsString], socket: &std::path::Path, before: Before) -> Result<Child, String> {
     let mut command = Command::new(&words[0]);
     command.args(&words[1..]).env("SSH_AUTH_SOCK", socket).env("SSH_AGENT_PID", std::process::id().to_string());
-    // SAFETY: setrlimit may be called between fork and exec. The signal mask is emptied by the library.
+    // SAFETY: both calls may be made between fork and exec.
     unsafe {
         command.pre_exec(move || {
             for (what, value) in [(Resource::RLIMIT_CORE, before.core), (Resource::RLIMIT_NOFILE, before.files)] {
@@ -70,7 +86,7 @@ pub fn start(words: &[std::ffi::OsString], socket: &std::path::Path, before: Bef
                     let _ = setrlimit(what, soft, hard);
                 }
             }
-            Ok(())
+            Ok(before.mask.thread_set_mask()?)
         });
     }
     command.spawn().map_err(|e| format!("{}: {e}", words[0].to_string_lossy()))

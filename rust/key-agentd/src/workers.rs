@@ -96,7 +96,7 @@ impl Workers {
             _ => queue.signs.push_back((self.last, work)),
         }
         drop(queue);
-        self.shared.more.notify_all();
+        self.shared.more.notify_one(); // whoever waits can take it, or is not needed
         self.last
     }
 
@@ -121,7 +121,6 @@ impl Shared {
             wipe_stack();
             if is_check {
                 self.queue.lock().expect("no panic under it").checking -= 1;
-                self.more.notify_one();
             }
             self.done.lock().expect("no panic under it").push((number, answer));
             self.wake.call();

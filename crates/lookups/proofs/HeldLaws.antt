@@ -1,0 +1,282 @@
+-- What is promised of one key: the search ends at the place that holds it, and what is told of it there is the key's.
+use Prim.Native.Nat.{ℕ, zero, suc, _+_, _*_, _-_, max, _≤_, _<_}
+use mathlib.Core.Path.{_≡_, refl, sym, ap, _∙_, subst}
+use mathlib.Core.Logic.{_≢_, _⊎_, inl, inr}
+use mathlib.Core.Bool.{Bool, true, false}
+use mathlib.Core.Option.{none, some}
+use mathlib.Core.List.{List, [], _∷_}
+use native.Mathlib.Omega.{arith}
+use native.Mathlib.Nat.{max-eq-right}
+use borrow.Author.Tests.{eq-eqb, le-leb, lt-leb, leb-true}
+use lib.Dec.{leb}
+use lib.ListN.{length, getD, take, drop, length-replicate}
+use lib.Seq.{take-take, drop-drop, length-take-le}
+use Rattle.wire.specs.declared.Seconds.{Seconds}
+use Rattle.wire.specs.Limits.{placeSize, storeSize, blobLimit, fieldsLimit, fieldsAt, commentLimit, passphraseLimit}
+use Rattle.wire.specs.Read.{cutOf}
+use Rattle.wire.specs.Steps.{so}
+use Rattle.wire.proofs.Reading.{le-or-lt, cut-there}
+use Rattle.keys.specs.declared.constraints.Lifetime.{Lifetime}
+use Rattle.keys.specs.declared.constraints.Lifetime.the-variants.{Forever, For}
+use Rattle.rule.specs.declared.Found.{Found}
+use Rattle.rule.specs.declared.Found.the-variants.{At, Nothing}
+use Rattle.rule.specs.Gateway.{Entry as Key, Place, Gateway, millisOf, dueAt, lasting, atClock, advance, seek, found}
+use Rattle.rule.specs.Soundness as rule
+use Rattle.rule.specs.Soundness.{Distinct, SoundEntry}
+use Rattle.rule.specs.Content.{HeldAt}
+use Rattle.rule.proofs.Cases.{true-not-false, so-cases}
+use Rattle.rule.proofs.PlaceLaws.{some-not-none, same-entry, Holds, every-at, distinct-at, getD-map, First, seek-first, seek-none}
+use Rattle.table.specs.declared.Comment.{Comment}
+use Rattle.table.specs.declared.Entry.{Entry}
+use Rattle.table.specs.declared.State.{State}
+use Rattle.table.specs.Bytes.{padded}
+use Rattle.table.specs.Meaning.{gatewayOf, placeOf, keyOf, noEntry, keptComment, flagOf, limitedFlag, entryFor}
+use Rattle.table.specs.Soundness.{soundState, Sound}
+use Rattle.table.proofs.ByteLaws.{padded-size, padded-front, padded-rest}
+use Rattle.table.proofs.TestLaws.{sound-state-rule}
+use Rattle.table.proofs.WritingLaws.{sound-meaning}
+use Rattle.table.proofs.ReadLaws.{partAt, part-size, view-at, place-free, place-held}
+use Rattle.lookups.specs.declared.HeldKey.{HeldKey}
+use Rattle.lookups.specs.Told.{hasNumber, leftAt, nothing, toldOf, keyTold}
+use Rattle.lookups.specs.Promises.{Held, Arrays, Says, Tells, KeyRule, LeftSays, LeftRule, AllZero, NothingRule, ToldRule, PartsWithin, PartsRule}
+use Rattle.lookups.proofs.EntryLaws.{entry-is}
+use Rattle.lookups.proofs.ToldLaws.{Numbered, number-there, key-unsound, key-absent, key-found, numbered-at}
+
+-- ## The search
+
+holds-inside : (ps : List Place) (i : ℕ) (k : Key) → Holds ps i k → i < length ps
+holds-inside [] i k h = absurd (some-not-none (sym h))
+holds-inside (p ∷ ps) zero k h = omega arith
+holds-inside (p ∷ ps) (suc i) k h = let r = holds-inside ps i k h in omega arith
+
+at-not-nothing : {i : ℕ} → At i ≡ Nothing → ⊥
+at-not-nothing e = let z : _≡_ {A = ℕ} 0 1 = cc in omega arith
+
+module _ (ps : List Place) (d : Distinct ps) (i : ℕ) (k : Key) (there : Holds ps i k) where
+  passes : hasNumber (k .number) (getD ps i none) ≡ true
+  passes = ap (hasNumber (k .number)) there ∙ eq-eqb (k .number) (k .number) refl
+
+  -- among distinct entries the search finds the one that has the number
+  pub number-found : seek (hasNumber (k .number)) 0 ps ≡ At i
+  number-found = by-end (seek (hasNumber (k .number)) 0 ps) refl
+    where
+      by-end : (f : Found) → seek (hasNumber (k .number)) 0 ps ≡ f → f ≡ At i
+      by-end Nothing e = absurd (true-not-false (sym passes ∙ seek-none (hasNumber (k .number)) 0 ps e i (holds-inside ps i k there)))
+      by-end (At j) e = ap At (same-place (le-or-lt j i) (le-or-lt i j))
+        where
+          other : Numbered (k .number) (getD ps j none)
+          other = number-there (k .number) (getD ps j none) (seek-first (hasNumber (k .number)) ps j e .passes)
+
+          apart : j ≢ i → ⊥
+          apart n = distinct-at ps d j i (other .key) k n (other .there) there .numbers (other .is)
+
+          same-place : (j ≤ i) ⊎ (i < j) → (i ≤ j) ⊎ (j < i) → j ≡ i
+          same-place (inl a) (inl b) = omega arith
+          same-place (inr a) both = absurd (apart (λ e. omega arith))
+          same-place (inl a) (inr b) = absurd (apart (λ e. omega arith))
+
+-- ## What is told of a held key
+
+pub is-sound : (s : State) (x : List ℕ) → Sound s x → soundState s x ≡ true
+is-sound s x S = sound-state-rule s x (S .eight-entries) (S .lock .record-size) .1 S
+
+module _ (s : State) (x : List ℕ) (i : ℕ) (k : Key) (S : Sound s x) (there : HeldAt (gatewayOf s x) i k) where
+  abbrev g : Gateway
+  g = gatewayOf s x
+
+  meant : rule.Sound g
+  meant = sound-meaning s x S
+
+  told-held : keyTold s x (k .number) ≡ toldOf (s .clock .count) i k
+  told-held = sym (key-found s x (k .number) (is-sound s x S) i k (number-found (g .places) (meant .distinct) i k there) there)
+
+  pub key-sound : SoundEntry (g .clock) (g .next) k
+  key-sound = every-at (SoundEntry (g .clock) (g .next)) (g .places) (meant .entries) i k there
+
+  inside : i < 8
+  inside = let h = holds-inside (g .places) i k there in let eight = meant .eight-places in omega arith
+
+  entry : getD (s .entries) i noEntry ≡ entryFor (some k)
+  entry = entry-is s x S i inside k there
+
+  -- its bytes are those of its place
+  key-is : k ≡ keyOf (getD (s .entries) i noEntry) (partAt x i)
+  unfolding gatewayOf entryFor
+  key-is =
+      let e = getD (s .entries) i noEntry in
+      let same-number : e .number ≡ k .number = ap (λ (e : Entry). e .number) entry in
+      let first = key-sound .number-first in
+      same-entry (sym there ∙ view-at (s .entries) x (S .eight-entries) i inside ∙ place-held e (partAt x i) (λ never. omega arith))
+
+-- a part of a place is a part of the store
+front : (at n w : ℕ) (l : List ℕ) → at + n ≤ w → take n (drop at (take w l)) ≡ take n (drop at l)
+front zero n w l h = take-take n w l (omega arith)
+front (suc at) n zero l h = absurd (omega arith)
+front (suc at) n (suc w) [] h = refl
+front (suc at) n (suc w) (b ∷ l) h = front at n w l (omega arith)
+
+part-cut : (x : List ℕ) (o at n f : ℕ) (v : List ℕ) → v ≡ take n (drop at (take placeSize (drop o x))) → length v ≡ n → at + n ≤ placeSize → o + placeSize ≤ length x → f ≡ o + at
+    → cutOf x f (f + length v) ≡ v
+part-cut x o at n f v v-is long fits room f-is =
+    let span : f + length v - f ≡ n = omega arith in
+    sym (cut-there x f (f + length v) (omega arith) (omega arith))
+    ∙ (λ j. take (span j) (drop (f-is j) x))
+    ∙ ap (take n) (sym (drop-drop at o x))
+    ∙ sym (front at n placeSize (drop o x) fits)
+    ∙ sym v-is
+
+kept-says : (c : List ℕ) → length c ≤ commentLimit → Says (keptComment c) c
+unfolding keptComment
+kept-says c h = record { long = refl; text-is = padded-front commentLimit c; rest = padded-rest commentLimit c; whole = padded-size commentLimit c h }
+
+module _ (s : State) (x : List ℕ) (i : ℕ) (k : Key) (S : Sound s x) (there : HeldAt (gatewayOf s x) i k) where
+  told-tells : Tells x k (toldOf (s .clock .count) i k)
+  unfolding toldOf entryFor
+  told-tells =
+      let e = getD (s .entries) i noEntry in
+      let written = entry s x i k S there in
+      let bytes = key-is s x i k S there in
+      let lengths = key-sound s x i k S there .lengths in
+      let blob-fits = lengths .blob-fits in
+      let fields-fit = lengths .fields-fit in
+      let within = inside s x i k S there in
+      let whole = S .store-size in
+      let room : i * placeSize + placeSize ≤ length x = omega arith in
+      let blob-long : length (k .blob) ≡ e .«blob_len» = sym (ap (λ (e : Entry). e .«blob_len») written) in
+      let fields-long : length (k .fields) ≡ e .«fields_len» = sym (ap (λ (e : Entry). e .«fields_len») written) in
+      record {
+        number = refl;
+        confirm = λ yes. ap flagOf yes;
+        no-confirm = λ no. ap flagOf no;
+        limited = λ seconds l. ap limitedFlag l;
+        unlimited = λ l. ap limitedFlag l;
+        blob = part-cut x (i * placeSize) 0 (e .«blob_len») (i * placeSize) (k .blob) (ap (λ (k : Key). k .blob) bytes) blob-long (omega arith) room (omega arith);
+        fields = part-cut x (i * placeSize) fieldsAt (e .«fields_len») (i * placeSize + fieldsAt) (k .fields) (ap (λ (k : Key). k .fields) bytes) fields-long (omega arith) room refl;
+        comment = kept-says (k .comment) (lengths .comment-fits);
+      }
+
+  told-within : PartsWithin x (toldOf (s .clock .count) i k)
+  unfolding toldOf keptComment
+  told-within =
+      let lengths = key-sound s x i k S there .lengths in
+      let blob-fits = lengths .blob-fits in
+      let fields-fit = lengths .fields-fit in
+      let within = inside s x i k S there in
+      let whole = S .store-size in
+      record { blob-ordered = omega arith; blob-within = omega arith; fields-ordered = omega arith; fields-within = omega arith; comment-within = lengths .comment-fits }
+
+pub key-rule : KeyRule
+key-rule s x i k S there = subst (Tells x k) (sym (told-held s x i k S there)) (told-tells s x i k S there)
+
+-- ## What is left
+
+due-gone : (clock : ℕ) (k : Key) → dueAt clock (k .reading) (k .lifetime) ≡ true → lasting clock (some k) ≡ none
+unfolding lasting so
+due-gone clock k t = rw t
+
+undue-stays : (clock : ℕ) (k : Key) → dueAt clock (k .reading) (k .lifetime) ≡ false → lasting clock (some k) ≡ some k
+unfolding lasting so
+undue-stays clock k t = rw t
+
+module _ (g : Gateway) (i : ℕ) (k : Key) (there : HeldAt g i k) (past : k .reading ≤ g .clock) where
+  after : (reading clock : ℕ) → max (g .clock) reading ≡ clock → getD (advance reading g .places) i none ≡ lasting clock (some k)
+  unfolding advance atClock lasting
+  after reading clock m = getD-map (lasting (max (g .clock) reading)) refl (g .places) i ∙ ap (lasting (max (g .clock) reading)) there ∙ ap (λ (c : ℕ). lasting c (some k)) m
+
+  module _ (seconds : Seconds) (l : k .lifetime ≡ For seconds) (t : ℕ) where
+    left-is : leftAt (g .clock) (k .reading) (k .lifetime) ≡ millisOf seconds - (g .clock - k .reading)
+    unfolding leftAt
+    left-is = ap (leftAt (g .clock) (k .reading)) l
+
+    due-is : dueAt (g .clock + t) (k .reading) (k .lifetime) ≡ leb (millisOf seconds) (g .clock + t - k .reading)
+    unfolding dueAt
+    due-is = ap (dueAt (g .clock + t) (k .reading)) l
+
+    then : getD (advance (g .clock + t) g .places) i none ≡ lasting (g .clock + t) (some k)
+    then = after (g .clock + t) (g .clock + t) (max-eq-right (omega arith))
+
+    goes-then : leftAt (g .clock) (k .reading) (k .lifetime) ≤ t → getD (advance (g .clock + t) g .places) i none ≡ none
+    goes-then h = then ∙ due-gone (g .clock + t) k (due-is ∙ le-leb (millisOf seconds) (g .clock + t - k .reading) (let e = left-is in omega arith))
+
+    was-left : getD (advance (g .clock + t) g .places) i none ≡ none → leftAt (g .clock) (k .reading) (k .lifetime) ≤ t
+    was-left gone = by-order (le-or-lt (millisOf seconds) (g .clock + t - k .reading))
+      where
+        by-order : (millisOf seconds ≤ g .clock + t - k .reading) ⊎ (g .clock + t - k .reading < millisOf seconds) → leftAt (g .clock) (k .reading) (k .lifetime) ≤ t
+        by-order (inl h) = let e = left-is in omega arith
+        by-order (inr h) = absurd (some-not-none (sym (undue-stays (g .clock + t) k (due-is ∙ lt-leb _ _ h)) ∙ sym then ∙ gone))
+
+  left-says : LeftSays g i k (leftAt (g .clock) (k .reading) (k .lifetime))
+  unfolding leftAt dueAt
+  left-says = record {
+    goes = λ seconds t l. (was-left seconds l t, goes-then seconds l t);
+    none-left = λ l. ap (leftAt (g .clock) (k .reading)) l;
+    stays = λ l reading. after reading _ refl ∙ undue-stays _ k (ap (dueAt _ (k .reading)) l);
+  }
+
+pub left-rule : LeftRule
+unfolding toldOf gatewayOf
+left-rule s x i k S there =
+    subst (λ (r : HeldKey). LeftSays (gatewayOf s x) i k (r .left .count)) (sym (told-held s x i k S there))
+    (left-says (gatewayOf s x) i k there (key-sound s x i k S there .reading-past))
+
+-- ## Nothing told
+
+nothing-zero : AllZero nothing
+unfolding nothing keptComment padded
+nothing-zero = record { number = refl; confirm = refl; limited = refl; left = refl; blob = (refl, refl); fields = (refl, refl); comment = (refl, refl) }
+
+-- a lookup ends so: with nothing, or with a held key of a sound pair
+data Ended (s : State) (x : List ℕ) (n : ℕ) : Type 0 where
+  untold : keyTold s x n ≡ nothing → (Sound s x → Held (gatewayOf s x) n → ⊥) → Ended s x n
+  told : (S : Sound s x) (h : Held (gatewayOf s x) n) → keyTold s x n ≡ toldOf (s .clock .count) (h .place) (h .key) → Ended s x n
+
+module _ (s : State) (x : List ℕ) (n : ℕ) (a : Arrays s) where
+  held-told : (S : Sound s x) (h : Held (gatewayOf s x) n) → keyTold s x n ≡ toldOf (s .clock .count) (h .place) (h .key)
+  held-told S h = ap (keyTold s x) (sym (h .number)) ∙ told-held s x (h .place) (h .key) S (h .there)
+
+  ended : Ended s x n
+  ended = by-test (soundState s x) refl
+    where
+      by-search : soundState s x ≡ true → (f : Found) → seek (hasNumber n) 0 (gatewayOf s x .places) ≡ f → Ended s x n
+      by-search t Nothing e = untold (sym (key-absent s x n t e)) (λ S h.
+          let there = h .there in
+          let found-there = number-found (gatewayOf s x .places) (sound-meaning s x S .distinct) (h .place) (h .key) there in
+          at-not-nothing (sym (subst (λ (m : ℕ). seek (hasNumber m) 0 (gatewayOf s x .places) ≡ At (h .place)) (h .number) found-there) ∙ e))
+      by-search t (At i) e =
+          let k = numbered-at s x n i e in
+          let S = sound-state-rule s x (a .entries) (a .lock) .0 t in
+          let h : Held (gatewayOf s x) n = record { place = i; key = k .key; there = k .there; number = k .is } in
+          told S h (held-told S h)
+
+      by-test : (b : Bool) → soundState s x ≡ b → Ended s x n
+      by-test false e = untold (sym (key-unsound s x n e)) (λ S h. true-not-false (sym (is-sound s x S) ∙ e))
+      by-test true e = by-search e (seek (hasNumber n) 0 (gatewayOf s x .places)) refl
+
+pub nothing-rule : NothingRule
+nothing-rule s x n a never = by-end (ended s x n a)
+  where
+    by-end : Ended s x n → AllZero (keyTold s x n)
+    by-end (untold e _) = subst AllZero (sym e) nothing-zero
+    by-end (told S h _) = absurd (never S h)
+
+pub told-rule : ToldRule
+unfolding toldOf
+told-rule s x n a = (by-end (ended s x n a), some-number)
+  where
+    by-end : Ended s x n → keyTold s x n .number ≢ 0 → Sound s x × Held (gatewayOf s x) n
+    by-end (untold e _) is = absurd (is (ap (λ (r : HeldKey). r .number) e ∙ nothing-zero .number))
+    by-end (told S h _) is = (S, h)
+
+    some-number : Sound s x × Held (gatewayOf s x) n → keyTold s x n .number ≢ 0
+    some-number (S, h) never =
+        let same-number : keyTold s x n .number ≡ h .key .number = ap (λ (r : HeldKey). r .number) (held-told s x n a S h) in
+        let first = key-sound s x (h .place) (h .key) S (h .there) .number-first in
+        omega arith
+
+pub parts-rule : PartsRule
+unfolding nothing keptComment
+parts-rule s x n a = by-end (ended s x n a)
+  where
+    by-end : Ended s x n → PartsWithin x (keyTold s x n)
+    by-end (untold e _) = subst (PartsWithin x) (sym e) (record { blob-ordered = omega arith; blob-within = omega arith; fields-ordered = omega arith; fields-within = omega arith; comment-within = omega arith })
+    by-end (told S h e) = subst (PartsWithin x) (sym e) (told-within s x (h .place) (h .key) S (h .there))
