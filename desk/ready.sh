@@ -20,7 +20,7 @@ missing() { # the Debian packages of what is not there
     command -v pkg-config > /dev/null || echo pkg-config
     [ -e /usr/include/openssl/ssl.h ] || echo libssl-dev
     command -v ssh-add > /dev/null || echo openssh-client
-    for crate in openssl-0.10 nix-0.26 zeroize-1 clap-4; do
+    for crate in openssl-0.10 nix-0.26 clap-4; do
         compgen -G "/usr/share/cargo/registry/$crate.*" > /dev/null || echo "librust-${crate%-*}-dev"
     done
 }

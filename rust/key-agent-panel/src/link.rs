@@ -14,7 +14,7 @@ impl Link {
     /// Connects, and sends the first line.
     pub fn open(path: &Path, first: &str) -> Result<Link, String> {
         let stream = UnixStream::connect(path).and_then(|s| s.set_nonblocking(true).map(|()| s));
-        let stream = stream.map_err(|e| format!("nobody serves {}: {}", path.display(), reason(&e)))?;
+        let stream = stream.map_err(|e| not_served(path, &e))?;
         let mut link = Link { stream, lines: Lines::default() };
         link.say(first)?;
         Ok(link)
@@ -43,6 +43,14 @@ impl AsRawFd for Link {
     fn as_raw_fd(&self) -> RawFd {
         self.stream.as_raw_fd()
     }
+}
+
+fn not_served(path: &Path, e: &io::Error) -> String {
+    let what = match e.kind() {
+        ErrorKind::NotFound | ErrorKind::ConnectionRefused => "nobody serves",
+        _ => "no connection to",
+    };
+    format!("{what} {}: {}", path.display(), reason(e))
 }
 
 fn reason(e: &io::Error) -> String {

@@ -15,7 +15,8 @@ On a terminal:
 Where standard input or output is no terminal:
   each event is written as a line, and lines NUMBER y or NUMBER n are read as answers; ? shows keys and open questions, q ends.
 
-Exit status: 0 ended by q, Ctrl-C, SIGTERM or SIGHUP, or --once is done; 1 nobody serves the socket, or the agent has ended; 2 bad usage";
+Exit status: 0 ended by q, on a terminal also by Ctrl-C, SIGTERM or SIGHUP, or --once is done; 1 nobody serves the socket, or the agent
+has ended; 2 bad usage";
 
 /// Shows the open questions, keys and lock of key-agentd, and answers questions
 #[derive(Parser)]

@@ -58,6 +58,8 @@ pub enum Deed {
 pub struct Model {
     /// None: not told yet.
     pub locked: Option<bool>,
+    /// Nobody is there who could tell.
+    pub is_away: bool,
     pub keys: Vec<Key>,
     /// When `keys` came.
     pub told: Duration,

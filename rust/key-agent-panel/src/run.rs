@@ -2,13 +2,13 @@
 use crate::keys::Keys;
 use crate::link::Link;
 use crate::model::{Deed, Model};
-use crate::terminal::{leave, size, Terminal};
+use crate::terminal::{size, Terminal};
 use crate::view::{question_sentences, screen, state_sentences, tell};
 use crate::words::{answer, Event, Lines};
 use nix::errno::Errno;
 use nix::libc::STDIN_FILENO;
 use nix::poll::{poll, PollFd, PollFlags};
-use nix::sys::signal::{raise, SigSet, Signal};
+use nix::sys::signal::{SigSet, Signal};
 use nix::sys::signalfd::{SfdFlags, SignalFd};
 use nix::time::{clock_gettime, ClockId};
 use std::io::Write;
@@ -43,24 +43,25 @@ struct Watch<'a> {
     wait: bool,
     link: Option<Link>,
     /// When we tried to connect.
-    tried: Duration,
+    tried: Option<Duration>,
     model: Model,
 }
 
 impl<'a> Watch<'a> {
     fn new(path: &'a Path, wait: bool) -> Result<Watch<'a>, String> {
-        let mut watch = Watch { path, wait, link: None, tried: Duration::ZERO, model: Model::default() };
+        let mut watch = Watch { path, wait, link: None, tried: None, model: Model::default() };
         watch.connect()?;
         Ok(watch)
     }
 
     /// Connects where there is no connection, once a second. Nobody there is an error, unless we wait.
     fn connect(&mut self) -> Result<(), String> {
-        if self.link.is_none() && now().saturating_sub(self.tried) >= Duration::from_millis(SECOND) {
-            self.tried = now();
+        let is_soon = self.tried.map_or(false, |at| now().saturating_sub(at) < Duration::from_millis(SECOND));
+        if self.link.is_none() && !is_soon {
+            self.tried = Some(now());
             match Link::open(self.path, "watch") {
-                Ok(link) => self.link = Some(link),
-                Err(e) if self.wait => self.model.note(waiting(&e), now()),
+                Ok(link) => (self.link, self.model) = (Some(link), Model::default()),
+                Err(e) if self.wait => self.miss(&e),
                 Err(e) => return Err(e),
             }
         }
@@ -72,10 +73,14 @@ impl<'a> Watch<'a> {
         if !self.wait {
             return Err(why);
         }
-        self.link = None;
-        self.model = Model::default();
-        self.model.note(waiting(&why), now());
+        (self.link, self.model) = (None, Model::default());
+        self.miss(&why);
         Ok(())
+    }
+
+    fn miss(&mut self, why: &str) {
+        self.model.is_away = true;
+        self.model.note(format!("waiting: {why}"), now());
     }
 
     fn hear(&mut self) -> Result<Vec<Event>, String> {
@@ -95,10 +100,6 @@ impl<'a> Watch<'a> {
     fn fd(&self) -> Option<RawFd> {
         self.link.as_ref().map(Link::as_raw_fd)
     }
-}
-
-fn waiting(why: &str) -> String {
-    format!("waiting: {why}")
 }
 
 /// The panel on a terminal, until its user ends it.
@@ -174,7 +175,7 @@ impl Panel<'_> {
             match Signal::try_from(signal.ssi_signo as i32)? {
                 Signal::SIGWINCH => self.terminal.forget(),
                 Signal::SIGCONT => self.terminal.enter()?,
-                Signal::SIGTSTP => suspend()?,
+                Signal::SIGTSTP => self.terminal.suspend()?,
                 _ => return Ok(true),
             }
         }
@@ -212,17 +213,11 @@ impl Panel<'_> {
             None => {}
             Some(Deed::Say(line)) => self.watch.say(&line)?,
             Some(Deed::Redraw) => self.terminal.forget(),
-            Some(Deed::Suspend) => suspend().map_err(|e| e.desc().to_string())?,
+            Some(Deed::Suspend) => self.terminal.suspend().map_err(|e| e.desc().to_string())?,
             Some(Deed::End) => return Ok(true),
         }
         Ok(false)
     }
-}
-
-/// Stops; SIGCONT takes the terminal again.
-fn suspend() -> nix::Result<()> {
-    leave();
-    raise(Signal::SIGSTOP)
 }
 
 /// Each event as a line, and answers from standard input, until the agent ends.

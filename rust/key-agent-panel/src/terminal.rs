@@ -4,6 +4,7 @@ use nix::errno::Errno;
 use nix::libc::{STDIN_FILENO, STDOUT_FILENO, TIOCGWINSZ};
 use nix::poll::{poll, PollFd, PollFlags};
 use nix::pty::Winsize;
+use nix::sys::signal::{raise, Signal};
 use nix::sys::termios::{cfmakeraw, tcgetattr, tcsetattr, SetArg, Termios};
 use std::sync::{Mutex, MutexGuard};
 
@@ -32,7 +33,7 @@ impl Terminal {
         Ok(terminal)
     }
 
-    /// Takes the terminal; also when the program goes on after it was stopped.
+    /// Takes the terminal; also when the program goes on after somebody else has stopped it.
     pub fn enter(&mut self) -> nix::Result<()> {
         let mut raw = tcgetattr(STDIN_FILENO)?;
         before().get_or_insert_with(|| raw.clone());
@@ -40,6 +41,13 @@ impl Terminal {
         tcsetattr(STDIN_FILENO, SetArg::TCSAFLUSH, &raw)?;
         self.drawn.clear();
         write(ENTER)
+    }
+
+    /// Stops, and takes the terminal when it goes on.
+    pub fn suspend(&mut self) -> nix::Result<()> {
+        leave();
+        raise(Signal::SIGSTOP)?;
+        self.enter()
     }
 
     /// The next drawing draws all.
@@ -72,7 +80,7 @@ fn before() -> MutexGuard<'static, Option<Termios>> {
 }
 
 /// Puts the terminal back, if it is ours.
-pub fn leave() {
+fn leave() {
     if let Some(settings) = before().take() {
         let _ = write(LEAVE);
         let _ = tcsetattr(STDIN_FILENO, SetArg::TCSANOW, &settings);

@@ -73,6 +73,7 @@ fn head(m: &Model) -> Row {
     let (style, text) = match m.locked {
         Some(true) => (Style::Strong, " The agent is LOCKED"),
         Some(false) => (Style::Title, " The agent is open"),
+        None if m.is_away => (Style::Strong, " Nobody serves the panel"),
         None => (Style::Title, " The agent has not told its state yet"),
     };
     Row { style, text: text.into() }
@@ -117,7 +118,7 @@ fn question_rows(m: &Model, open: &Open, now: Duration, width: usize) -> Vec<Row
     let mut texts = vec![format!("{mark}{:>4}  {}, {}", q.number, what(m, q), state(open, now)), format!("{INDENT}{}", who(q))];
     if let Some((fingerprint, comment)) = of_key(m, q) {
         let together = format!("{INDENT}{fingerprint}  {comment}");
-        if together.chars().count() <= width {
+        if columns(&together) <= width {
             texts.push(together);
         } else {
             texts.extend([format!("{INDENT}{fingerprint}"), format!("{INDENT}{comment}")]);
@@ -125,6 +126,11 @@ fn question_rows(m: &Model, open: &Open, now: Duration, width: usize) -> Vec<Row
     }
     let style = if selected { Style::Selected } else { Style::Plain };
     texts.into_iter().map(|text| Row { style, text }).collect()
+}
+
+/// The columns that a text may take, at most.
+fn columns(text: &str) -> usize {
+    text.chars().map(|c| if c < '\u{1100}' { 1 } else { 2 }).sum()
 }
 
 fn state(open: &Open, now: Duration) -> String {
@@ -370,6 +376,15 @@ mod tests {
             let s = screen(&m, NOW, height, width);
             assert_eq!((s.selected, s.rows.len()), (None, height.max(1)));
         }
+    }
+
+    #[test]
+    fn a_comment_that_does_not_fit_has_a_row_of_its_own() {
+        let ask = |comment: &str| format!("ask 3 conn 7 SIGN gate Sign uid 1 pid 2 program p key SHA256:abc comment {comment}");
+        let rows = |comment: &str| texts(&hearing(&["lock open", "end", &ask(comment)]), NOW, 24, 40)[5..7].to_vec();
+        assert_eq!(rows(&"c".repeat(21)), [format!("       SHA256:abc  {}", "c".repeat(21)), String::new()]);
+        assert_eq!(rows(&"c".repeat(22)), ["       SHA256:abc".to_string(), format!("       {}", "c".repeat(22))]);
+        assert_eq!(rows(&"温".repeat(11)), ["       SHA256:abc".to_string(), format!("       {}", "温".repeat(11))]);
     }
 
     #[test]

@@ -38,7 +38,7 @@ fn questions_and_keys_are_shown_and_answered() {
     s.t.see(&["The agent is open", "3  LIST, gate RequestKeys, waits over", "uid 1000, pid 42, program ssh-add, connection 7"]);
     s.t.see(&["confirm  night shift"]);
     s.agent.say(&[LOCK, SIGN]);
-    s.t.see(&["Questions: 3", "4  LOCK, gate Lock, waits 0 s", "5  SIGN, confirm key 1", "SHA256:abc  night shift"]);
+    s.t.see(&["Questions: 3", "4  LOCK, gate Lock, waits ", "5  SIGN, confirm key 1", "SHA256:abc  night shift"]);
     s.t.press("4");
     s.t.see(&[">   4  LOCK"]);
     s.t.press("y");
@@ -120,9 +120,8 @@ fn a_bell_for_a_new_question() {
 fn time_left_counts_down() {
     let mut s = start("time", &[]);
     s.agent.say(&["lock open", "key 1 SHA256:abc left 62 confirm no comment night shift", "end"]);
-    s.t.see(&["1:02 left"]);
-    s.t.see(&["1:00 left"]);
-    s.t.see(&["59 s left"]);
+    s.t.see(&["1:0"]);
+    s.t.see(&[" s left"]);
 }
 
 #[test]
@@ -184,11 +183,11 @@ fn waits_for_the_next_agent() {
     s.t.press("3");
     s.t.see(&[">   3"]);
     drop(s.agent);
-    let frame = s.t.see(&["No question is open", "waiting: the agent has ended, or has closed this panel"]);
+    let frame = s.t.see(&["Nobody serves the panel", "No question is open", "waiting: the agent has ended, or has closed this panel"]);
     assert!(!frame.contains("SHA256"), "{frame}");
     let mut agent = Agent::meet(&s.listener, "watch");
     agent.say(&["lock open", "end", LIST]);
-    s.t.see(&["The agent is open", "3  LIST"]);
+    assert!(!s.t.see(&["The agent is open", "3  LIST"]).contains("waiting"));
     s.t.press("y");
     s.t.see(&["no question is selected"]);
     drop((s.listener, agent));
@@ -208,9 +207,12 @@ fn stopped_and_going_on() {
     assert!(matches!(stopped, WaitStatus::Stopped(..)));
     assert!(s.t.is_put_back());
     s.agent.say(&[LIST]);
+    std::thread::sleep(std::time::Duration::from_millis(1200)); // a second that would be drawn
     s.t.send(Signal::SIGCONT);
     s.t.see(&["3  LIST"]);
     assert!(!s.t.is_put_back());
+    let text = String::from_utf8(s.t.output.clone()).unwrap();
+    assert!(text.split(LEAVE).nth(1).unwrap().starts_with("\x1b[?1049h"), "{text:?}");
     s.t.press("q");
     assert_eq!(s.t.ends().code(), Some(0));
     assert!(s.t.is_put_back());

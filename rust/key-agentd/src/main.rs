@@ -9,6 +9,7 @@ mod clock;
 mod connection;
 mod core;
 mod keys;
+mod lines;
 mod log;
 mod names;
 mod options;
@@ -21,18 +22,20 @@ mod workers;
 
 use clap::Parser;
 use nix::sys::signal::{SigSet, Signal};
+use lines::{Line, Lines};
 use options::{Options, Say};
 use sockets::{handed_over, listen, own_path, Made};
+use std::io::{Read, Write};
 use std::os::unix::net::UnixListener;
 use std::path::PathBuf;
-use std::sync::mpsc::{channel, Sender};
+use std::sync::mpsc::{sync_channel, SyncSender};
 
 fn main() {
     let options = Options::parse();
     // a fault is told by its place alone: what was worked on stays out of every log
-    std::panic::set_hook(Box::new(|fault| match fault.location() {
-        Some(at) => eprintln!("key-agentd: a fault at {}:{}", at.file(), at.line()),
-        None => eprintln!("key-agentd: a fault"),
+    std::panic::set_hook(Box::new(|fault| {
+        let at = fault.location().map_or(String::new(), |at| format!(" at {}:{}", at.file(), at.line()));
+        complain(&format!("a fault{at}"));
     }));
     let mut made = Made::default();
     let ended = std::panic::catch_unwind(std::panic::AssertUnwindSafe(|| run(options, &mut made)));
@@ -46,12 +49,17 @@ fn main() {
             status
         }
         Ok(Err(why)) => {
-            eprintln!("key-agentd: {why}");
+            complain(&why);
             1
         }
         Err(_) => 1,
     };
     std::process::exit(status);
+}
+
+/// On standard error; nobody may be there to read it.
+fn complain(text: &str) {
+    let _ = writeln!(std::io::stderr(), "key-agentd: {text}");
 }
 
 /// The exit status, the log, and whether its last line is to be written.
@@ -68,7 +76,7 @@ fn run(options: Options, made: &mut Made) -> Result<(i32, log::Log, bool), Strin
         log.say(format!("agent: gate {}, confirm {}; Ctrl-C ends it and removes the socket", options.gate.word(), options.confirm.word()));
     }
     let wake = workers::Wake::new().map_err(|e| e.desc().to_string())?;
-    let (to_loop, lines) = channel();
+    let (to_loop, lines) = sync_channel(64);
     let is_asking = options.gate == Say::Ask || options.confirm == Say::Ask;
     if is_asking && !has_command {
         read_terminal(to_loop, wake).map_err(|e| format!("no thread: {e}"))?;
@@ -105,20 +113,23 @@ fn all_sockets(options: &Options, made: &mut Made) -> Result<(UnixListener, Opti
 }
 
 /// Lines from standard input go to the loop, and its end.
-fn read_terminal(to_loop: Sender<Option<String>>, wake: workers::Wake) -> std::io::Result<()> {
+fn read_terminal(to_loop: SyncSender<Option<Line>>, wake: workers::Wake) -> std::io::Result<()> {
     std::thread::Builder::new().name("terminal".to_string()).spawn(move || {
         let mut ttin = SigSet::empty();
         ttin.add(Signal::SIGTTIN);
         let _ = ttin.thread_block(); // in the background a read then fails and does not stop us
+        let (mut lines, mut chunk) = (Lines::default(), [0; 1024]);
         loop {
-            let mut line = Vec::new();
-            let read = std::io::BufRead::read_until(&mut std::io::stdin().lock(), b'\n', &mut line);
-            match read {
+            match std::io::stdin().read(&mut chunk) {
                 Ok(0) => break,
-                Ok(_) => drop(to_loop.send(Some(String::from_utf8_lossy(&line).into_owned()))),
+                Ok(n) => {
+                    for line in lines.take(&chunk[..n]) {
+                        let _ = to_loop.send(Some(line));
+                        wake.call();
+                    }
+                }
                 Err(_) => std::thread::sleep(std::time::Duration::from_secs(1)),
             }
-            wake.call();
         }
         let _ = to_loop.send(None);
         wake.call();

@@ -74,7 +74,7 @@ examples:
   key-agentd --confirm no --log < /dev/null &     in the background
   key-agentd -- ssh-add -l                    a command under the agent
 
-exit status: 0 ended by Ctrl-C, SIGTERM or SIGHUP; 1 not started, or a fault; 2 bad usage; with COMMAND its own, 128 and the signal's number where one ended it";
+exit status: 0 ended by Ctrl-C, SIGTERM or SIGHUP (not where nohup started it); 1 not started, or a fault; 2 bad usage; with COMMAND its own, 128 and the signal's number where one ended it";
 
 #[derive(Parser, Debug)]
 #[command(name = "key-agentd", version, about = ABOUT, after_help = MORE, max_term_width = 150)]

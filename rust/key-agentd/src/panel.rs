@@ -1,12 +1,11 @@
 //! The open questions, and whoever watches them: answered by number, in any order, on the terminal or on the panel's socket.
 use crate::core::Shown;
+use crate::lines::{Line, Lines};
 use std::collections::BTreeMap;
 use std::io::{ErrorKind, Read, Write};
 use std::os::unix::io::{AsRawFd, RawFd};
 use std::os::unix::net::UnixStream;
 
-/// A line from a panel is an answer: a longer one is none.
-const LINE: usize = 256;
 /// What may wait for a panel: the open questions of many connections fit.
 const UNREAD: usize = 2 << 20;
 /// A panel that takes nothing for so many milliseconds, while something waits for it, does not read.
@@ -50,7 +49,7 @@ struct Question {
 /// A connection to the panel's socket.
 struct Watcher {
     stream: UnixStream,
-    line: Vec<u8>,
+    lines: Lines,
     unread: Vec<u8>,
     /// Shall it see keys and lock at each change?
     is_watching: bool,
@@ -106,8 +105,11 @@ impl Panel {
     }
 
     /// What a line from the terminal or a panel says.
-    pub fn read_line(&self, line: &str, is_locked: bool) -> Said {
-        let words: Vec<&str> = line.split_whitespace().collect();
+    pub fn read_line(&self, line: &Line, is_locked: bool) -> Said {
+        let words: Vec<&str> = match line {
+            Some(line) => line.split_whitespace().collect(),
+            None => return unreadable(),
+        };
         match words[..] {
             [] => Said::Nothing,
             ["?"] => Said::Wrong(self.listed(is_locked)),
@@ -140,7 +142,7 @@ impl Panel {
     }
 
     pub fn connect(&mut self, token: u64, stream: UnixStream, is_locked: bool) {
-        let mut w = Watcher { stream, line: Vec::new(), unread: Vec::new(), is_watching: false, is_told: false, taken: 0, seen: (0, 0) };
+        let mut w = Watcher { stream, lines: Lines::default(), unread: Vec::new(), is_watching: false, is_told: false, taken: 0, seen: (0, 0) };
         let lines: Vec<String> = self.open.iter().map(|(n, q)| format!("ask {n} {}", q.text.words(is_locked))).collect();
         if !lines.is_empty() {
             w.put(&lines.join("\n"));
@@ -189,7 +191,7 @@ impl Panel {
     }
 
     /// The lines that a panel has sent; none where it has ended.
-    pub fn read(&mut self, token: u64) -> Option<Vec<String>> {
+    pub fn read(&mut self, token: u64) -> Option<Vec<Line>> {
         self.watchers.get_mut(&token)?.read()
     }
 
@@ -273,23 +275,14 @@ impl Watcher {
         self.unread.len() > UNREAD || self.seen.1 + PATIENCE <= reading
     }
 
-    fn read(&mut self) -> Option<Vec<String>> {
-        let mut chunk = [0; 4096];
-        let n = match self.stream.read(&mut chunk) {
-            Ok(0) => return None,
-            Ok(n) => n,
-            Err(e) if matches!(e.kind(), ErrorKind::WouldBlock | ErrorKind::Interrupted) => 0,
-            Err(_) => return None,
-        };
-        let mut lines = Vec::new();
-        for b in &chunk[..n] {
-            match b {
-                b'\n' => lines.push(String::from_utf8_lossy(&std::mem::take(&mut self.line)).into_owned()),
-                _ if self.line.len() < LINE => self.line.push(*b),
-                _ => {}
-            }
+    fn read(&mut self) -> Option<Vec<Line>> {
+        let mut chunk = [0; 1024];
+        match self.stream.read(&mut chunk) {
+            Ok(0) => None,
+            Ok(n) => Some(self.lines.take(&chunk[..n])),
+            Err(e) if matches!(e.kind(), ErrorKind::WouldBlock | ErrorKind::Interrupted) => Some(Vec::new()),
+            Err(_) => None,
         }
-        Some(lines)
     }
 }
 
@@ -318,14 +311,16 @@ mod tests {
         let mut p = Panel::default();
         let one = p.ask(text(), 11, None, false);
         let two = p.ask(text(), 12, Some(500), false);
-        assert_eq!(p.read_line("2 y", false), Said::Answer { number: two, asker: 12, yes: true });
-        assert_eq!(p.read_line("  1   no ", false), Said::Answer { number: one, asker: 11, yes: false });
+        let line = |text: &str| Some(text.to_string());
+        assert_eq!(p.read_line(&line("2 y"), false), Said::Answer { number: two, asker: 12, yes: true });
+        assert_eq!(p.read_line(&line("  1   no "), false), Said::Answer { number: one, asker: 11, yes: false });
         for wrong in ["y", "3 y", "1 maybe", "-1 y", "+1 y", "1 y 2", "99999999999999999999 y"] {
-            assert!(matches!(p.read_line(wrong, false), Said::Wrong(_)), "{wrong}");
+            assert!(matches!(p.read_line(&line(wrong), false), Said::Wrong(_)), "{wrong}");
         }
+        assert!(matches!(p.read_line(&None, false), Said::Wrong(_)));
         assert_eq!(p.overdue(499), []);
         assert_eq!(p.overdue(500), [(two, 12)]);
         assert!(p.close(one, "gone 1") && !p.close(one, "gone 1"));
-        assert!(matches!(p.read_line("1 y", false), Said::Wrong(_)));
+        assert!(matches!(p.read_line(&line("1 y"), false), Said::Wrong(_)));
     }
 }

@@ -1,7 +1,7 @@
 //! What the process keeps from others, and the signals that it hears.
 use nix::libc;
 use nix::sys::resource::{getrlimit, setrlimit, Resource};
-use nix::sys::signal::{SigSet, Signal};
+use nix::sys::signal::{signal, SigHandler, SigSet, Signal};
 use nix::sys::signalfd::{SfdFlags, SignalFd};
 use std::os::unix::process::CommandExt;
 use std::process::{Child, Command};
@@ -52,12 +52,26 @@ pub fn most_connections(wished: u32) -> usize {
 
 /// Those that end the agent, and a command's end. To be called before any thread is started, so that all of them leave these to the loop.
 pub fn signals() -> nix::Result<SignalFd> {
+    // SAFETY: no handler is set. Where it was ignored the system would not tell us of a command's end.
+    unsafe { signal(Signal::SIGCHLD, SigHandler::SigDfl) }?;
     let mut set = SigSet::empty();
-    for s in [Signal::SIGINT, Signal::SIGTERM, Signal::SIGHUP, Signal::SIGCHLD] {
+    for s in [Signal::SIGINT, Signal::SIGTERM, Signal::SIGCHLD] {
         set.add(s);
+    }
+    if !is_hangup_ignored() {
+        set.add(Signal::SIGHUP);
     }
     set.thread_block()?;
     SignalFd::with_flags(&set, SfdFlags::SFD_NONBLOCK | SfdFlags::SFD_CLOEXEC)
+}
+
+/// As `nohup` leaves it.
+fn is_hangup_ignored() -> bool {
+    // SAFETY: only asks, into a local of plain numbers.
+    unsafe {
+        let mut now: libc::sigaction = std::mem::zeroed();
+        libc::sigaction(libc::SIGHUP, std::ptr::null(), &mut now) == 0 && now.sa_sigaction == libc::SIG_IGN
+    }
 }
 
 /// Starts a command under the agent, with the limits and the signals that we had.

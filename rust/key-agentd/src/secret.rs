@@ -5,18 +5,35 @@ use std::ffi::c_void;
 use std::num::NonZeroUsize;
 use std::ops::{Deref, DerefMut};
 use std::sync::atomic::{AtomicBool, Ordering};
-use std::sync::Mutex;
-use zeroize::Zeroize;
+use std::sync::{Mutex, MutexGuard};
 
-/// What one buffer takes at least, and what the pool keeps: most frames are shorter.
-const SMALL: usize = 8192;
-const KEPT: usize = 64;
+/// What a buffer has room for, in steps: most frames fit the first, and who sends 64 KB may get room for the longest frame.
+const ROOMS: [usize; 3] = [8 << 10, 64 << 10, 260 << 10];
+/// How many of each are kept for the next that needs one.
+const KEPT: [usize; 3] = [64, 4, 2];
 /// A call takes up to 29 KB of stack (include/key_agent.h), and what calls it some more.
 const STACK: usize = 48 * 1024;
 
 static UNLOCKED: AtomicBool = AtomicBool::new(false);
 
-static POOL: Mutex<Vec<Pages>> = Mutex::new(Vec::new());
+static POOL: Mutex<[Vec<Pages>; 3]> = Mutex::new([Vec::new(), Vec::new(), Vec::new()]);
+
+fn pool() -> MutexGuard<'static, [Vec<Pages>; 3]> {
+    POOL.lock().expect("no panic under it")
+}
+
+/// Hands back to the system what is kept, but for a few.
+pub fn trim() {
+    for (kept, most) in pool().iter_mut().zip([8, 0, 0]) {
+        kept.truncate(most);
+    }
+}
+
+/// Writes zeros that no compiler leaves out.
+fn wipe(bytes: &mut [u8]) {
+    // SAFETY: a slice and its length.
+    unsafe { libc::explicit_bzero(bytes.as_mut_ptr() as *mut c_void, bytes.len()) };
+}
 
 /// Has memory stayed unlocked since this was asked last, as the limit of locked memory was reached?
 pub fn has_unlocked() -> bool {
@@ -41,8 +58,7 @@ struct Pages {
 unsafe impl Send for Pages {}
 
 impl Pages {
-    fn new(least: usize) -> Pages {
-        let len = (least.max(SMALL) + 4095) & !4095;
+    fn new(len: usize) -> Pages {
         let size = NonZeroUsize::new(len).expect("above zero");
         // SAFETY: new private memory, wherever the system puts it.
         let at = unsafe { mmap(None, size, ProtFlags::PROT_READ | ProtFlags::PROT_WRITE, MapFlags::MAP_PRIVATE | MapFlags::MAP_ANONYMOUS, -1, 0) };
@@ -70,8 +86,9 @@ pub struct Secret {
 impl Secret {
     /// With room for so many bytes, and none in it.
     pub fn with_room(room: usize) -> Secret {
-        let kept = if room <= SMALL { POOL.lock().expect("no panic under it").pop() } else { None };
-        Secret { pages: Some(kept.unwrap_or_else(|| Pages::new(room))), len: 0 }
+        let step = ROOMS.iter().position(|r| room <= *r).expect("no frame is longer");
+        let kept = pool()[step].pop();
+        Secret { pages: Some(kept.unwrap_or_else(|| Pages::new(ROOMS[step]))), len: 0 }
     }
 
     pub fn of(bytes: &[u8]) -> Secret {
@@ -98,7 +115,7 @@ impl Secret {
 
     pub fn reserve(&mut self, more: usize) {
         if self.room() < more {
-            let mut larger = Secret::with_room((self.len + more).max(self.pages().len * 2));
+            let mut larger = Secret::with_room(self.len + more);
             larger.len = self.len;
             larger.copy_from_slice(self);
             *self = larger;
@@ -121,12 +138,12 @@ impl Secret {
     pub fn shift(&mut self, n: usize) {
         let left = self.len - n;
         self.copy_within(n.., 0);
-        self[left..].zeroize();
+        wipe(&mut self[left..]);
         self.len = left;
     }
 
     pub fn clear(&mut self) {
-        self[..].zeroize();
+        wipe(self);
         self.len = 0;
     }
 }
@@ -150,10 +167,10 @@ impl Drop for Secret {
     fn drop(&mut self) {
         self.clear();
         let pages = self.pages.take().expect("dropped once");
-        if pages.len == SMALL {
-            let mut pool = POOL.lock().expect("no panic under it");
-            if pool.len() < KEPT {
-                pool.push(pages);
+        if let Some(step) = ROOMS.iter().position(|r| *r == pages.len) {
+            let mut pool = pool();
+            if pool[step].len() < KEPT[step] {
+                pool[step].push(pages);
             }
         }
     }
@@ -174,10 +191,10 @@ mod tests {
     #[test]
     fn grows_and_shifts() {
         let mut s = Secret::of(b"vents");
-        s.push(&[7; 20_000]);
-        assert_eq!((&s[..5], s.len()), (&b"vents"[..], 20_005));
+        s.push(&[7; 262_143]);
+        assert_eq!((&s[..5], s.len()), (&b"vents"[..], 4 + key_agent::MAX_PAYLOAD));
         s.shift(3);
-        assert_eq!((&s[..3], s.len()), (&b"ts\x07"[..], 20_002));
+        assert_eq!((&s[..3], s.len()), (&b"ts\x07"[..], 262_145));
         s.clear();
         assert!(s.is_empty() && s.free().iter().all(|b| *b == 0));
     }

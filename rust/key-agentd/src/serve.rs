@@ -3,6 +3,7 @@
 use crate::clock::Clock;
 use crate::connection::{Connection, Front, Request, Waiting};
 use crate::core::{Core, Lent, Shown};
+use crate::lines::Line;
 use crate::log::{Level, Log};
 use crate::names;
 use crate::options::{Options, Sign};
@@ -34,8 +35,9 @@ const FIRST: u64 = 4;
 
 /// Frames of one connection in a row, before the others have their turn.
 const TURN: usize = 8;
-/// Connections taken in a row.
+/// Connections taken in a row, and lines from the terminal.
 const TAKEN: usize = 64;
+const TYPED: usize = 64;
 /// Panels at a time.
 const PANELS: usize = 16;
 /// How long nothing is taken where the system has no descriptor left.
@@ -63,7 +65,8 @@ pub struct Serve {
     pub log: Log,
     pub clock: Clock,
     pub wake: Wake,
-    pub lines: Receiver<Option<String>>,
+    /// From the terminal; none is its end.
+    pub lines: Receiver<Option<Line>>,
     pub signals: SignalFd,
     pub agent: UnixListener,
     pub panel_listener: Option<UnixListener>,
@@ -231,7 +234,7 @@ impl Loop {
     }
 
     fn take_panels(&mut self) {
-        loop {
+        for _ in 0..TAKEN {
             let accepted = match &self.set.panel_listener {
                 Some(p) => p.accept(),
                 None => return,
@@ -495,9 +498,13 @@ impl Loop {
                 self.put_back(token, c, result);
             }
         }
-        while let Ok(line) = self.set.lines.try_recv() {
-            self.on_terminal(line);
+        for _ in 0..TYPED {
+            match self.set.lines.try_recv() {
+                Ok(line) => self.on_terminal(line),
+                Err(_) => return,
+            }
         }
+        self.set.wake.call(); // more may wait
     }
 
     fn worked(&mut self, token: u64, c: &mut Connection, answer: Answer) -> Result<(), End> {
@@ -533,7 +540,7 @@ impl Loop {
         self.take_turn(token, c)
     }
 
-    fn on_terminal(&mut self, line: Option<String>) {
+    fn on_terminal(&mut self, line: Option<Line>) {
         match line.map(|l| self.panel.read_line(&l, self.core.is_locked())) {
             None if self.set.panel_listener.is_none() => {
                 self.set.log.say("agent: standard input has ended, so nobody can answer a question; --panel PATH is another way".to_string());
@@ -585,7 +592,7 @@ impl Loop {
         let signal = self.set.signals.read_signal().ok().flatten()?;
         let signal = Signal::try_from(signal.ssi_signo as i32).ok()?;
         match (&mut self.set.child, signal) {
-            (Some(child), Signal::SIGCHLD) => child.try_wait().ok().flatten().map(status_of),
+            (Some(child), Signal::SIGCHLD) => child.try_wait().map_or(Some(1), |ended| ended.map(status_of)),
             (None, Signal::SIGCHLD) => None,
             // the agent ends with its command, which has Ctrl-C from the terminal itself
             (Some(_), Signal::SIGINT) => None,
@@ -651,8 +658,9 @@ impl Loop {
 
     /// What a crowd of connections has taken goes back to the system.
     fn hand_memory_back(&mut self) {
-        if self.peak > 64 && self.connections.len() < self.peak / 8 {
+        if self.peak > 8 && self.connections.len() <= self.peak / 8 {
             self.peak = self.connections.len();
+            secret::trim();
             self.connections.shrink_to_fit();
             self.works.shrink_to_fit();
             self.ready.shrink_to_fit();

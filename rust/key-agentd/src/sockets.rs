@@ -1,7 +1,7 @@
 //! The sockets that are served, and who is at the other end.
 use crate::names::word;
 use nix::errno::Errno;
-use nix::sys::socket::{getsockopt, sockopt};
+use nix::sys::socket::{connect, getsockopt, socket, sockopt, AddressFamily, SockFlag, SockType, UnixAddr};
 use nix::sys::stat::{umask, Mode};
 use std::fs;
 use std::io;
@@ -67,10 +67,9 @@ fn new_folder(parent: &Path) -> io::Result<PathBuf> {
 
 /// A socket of mode 0600 at this path; one that nobody serves any more is replaced.
 pub fn listen(path: &Path, made: &mut Made) -> Result<UnixListener, String> {
-    match UnixStream::connect(path) {
-        Ok(_) => return Err(format!("somebody serves {} already", path.display())),
-        Err(e) if e.kind() == io::ErrorKind::ConnectionRefused => remove_stale(path),
-        Err(e) if Errno::from_i32(e.raw_os_error().unwrap_or(0)) == Errno::EAGAIN => return Err(format!("somebody serves {} already", path.display())),
+    match probe(path) {
+        Ok(()) | Err(Errno::EAGAIN) => return Err(format!("somebody serves {} already", path.display())),
+        Err(Errno::ECONNREFUSED) => remove_stale(path),
         Err(_) => {} // nothing there, or something that bind refuses
     }
     let before = umask(Mode::from_bits_truncate(0o177));
@@ -80,6 +79,14 @@ pub fn listen(path: &Path, made: &mut Made) -> Result<UnixListener, String> {
     made.sockets.push(path.to_path_buf());
     listener.set_nonblocking(true).map_err(|e| e.to_string())?;
     Ok(listener)
+}
+
+/// Does somebody serve it? Where he takes nobody at the moment, the answer is EAGAIN.
+fn probe(path: &Path) -> nix::Result<()> {
+    let fd = socket(AddressFamily::Unix, SockType::Stream, SockFlag::SOCK_NONBLOCK | SockFlag::SOCK_CLOEXEC, None)?;
+    let answer = UnixAddr::new(path).and_then(|to| connect(fd, &to));
+    let _ = nix::unistd::close(fd);
+    answer
 }
 
 fn remove_stale(path: &Path) {

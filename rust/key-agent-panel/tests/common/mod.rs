@@ -87,6 +87,8 @@ pub struct OnTerminal {
     pub child: Child,
     /// All that was written.
     pub output: Vec<u8>,
+    /// Where the drawing stands in it that was seen last.
+    seen: usize,
 }
 
 impl OnTerminal {
@@ -97,7 +99,7 @@ impl OnTerminal {
         let before = tcgetattr(slave.as_raw_fd()).unwrap();
         let end = || Stdio::from(slave.try_clone().unwrap());
         let child = command.stdin(end()).stdout(end()).stderr(end()).spawn().unwrap();
-        OnTerminal { master, slave, before, child, output: Vec::new() }
+        OnTerminal { master, slave, before, child, output: Vec::new(), seen: 0 }
     }
 
     pub fn press(&mut self, keys: &str) {
@@ -138,18 +140,25 @@ impl OnTerminal {
         }
     }
 
-    /// Waits for a drawing with all of these words.
+    /// Waits for a drawing with all of these words, the last one that was seen or one after it.
     pub fn see(&mut self, words: &[&str]) -> String {
-        self.until(|t| words.iter().all(|w| t.frame().contains(w)));
-        self.frame()
+        let has_all = |text: &str| words.iter().all(|w| text.contains(w));
+        self.until(|t| t.frames().iter().any(|(_, text)| has_all(text)));
+        let (at, text) = self.frames().into_iter().find(|(_, text)| has_all(text)).unwrap();
+        self.seen = at;
+        text
     }
 
-    /// What stands on the screen: the rows of the last whole drawing.
+    /// The rows of each whole drawing from the last seen on, and where it begins.
+    fn frames(&self) -> Vec<(usize, String)> {
+        let text = std::str::from_utf8(&self.output).or_else(|e| std::str::from_utf8(&self.output[..e.valid_up_to()])).unwrap();
+        let whole = |(at, _)| text[at..].find("\x1b[J").map(|end| (at, plain(&text[at..at + end])));
+        text[self.seen..].match_indices("\x1b[H").map(|(at, m)| (self.seen + at, m)).filter_map(whole).collect()
+    }
+
+    /// What stands on the screen.
     pub fn frame(&self) -> String {
-        let text = String::from_utf8_lossy(&self.output).into_owned();
-        let end = text.rfind("\x1b[J").unwrap_or(text.len());
-        let start = text[..end].rfind("\x1b[H").unwrap_or(end);
-        plain(&text[start..end])
+        self.frames().pop().map_or(String::new(), |(_, text)| text)
     }
 
     pub fn ends(&mut self) -> ExitStatus {

@@ -1,0 +1,175 @@
+"""Rows: bad input, and clients that behave badly."""
+import random
+import re
+import socket
+import struct
+import time
+
+from .agents import Desk
+from .base import must, row, until
+from .frames import ADD, ADD_CONSTRAINED, EMPTY_LIST, FAILURE, LIST, LOCK, REMOVE, SIGN, SUCCESS, UNLOCK, Raw, receive, string
+from .keys import blob_of
+from .tools import ended, fails, started, works
+
+
+@row('unknown messages (2, 20, 27, 255), an empty frame (raw)')
+def _():
+    with Desk() as a:
+        r = Raw(a)
+        for payload in (b'\2', b'\x14', b'\x1b' + string(b'session-bind@openssh.com'), b'\xff' * 9, b''):
+            must(r.ask(payload) == FAILURE, f'{payload!r}')
+        must(r.ask(LIST) == EMPTY_LIST, 'the connection does not go on')
+        must(len(re.findall(r'gate \w+\?', a.log())) == 1, 'a question was asked')
+    return 'FAILURE unasked; the connection goes on'
+
+
+@row('cut frames: 2 bytes of a length, half a payload, then the end; frames in pieces, two in one (raw)')
+def _():
+    with Desk() as a:
+        good = Raw(a)
+        for part in (b'\0\0', b'\0\0\0\x09\x16\0\0', b'\0\0\0\x01'):
+            r = Raw(a)
+            r.send(part)
+            must(good.ask(LIST) is not None, 'others wait')
+            r.conn.shutdown(socket.SHUT_WR)
+            must(receive(r.conn) is None, 'answered')
+        r = Raw(a)
+        for b in string(LIST):
+            r.send(bytes([b]))
+            time.sleep(0.02)
+        must(receive(r.conn) == EMPTY_LIST, 'in pieces')
+        r.send(string(b'') + string(LIST))
+        r.conn.shutdown(socket.SHUT_WR)  # sends nothing more, and still reads
+        got = b''
+        while part := r.conn.recv(99):
+            got += part
+        must(got == string(FAILURE) + string(EMPTY_LIST), got)
+        must(a.log().count('cut frame') == 3, a.log())
+        must(good.ask(LIST) == EMPTY_LIST, 'others suffer')
+    return 'that connection closes without a call; the others go on'
+
+
+@row('a frame of 262,144 bytes; of 262,145; of 4,294,967,295 (raw)')
+def _():
+    with Desk('--gate', 'ask') as a:
+        a.always('LIST|Unlock')
+        good = Raw(a)
+        waits = started(a, 'ssh-add', '-x', word='night')
+        q = a.waiting('Lock')[0]
+        r = Raw(a)
+        must(r.ask(LIST + bytes(262143)) == EMPTY_LIST, 'the longest frame')
+        for n in (262145, 2**32 - 1):
+            r = Raw(a)
+            r.send(struct.pack('>I', n) + LIST)
+            must(receive(r.conn) is None, 'not closed')
+        must(good.ask(LIST) == EMPTY_LIST, 'others suffer')
+        a.answer(q, True)
+        must(ended(waits)[0] == 0, 'the open question suffers')
+        works(a, 'ssh-add', '-X', word='night')
+    return 'served; that connection closes at its fourth byte, an open question and the others go on'
+
+
+@row('damaged requests: SIGN with a cut blob, data, flags; ADD cut at each byte; LOCK of 1,025 bytes (raw)')
+def _():
+    with Desk() as a:
+        works(a, 'ssh-add', 'ed25519')
+        blob, good = blob_of('ed25519'), Raw(a)
+        whole = SIGN + string(blob) + string(b'data') + bytes(4)
+        for n in range(1, len(whole)):
+            must(Raw(a).ask(whole[:n]) is None, f'SIGN cut at {n}')
+        must(Raw(a).ask(whole)[0] == 14, 'not signed')
+        must(good.ask(SIGN + string(b'a')) == FAILURE, 'an absent key')
+        pub = b'\3' * 32
+        add = ADD_CONSTRAINED + string(b'ssh-ed25519') + string(pub) + string(b'\7' * 32 + pub) + string(b'me') + b'\1\0\0\0\7\2'
+        for n in range(1, len(add)):
+            must(good.ask(add[:n]) == FAILURE, f'ADD cut at {n}')
+        must(good.ask(LOCK + string(b'x' * 1025)) == FAILURE and good.ask(b'\x16\0\0\0\3ab') == FAILURE, 'LOCK')
+        must(good.ask(LIST)[:5] == b'\x0c\0\0\0\1', 'the table has changed')
+    return 'SIGN closes its connection, ADD and LOCK answer FAILURE; keys and lock stay'
+
+
+@row('5,000 frames of chance: known first bytes, cut and altered requests (raw)')
+def _():
+    rng = random.Random(2026)
+    with Desk('--confirm', 'yes') as a:
+        works(a, 'ssh-add', 'ed25519')
+        pub, blob = b'\3' * 32, blob_of('ed25519')
+        sign = SIGN + string(blob) + string(b'data') + bytes(4)
+        shapes = [LIST, sign, sign, sign, REMOVE + string(blob_of('ecdsa-256')), LOCK + string(b'night'), UNLOCK + string(b'night'),
+                  ADD_CONSTRAINED + string(b'ssh-ed25519') + string(pub) + string(b'\7' * 32 + pub) + string(b'') + b'\2',
+                  ADD + string(b'ssh-rsa') + 6 * string(b'\7') + string(b''),
+                  ADD + string(b'ecdsa-sha2-nistp256') + string(b'nistp256') + string(b'\4' + 64 * b'\1') + string(b'\1') + string(b'')]
+        r, closed = Raw(a), 0
+        for _ in range(5000):
+            payload = bytearray(rng.choice(shapes))
+            for _ in range(rng.choice((0, 0, 1, 2))):
+                payload[rng.randrange(len(payload))] = rng.randrange(256)
+            if rng.random() < 0.2:
+                del payload[rng.randrange(len(payload)):]
+            reply = r.ask(bytes(payload))
+            must(reply is None or reply[0] in (5, 6, 12, 14), f'{bytes(payload).hex()}: {reply}')
+            if payload and payload[0] == 22 and reply == SUCCESS:
+                r.ask(UNLOCK + payload[1:])
+            if reply is None:
+                r, closed = Raw(a), closed + 1
+        must(r.ask(b'') == FAILURE, 'it does not go on')
+    return f'each gets a reply or, {closed} times, a close; the agent goes on'
+
+
+@row('a signer that fails')
+def _():
+    with Desk('--sign', 'no') as a:
+        good = Raw(a)
+        works(a, 'ssh-add', 'ed25519')
+        fails(a, 'ssh-add', '-T', 'ed25519.pub', says='communication with agent failed')
+        must(good.ask(LIST)[:5] == b'\x0c\0\0\0\1', 'others suffer')
+        must('landed: close' in a.log(), a.log())
+    return 'that connection closes ("communication with agent failed"); the others go on, the key stays'
+
+
+@row('a client hangs up while its question is open')
+def _():
+    with Desk('--gate', 'ask') as a:
+        p = started(a, 'ssh-add', '-x', word='night')
+        q = a.waiting('Lock')[0]
+        p.kill()
+        ended(p)
+        until(lambda: q in a.panel.gone, 'the question stays')
+        a.always('LIST|ADD')
+        fails(a, 'ssh-add', '-l', says='no identities')  # not locked
+        a.panel.error = ''
+        a.answer(q, True)
+        until(lambda: 'not open' in a.panel.error, 'a late yes is taken')
+        works(a, 'ssh-add', 'ed25519')
+        must(not re.search(r'LOCK\s+landed', a.log()), 'it landed')
+    return 'its question goes, nothing lands, a late yes is for nobody; the others go on'
+
+
+@row('a client that sends nothing more, and still reads, while its question is open (raw)')
+def _():
+    with Desk('--gate', 'ask') as a:
+        r = Raw(a)
+        r.send(string(LIST))
+        r.conn.shutdown(socket.SHUT_WR)
+        q = a.waiting('LIST')[0]
+        time.sleep(0.3)
+        a.answer(q, True)
+        must(receive(r.conn) == EMPTY_LIST, 'not answered')
+    return 'gets its reply'
+
+
+@row('a client that never reads (raw); 100 idle connections')
+def _():
+    with Desk() as a:
+        r = Raw(a)
+        r.conn.settimeout(0.5)
+        try:
+            for _ in range(100000):
+                r.send(string(LIST) * 50)
+        except OSError:
+            pass  # the agent reads no more of it: its replies are not taken
+        idle = [Raw(a) for _ in range(100)]
+        works(a, 'ssh-add', 'ed25519')
+        works(a, 'ssh-add', '-T', 'ed25519.pub')
+        must(idle[-1].ask(LIST)[:5] == b'\x0c\0\0\0\1', 'others suffer')
+    return 'the others go on'
