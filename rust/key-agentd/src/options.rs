@@ -49,7 +49,7 @@ const MORE: &str = "questions:
 
   --panel PATH is a second socket for the same answers, for key-agent-panel, another terminal (nc -U PATH) or a program. It writes a line for
   each event,
-      ask NUMBER conn N MESSAGE gate CLASS uid U pid P program NAME [key FINGERPRINT comment TEXT]
+      ask NUMBER conn N MESSAGE gate CLASS uid U pid P program NAME [key FINGERPRINT [comment TEXT]]
       ask NUMBER conn N SIGN confirm key K FINGERPRINT uid U pid P program NAME comment TEXT
       answered NUMBER y|n [timeout] | gone NUMBER
   (first the questions that are open), and reads lines NUMBER y or NUMBER n; to a line that answers nothing it says `error ..`. `show` asks for

@@ -41,8 +41,8 @@ const TAKEN: usize = 64;
 const TYPED: usize = 64;
 /// Panels at a time.
 const PANELS: usize = 16;
-/// Lines of one kind about connections that are refused come once in so many milliseconds.
-const SELDOM: u64 = 1000;
+/// Lines of one kind about connections that are refused, in a second.
+const A_SECOND: u64 = 10;
 /// Idle connections are looked for once in so many milliseconds.
 const SWEEP: u64 = 1000;
 /// How long nothing is taken where the system has no descriptor left.
@@ -85,19 +85,24 @@ pub struct Serve {
 /// Lines that somebody could make us write without end.
 #[derive(Default)]
 struct Seldom {
-    /// The reading of the last, and how many were left out since.
-    last: Option<u64>,
+    /// The reading at which the second began, how many lines were written in it, and how many were left out since the last.
+    began: u64,
+    written: u64,
     left_out: u64,
 }
 
 impl Seldom {
     /// The line to write now, if any.
     fn line(&mut self, text: &str, reading: u64) -> Option<String> {
-        if self.last.map_or(false, |last| reading < last + SELDOM) {
+        if reading >= self.began + 1000 {
+            self.began = reading;
+            self.written = 0;
+        }
+        if self.written >= A_SECOND {
             self.left_out += 1;
             return None;
         }
-        self.last = Some(reading);
+        self.written += 1;
         let more = std::mem::take(&mut self.left_out);
         Some(if more == 0 { text.to_string() } else { format!("{text}; {more} lines like it were left out") })
     }
