@@ -1,15 +1,19 @@
 """Rows: bad input, and clients that behave badly."""
+import argparse
+import os
 import random
 import re
 import socket
 import struct
+import subprocess
 import time
 
 from .agents import Desk
-from .base import must, row, until
+from .base import AGENT, at, must, row, until
 from .frames import ADD, ADD_CONSTRAINED, EMPTY_LIST, FAILURE, LIST, LOCK, REMOVE, SIGN, SUCCESS, UNLOCK, Raw, receive, string
-from .keys import blob_of
-from .tools import ended, fails, started, works
+from .keys import blob_of, fields_of, sign_request
+from .processes import cpu
+from .tools import ended, fails, run, started, works
 
 
 @row('unknown messages (2, 20, 27, 255), an empty frame (raw)')
@@ -173,3 +177,93 @@ def _():
         works(a, 'ssh-add', '-T', 'ed25519.pub')
         must(idle[-1].ask(LIST)[:5] == b'\x0c\0\0\0\1', 'others suffer')
     return 'the others go on'
+
+
+@row('a log that nobody reads, and one whose reader goes')
+def _():
+    for goes in (False, True):
+        a = argparse.Namespace(path=at('unread'))
+        p = subprocess.Popen([AGENT, '--log=debug', '--socket', a.path], stdin=subprocess.DEVNULL, stdout=subprocess.PIPE, stderr=subprocess.DEVNULL)
+        try:
+            p.stdout.readline()
+            if goes:
+                p.stdout.close()
+            r = Raw(a)
+            for _ in range(5000):
+                must(r.ask(LIST) == EMPTY_LIST, 'not served')
+            works(a, 'ssh-add', 'ed25519')
+        finally:
+            p.terminate()
+        must(p.wait(10) == 0 and not os.path.exists(a.path), 'it does not end')
+    return 'served all the same; ends'
+
+
+class Chance:
+    """Clients and panels that come, go, ask, answer and break off by chance."""
+
+    def __init__(self, a, seed):
+        self.a, self.rng, self.clients, self.panels, self.broken = a, random.Random(seed), [], [], set()
+        self.payloads = [LIST, b'', b'\xff', b'\x13', LIST + bytes(20000), LOCK + string(b'night'), UNLOCK + string(b'night'), UNLOCK + string(b'other')]
+        for kind in ('ed25519', 'ecdsa-256', 'rsa-2048'):
+            add = fields_of(kind) + string(b'chance')
+            self.payloads += [sign_request(kind), sign_request(kind)[:40], ADD + add, ADD_CONSTRAINED + add + b'\2',
+                              ADD_CONSTRAINED + add + b'\1\0\0\0\1', REMOVE + string(blob_of(kind))]
+
+    def connected(self, path):
+        s = socket.socket(socket.AF_UNIX)
+        s.connect(path)
+        s.setblocking(False)
+        return s
+
+    def step(self):
+        rng, n = self.rng, self.rng.randrange(100)
+        client = rng.choice(self.clients) if self.clients else None
+        whole = client is not None and client not in self.broken
+        if client is None or (n < 5 and len(self.clients) < 60):
+            self.clients.append(self.connected(self.a.path))
+        elif n < 8:
+            self.clients.remove(client)
+            client.close()
+        elif n < 10:
+            client.shutdown(rng.choice((socket.SHUT_WR, socket.SHUT_RD)))
+        elif n < 45 and whole:
+            client.send(b''.join(string(rng.choice(self.payloads)) for _ in range(rng.choice((1, 1, 1, 5, 12)))))
+        elif n < 50 and whole:
+            frame = string(rng.choice(self.payloads))
+            self.broken.add(client)
+            client.send(rng.choice((frame[:rng.randrange(len(frame))], struct.pack('>I', 262145), bytes(3))))
+        elif n < 70:
+            client.recv(100000)
+        elif n < 73 and len(self.panels) < 20:
+            self.panels.append(self.connected(self.a.panel_path))
+        elif n < 74 and self.panels:
+            self.panels.pop(rng.randrange(len(self.panels))).close()
+        elif n < 78 and self.panels:
+            rng.choice(self.panels).send(rng.choice((b'show\n', b'watch\n', b'?\n', b'1 y\n', b'half', bytes(range(128, 168)))))
+        elif n < 82 and self.panels:
+            rng.choice(self.panels).recv(100000)
+        elif self.a.panel.open:
+            self.a.answer(rng.choice(list(self.a.panel.open)), rng.random() < 0.8)
+
+
+@row('20,000 steps of chance: 60 clients and 16 panels come, ask, answer, break off, do not read (raw)')
+def _():
+    with Desk('--gate', 'ask') as a:
+        chance = Chance(a, 16)
+        for _ in range(20000):
+            try:
+                chance.step()
+            except OSError:
+                pass  # closed, or full
+        for s in chance.clients + chance.panels:
+            s.close()
+        until(lambda: not a.panel.open, f'open questions stay: {a.panel.open}')
+        a.always('.')
+        run(a, 'ssh-add', '-X', word='night')
+        works(a, 'ssh-add', '-D')
+        fails(a, 'ssh-add', '-l', says='no identities')
+        must(len(os.listdir(f'/proc/{a.process.pid}/fd')) < 16, 'descriptors stay open')
+        before = cpu(a)
+        time.sleep(1)
+        must(cpu(a) - before < 0.2, 'it has work, and nobody is there')
+    return 'the agent goes on: nothing stays open, and it is unlocked by its passphrase'

@@ -1,4 +1,5 @@
 """Rows: who is kept out, and what the agent tells nobody."""
+import argparse
 import os
 import re
 import resource
@@ -141,6 +142,32 @@ def _():
                     pass
     beside = ', where `sleep` leaves one' if dumps[0] else ''
     return f'refused, where of `sleep` it is allowed; killed by SIGABRT it leaves no core file{beside}; {locked} locked'
+
+
+def no_locks():
+    resource.setrlimit(resource.RLIMIT_MEMLOCK, (0, 0))
+    become(NOBODY)
+
+
+@row('memory that the system lets nobody lock')
+def _():
+    root_only('be a user who may lock nothing')
+    with Shared() as shared, open(os.path.join(shared.folder, 'log'), 'w+') as log:
+        path = os.path.join(shared.folder, 'agent')
+        p = subprocess.Popen([shared.agent, '--socket', path], stdin=subprocess.DEVNULL, stdout=log, stderr=subprocess.STDOUT, cwd=shared.folder,
+                             preexec_fn=no_locks)
+        try:
+            until(lambda: os.path.exists(path), 'no agent')
+            a = argparse.Namespace(path=path)
+            works(a, 'ssh-add', 'ed25519')
+            works(a, 'ssh-add', '-T', 'ed25519.pub')
+            log.seek(0)
+            text = log.read()
+            must(status(p.pid, 'VmLck') == '0 kB' and len(re.findall('not locked', text)) == 1, f'{status(p.pid, "VmLck")} {text}')
+        finally:
+            p.terminate()
+            p.wait(10)
+    return 'it serves, and says so once in the log'
 
 
 def session(level, word, wrong):

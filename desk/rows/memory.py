@@ -85,6 +85,29 @@ def _():
     return '280 signatures; nothing of any private half'
 
 
+@row('memory: signatures and key checks are under way when `-D` and the LOCK land')
+def _():
+    kinds = ['rsa-4096', 'rsa-2048', 'ecdsa-521', 'ed25519']
+    secrets = {f'{kind} {name}': secret for kind in kinds for name, secret in private(kind).items()}
+    with Desk(log='--log=error') as a:
+        for how in (['-D'], ['-x']):
+            for kind in kinds:
+                works(a, 'ssh-add', '-t', '3', kind)
+            clients = [Raw(a) for _ in range(24)]
+            for n, r in enumerate(clients):
+                kind = kinds[n % 4]
+                r.conn.settimeout(30)
+                r.send(string(ADD + fields_of(kind) + string(b'')) if n % 3 == 0 and how == ['-x'] else string(sign_request(kind)))
+            works(a, 'ssh-add', *how, word=WORD)
+            for r in clients:
+                receive(r.conn)
+            if how == ['-x']:
+                works(a, 'ssh-add', '-X', word=WORD)
+                works(a, 'ssh-add', '-D')
+            is_clean(a, {**secrets, **words(WORD)}, f'after {how[0]}')
+    return 'nothing of any private half'
+
+
 @row('memory: passphrases after `-X`, of refused `-x` and `-X`, after a no, and of a client that hung up while its question was open')
 def _():
     with Desk() as a:

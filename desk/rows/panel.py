@@ -12,7 +12,7 @@ import time
 
 from .agents import Desk, Panel
 from .base import AGENT, Skip, at, must, row, until
-from .frames import ADD, ADD_CONSTRAINED, LIST, LOCK, REMOVE, SUCCESS, UNLOCK, Raw, receive, string
+from .frames import ADD, ADD_CONSTRAINED, EMPTY_LIST, LIST, LOCK, REMOVE, SUCCESS, UNLOCK, Raw, receive, string
 from .keys import blob_of, fields_of, fingerprint, sign_request
 from .tools import ended, run, started, works
 
@@ -184,6 +184,33 @@ def _():
         a.answer(q, True)
         must(ended(p)[0] == 0, 'not unlocked')
     return 'hidden on the panel that connects while locked, there again after the unlock; six open questions, all told'
+
+
+@row('lines to the panel that answer nothing; two panels answer at once; a panel goes while a question is open (raw)')
+def _():
+    with Desk('--gate', 'ask') as a:
+        r, q, _ = waits(a, LIST, 'LIST')
+        wrong = [b'0 y', b'-1 y', b'+1 y', b'1', b'y', b'1 maybe', b'99999999999999999999 y', b'18446744073709551617 y', b'1 y n', b'1y', b'SHOW', b'\xff\xfe 1',
+                 b'1 y\0', b'x' * 5000, b'1 ' + b' ' * 5000 + b'y', b'1 y' + b' ' * 300 + b'no, not that one']
+        for n, line in enumerate(wrong):
+            a.panel.conn.sendall(line + b'\n')
+            until(lambda: sum(i.startswith('error ') for i in a.panel.lines) == n + 1, f'{line[:30]}: no error')
+        a.panel.conn.sendall(b'\n  \n')
+        other = Panel(a.panel_path)
+        must(other.waiting('LIST') == [q], 'the question is gone')
+        other.conn.shutdown(socket.SHUT_RDWR)
+        must(other.ended.wait(5), 'not ended')
+        panels = [Panel(a.panel_path) for _ in range(2)]
+        for panel in panels:
+            panel.waiting('LIST')
+        for panel in panels:
+            panel.say(f'{q} yes')
+        must(receive(r.conn) == EMPTY_LIST, 'not answered')
+        until(lambda: sum('not open' in panel.error for panel in panels) == 1, 'both count')
+        for panel in (a.panel, *panels):
+            must(panel.said(f'^answered {q}') == f'answered {q} y', f'{panel.lines}')
+        must(sum(i.startswith('error ') for i in a.panel.lines) == len(wrong), f'an empty line is an error: {a.panel.lines[-3:]}')
+    return 'an error line each; the question stays, the first answer counts'
 
 
 def left_to_read(s):

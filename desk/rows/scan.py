@@ -42,7 +42,10 @@ def memory(process):
 
 def found(process, secrets):
     """Where words of these secrets (by name) stand: lines NAME: BYTES in MAPPING at ADDRESS."""
-    names = {word: name for name, secret in secrets.items() for word in words(secret)}
+    names = {}
+    for name, secret in secrets.items():
+        for word in words(secret):
+            names.setdefault(word, name)
     places = {}
     for address, data, mapping in memory(process):
         data = data[:len(data) // 8 * 8]

@@ -77,6 +77,23 @@ def _():
     return '0700 and 0600; gone'
 
 
+@row('a socket whose name has a space and a quote, a relative one; one name for both sockets')
+def _():
+    for name in ("a b'c", 'relative'):
+        p = subprocess.Popen([AGENT, '--socket', name], stdin=subprocess.DEVNULL, stdout=subprocess.PIPE, text=True, cwd=base.folder)
+        try:
+            line = p.stdout.readline()
+            done = subprocess.run(['sh', '-c', line + 'printf "%s\\n" "$SSH_AUTH_SOCK"; ssh-add -l'], stdout=subprocess.PIPE, text=True, cwd='/')
+            must(done.stdout == f'{at(name)}\nThe agent has no identities.\n', f'{line} {done.stdout}')
+        finally:
+            p.terminate()
+            p.communicate()
+        must(not os.path.exists(at(name)), 'left behind')
+    status, out, error = said('--socket', at('both'), '--panel', at('both'))
+    must(status == 1 and 'already' in error and not os.path.exists(at('both')), f'{status} {out} {error}')
+    return 'the line that it prints works in a shell; refused, and nothing is left'
+
+
 @row('not started: `$XDG_RUNTIME_DIR` or a folder that is not there, a file at the path, too long a path; bad usage')
 def _():
     with open(at('file'), 'w') as f:

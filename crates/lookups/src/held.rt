@@ -74,17 +74,19 @@ fn told_at(state: State, store: &[u8], i: usize) -> HeldKey
     let clock = state.clock;
     let comment = e.comment;
     let left = left_at(e, clock);
-    let blob = start_of(i);
-    let fields = blob + limits::FIELDS_AT;
+    let blob_from = start_of(i);
+    let blob_to = blob_from + e.blob_len;
+    let fields_from = blob_from + limits::FIELDS_AT;
+    let fields_to = fields_from + e.fields_len;
     HeldKey {
         number: e.number,
         confirm: e.confirm,
         limited: e.limited,
         left,
-        blob_from: blob,
-        blob_to: blob + e.blob_len,
-        fields_from: fields,
-        fields_to: fields + e.fields_len,
+        blob_from,
+        blob_to,
+        fields_from,
+        fields_to,
         comment,
     }
 }

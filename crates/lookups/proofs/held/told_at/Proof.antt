@@ -10,14 +10,14 @@ left-at-requires c κs =
     let st = c .before .before .before .before .before in
     entry-kept (st .args .state) (st .args .store .now) (st .pre .1) (st .args .i) (st .pre .0) .reading-past
 
-add-blob : tie.Need-add-t11
-add-blob c =
+add-blob-to : tie.Need-add-blob-to
+add-blob-to c =
     let st = c .before .before .before .before .before .before .before .before in
     let kept = entry-kept (st .args .state) (st .args .store .now) (st .pre .1) (st .args .i) (st .pre .0) in
     omega arith
 
-add-fields : tie.Need-add-t15
-add-fields c =
+add-fields-to : tie.Need-add-fields-to
+add-fields-to c =
     let st = c .before .before .before .before .before .before .before .before .before in
     let kept = entry-kept (st .args .state) (st .args .store .now) (st .pre .1) (st .args .i) (st .pre .0) in
     omega arith
@@ -37,7 +37,7 @@ told-at-spec =
     (λ c. search needs)
     left-at-requires
     (λ c κs. search needs)
+    add-blob-to
     (λ c. search needs)
-    add-blob
-    add-fields
+    add-fields-to
     returns)
