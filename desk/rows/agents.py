@@ -5,6 +5,7 @@ import signal
 import socket
 import subprocess
 import threading
+import time
 
 from .base import AGENT, at, must, until
 from .frames import receive
@@ -79,21 +80,33 @@ class Desk:
     """An agent started with these options, its log kept, its panel watched."""
     count = 0
 
-    def __init__(self, *options, command=(AGENT,), log='--log', panics=False, **how):
+    def __init__(self, *options, command=(AGENT,), log='--log', panics=False, input=subprocess.DEVNULL, **how):
         Desk.count += 1
         self.path, self.panel_path, self.log_path = (at(f'{name}{Desk.count}') for name in ('agent', 'panel', 'log'))
         self.panics = panics
         self.log_file = open(self.log_path, 'wb')
-        self.process = subprocess.Popen([*command, log, '--socket', self.path, '--panel', self.panel_path, *options], stdin=subprocess.DEVNULL,
+        self.process = subprocess.Popen([*command, log, '--socket', self.path, '--panel', self.panel_path, *options], stdin=input,
                                         stdout=self.log_file, stderr=subprocess.STDOUT, **how)
-        until(lambda: 'export SSH_AUTH_SOCK=' in self.log() or self.process.poll() is not None, 'no agent', 60)
+        until(lambda: 'Ctrl-C ends it' in self.written() or self.process.poll() is not None, 'no agent', 60)
         must(self.process.poll() is None, f'the agent ended: {self.log()}')
         self.panel = Panel(self.panel_path)
         self.waiting, self.answer, self.always = self.panel.waiting, self.panel.answer, self.panel.always
 
-    def log(self):
+    def written(self):
         with open(self.log_path, encoding='utf-8', errors='replace') as f:
             return f.read()
+
+    def log(self):
+        """What it has written, once nothing more comes: a thread of its own writes."""
+        before, text = None, self.written()
+        while text != before and self.process.poll() is None:
+            time.sleep(0.05)
+            before, text = text, self.written()
+        return self.written()
+
+    def logged(self, text, n=1):
+        """The log has this so many times, or will soon."""
+        until(lambda: len(re.findall(text, self.written())) >= n, f'the log has not {text!r}: {self.written()[-1500:]}', 5)
 
     def end(self, how=signal.SIGINT):
         if self.process.poll() is None:
@@ -113,6 +126,13 @@ class Desk:
             must(value is not None, 'the agent does not end')
         if value is None:
             must(self.panics or not re.search('Traceback|panicked', self.log()), f'the host stumbled: {self.log()}')
+
+
+def said(*options, command=(), seconds=10, **how):
+    """The agent run to its end: exit status, standard output, standard error."""
+    how.setdefault('stdin', subprocess.DEVNULL)
+    done = subprocess.run([AGENT, *options, *(['--', *command] if command else [])], capture_output=True, text=True, timeout=seconds, **how)
+    return done.returncode, done.stdout, done.stderr
 
 
 class OpenSSH:

@@ -48,7 +48,7 @@ def _():
         while part := r.conn.recv(99):
             got += part
         must(got == string(FAILURE) + string(EMPTY_LIST), got)
-        must(a.log().count('cut frame') == 3, a.log())
+        a.logged('cut frame', 3)
         must(good.ask(LIST) == EMPTY_LIST, 'others suffer')
     return 'that connection closes without a call; the others go on'
 
@@ -127,7 +127,7 @@ def _():
         works(a, 'ssh-add', 'ed25519')
         fails(a, 'ssh-add', '-T', 'ed25519.pub', says='communication with agent failed')
         must(good.ask(LIST)[:5] == b'\x0c\0\0\0\1', 'others suffer')
-        must('landed: close' in a.log(), a.log())
+        a.logged('landed: close')
     return 'that connection closes ("communication with agent failed"); the others go on, the key stays'
 
 
@@ -203,7 +203,8 @@ class Chance:
 
     def __init__(self, a, seed):
         self.a, self.rng, self.clients, self.panels, self.broken = a, random.Random(seed), [], [], set()
-        self.payloads = [LIST, b'', b'\xff', b'\x13', LIST + bytes(20000), LOCK + string(b'night'), UNLOCK + string(b'night'), UNLOCK + string(b'other')]
+        self.payloads = [LIST, b'', b'\xff', b'\x13', LIST + bytes(20000), LOCK + string(b'night'), UNLOCK + string(b'night'),
+                         UNLOCK + string(b'other')]
         for kind in ('ed25519', 'ecdsa-256', 'rsa-2048'):
             add = fields_of(kind) + string(b'chance')
             self.payloads += [sign_request(kind), sign_request(kind)[:40], ADD + add, ADD_CONSTRAINED + add + b'\2',

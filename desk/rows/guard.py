@@ -73,7 +73,7 @@ def _():
                 must(tried(path, line)() == 'answered', 'we are kept out')
                 for _ in range(3):
                     must(as_user(NOBODY, tried(path, line)) == 'closed', f'another user is served at {path}')
-            must(len(re.findall(f'uid {NOBODY}', a.log())) >= 6, f'no word of it in the log: {a.log()}')
+            a.logged(f'uid {NOBODY}', 6)
             must('conn' not in str([line for line in a.panel.lines if f'uid {NOBODY}' in line]), 'the panel was asked for it')
             must(Raw(a).ask(LIST) == EMPTY_LIST, 'others suffer')
         finally:

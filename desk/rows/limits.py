@@ -1,14 +1,17 @@
 """Rows: timeouts, the cap of connections, load, and a signer that panics."""
+import argparse
+import os
 import re
 import resource
 import select
 import socket
 import struct
+import subprocess
 import threading
 import time
 
 from .agents import Desk, Panel
-from .base import must, row, until
+from .base import AGENT, at, must, row, until
 from .frames import ADD, EMPTY_LIST, FAILURE, LIST, LOCK, SUCCESS, UNLOCK, Raw, receive, string
 from .keys import fields_of, sign_request
 from .processes import cpu, status
@@ -62,7 +65,7 @@ def _():
         must(receive(asks.conn) == EMPTY_LIST, 'not answered')
         must(asks.is_closed(), 'not closed')
         must(a.panel.ended.is_set() is False, 'the panel is closed')
-        must('idle' in a.log(), a.log())
+        a.logged('idle', 4)
     return 'closed after 1 s, with a line in the log; the other gets its reply'
 
 
@@ -74,7 +77,7 @@ def _():
             must(r.ask(LIST) == EMPTY_LIST, 'not served')
         for _ in range(3):
             must(Raw(a).is_closed(), 'a fourth is served')
-        until(lambda: len(re.findall('connections', a.log())) >= 3, f'no word in the log: {a.log()}')
+        a.logged('connections', 3)
         panel = Panel(a.panel_path)
         panel.say('?')
         panel.said('no question is open')
@@ -103,7 +106,7 @@ def _():
         before = cpu(a)
         time.sleep(1)
         must(cpu(a) - before < 0.5, f'{cpu(a) - before:.1f} s of work in a second of waiting')
-        must('refused' in a.log(), 'no word in the log')
+        a.logged('refused')
         for r in conns:
             r.conn.close()
         until(lambda: run(a, 'ssh-add', '-l')[1] == 'The agent has no identities.', 'none is taken again')
@@ -139,6 +142,17 @@ def _():
         works(a, 'ssh-add', '-x', word='night')
         works(a, 'ssh-add', '-X', word='night')
         must(len(works(a, 'ssh-add', '-l').splitlines()) == 3, 'a key is lost')
+    with open('/dev/full', 'w') as full:
+        a = argparse.Namespace(path=at('full'))
+        p = subprocess.Popen([AGENT, '--sign', 'panic', '--socket', a.path], stdin=subprocess.DEVNULL, stdout=full, stderr=full)
+    try:
+        until(lambda: os.path.exists(a.path), 'no agent')
+        works(a, 'ssh-add', 'ed25519')
+        fails(a, 'ssh-add', '-T', 'ed25519.pub')
+        must(len(works(a, 'ssh-add', '-l').splitlines()) == 1, 'others suffer where its word of it cannot be written')
+    finally:
+        p.terminate()
+    must(p.wait(10) == 0, 'it does not end')
     return '20 times, each closes its own connection; the next requests of others work, the keys stay'
 
 
@@ -191,7 +205,6 @@ def _():
             works(a, 'ssh-add', '-X', word='night')
         must(not load.wrong, f'{load.wrong[:3]}')
         must(max(times) < 2 and whole < 2, f'LOCK {max(times):.2f} s, `ssh-add -x` {whole:.2f} s')
-        must(re.search(r'LOCK\s+landed: SUCCESS', a.log()), a.log()[-500:])
     return 'under 2 s: five LOCK and UNLOCK frames, and `ssh-add -x`'
 
 
@@ -213,6 +226,37 @@ def _():
     return 'those that had not landed get FAILURE'
 
 
+@row('standard input without a line end, and without an end; panels that come and go without end')
+def _():
+    with open('/dev/zero', 'rb') as zero, Desk('--gate', 'ask', input=zero) as a:
+        a.always('LIST')
+        for _ in range(10):
+            must(Raw(a).ask(LIST) == EMPTY_LIST, 'others suffer')
+            time.sleep(0.1)
+        memory = int(status(a.process.pid, 'VmRSS').split()[0])
+        must(memory < 64 * 1024, f'{memory} KB of memory')
+    with Desk() as a:
+        ends = threading.Event()
+
+        def come_and_go():
+            while not ends.is_set():
+                with socket.socket(socket.AF_UNIX) as s:
+                    s.connect(a.panel_path)
+        threads = [threading.Thread(target=come_and_go) for _ in range(3)]
+        for t in threads:
+            t.start()
+        try:
+            start = time.monotonic()
+            for _ in range(50):
+                must(Raw(a).ask(LIST) == EMPTY_LIST, 'others suffer')
+            must(time.monotonic() - start < 5, f'50 lists took {time.monotonic() - start:.1f} s')
+        finally:
+            ends.set()
+            for t in threads:
+                t.join()
+    return 'the others are served, and its memory stays'
+
+
 @row('a panel that sends a line without end; 16 panels, and a 17th (raw)')
 def _():
     with Desk('--gate', 'ask') as a:
@@ -224,7 +268,7 @@ def _():
                 s.sendall(b'y' * 65536)
             grown = int(status(a.process.pid, 'VmRSS').split()[0]) - before
             must(grown < 1024, f'{grown} KB more memory')
-        until(lambda: a.log().count('closed') == 1, 'still open')
+        a.logged('closed')
         panels = [a.panel, *(Panel(a.panel_path) for _ in range(15))]
         p = started(a, 'ssh-add', '-l')
         for panel in panels:

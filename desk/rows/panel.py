@@ -190,8 +190,8 @@ def _():
 def _():
     with Desk('--gate', 'ask') as a:
         r, q, _ = waits(a, LIST, 'LIST')
-        wrong = [b'0 y', b'-1 y', b'+1 y', b'1', b'y', b'1 maybe', b'99999999999999999999 y', b'18446744073709551617 y', b'1 y n', b'1y', b'SHOW', b'\xff\xfe 1',
-                 b'1 y\0', b'x' * 5000, b'1 ' + b' ' * 5000 + b'y', b'1 y' + b' ' * 300 + b'no, not that one']
+        wrong = [b'0 y', b'-1 y', b'+1 y', b'1', b'y', b'1 maybe', b'99999999999999999999 y', b'18446744073709551617 y', b'1 y n', b'1y', b'SHOW',
+                 b'\xff\xfe 1', b'1 y\0', b'x' * 5000, b'1 ' + b' ' * 5000 + b'y', b'1 y' + b' ' * 300 + b'no, not that one']
         for n, line in enumerate(wrong):
             a.panel.conn.sendall(line + b'\n')
             until(lambda: sum(i.startswith('error ') for i in a.panel.lines) == n + 1, f'{line[:30]}: no error')
@@ -236,13 +236,13 @@ def _():
             r.send(string(LIST))
             r.conn.close()
         until(lambda: len(a.panel.gone) == 1500, f'another panel saw {len(a.panel.gone)} of 1500 questions go')
+        until(lambda: 'does not read' in a.written(), 'no word of it in the log', 15)
         text = left_to_read(s)
         must('\n'.join(a.panel.lines).startswith(text.rstrip('\n')) and len(text.splitlines()) > 100, f'not the first lines: {text[-200:]}')
         must(not a.panel.ended.is_set(), 'another panel is closed')
         p = started(a, 'ssh-add', '-l')
         a.answer(a.waiting('LIST')[0], True)
         must(ended(p)[1] == 'The agent has no identities.', 'the answers of others do not count')
-        until(lambda: 'does not read' in a.log(), 'no word of it in the log', 1)
     return 'is closed: it sees the end after what was sent; the others go on'
 
 
