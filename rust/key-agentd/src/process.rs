@@ -25,6 +25,9 @@ pub fn keep_to_ourselves() -> Before {
     if let Some((_, hard)) = before.files {
         let _ = setrlimit(Resource::RLIMIT_NOFILE, hard, hard);
     }
+    if let Ok((_, hard)) = getrlimit(Resource::RLIMIT_MEMLOCK) {
+        let _ = setrlimit(Resource::RLIMIT_MEMLOCK, hard, hard);
+    }
     before
 }
 
