@@ -10,6 +10,8 @@
 #include <sys/socket.h>
 #include <unistd.h>
 
+enum { PIECE = 8192 };
+
 static const char *agent;
 
 /* Behind all others on the processors, so that what disturbs is what the agent does about it. */
@@ -44,11 +46,11 @@ void run_stuck(const char *path, size_t connections) {
 
 /* ---- Without end: a thread for each connection, which waits for a reply or a close and goes on. */
 
-/* Whether the connection is still there. A send to a closed one is no fault here. */
+/* Whether the connection is still there. A send to a closed one is no fault here. In pieces, as a kernel may not be left within one call. */
 static bool is_answered(int fd, const uint8_t *bytes, size_t len) {
     uint8_t reply[REPLY_ROOM];
     while (len) {
-        ssize_t n = send(fd, bytes, len, MSG_NOSIGNAL);
+        ssize_t n = send(fd, bytes, len < PIECE ? len : PIECE, MSG_NOSIGNAL);
         if (n <= 0) return false;
         bytes += n;
         len -= (size_t)n;

@@ -48,6 +48,8 @@ pub struct Connection {
     pub interest: (bool, bool),
     /// The client has sent more while its request waits.
     pub has_more: bool,
+    /// A frame is whole, and its turn comes.
+    pub is_ready: bool,
 }
 
 /// What stands at the front of the bytes.
@@ -72,19 +74,18 @@ impl Connection {
             active: reading,
             interest: (true, false),
             has_more: false,
+            is_ready: false,
         }
     }
 
-    /// Reads what is there, up to a chunk.
+    /// Reads what is there, up to a chunk. Nothing is read while a frame is whole, so no more than one is kept.
     pub fn read(&mut self) -> std::io::Result<()> {
-        let mut input = self.input.take().unwrap_or_else(|| Secret::with_room(0));
+        let mut input = self.input.take().map_or_else(|| Secret::with_room(0), Ok)?;
         if input.room() == 0 {
-            input.reserve(1);
+            input.reserve(1)?;
         }
-        let most = CHUNK.min(FRAME.max(input.len() + 1) - input.len());
-        let free = input.free();
-        let most = most.min(free.len());
-        let got = self.stream.read(&mut free[..most]);
+        let most = CHUNK.min(FRAME.saturating_sub(input.len())).min(input.room());
+        let got = self.stream.read(&mut input.free()[..most]);
         if let Ok(n) = got {
             input.grown(n);
         }
@@ -120,7 +121,7 @@ impl Connection {
 
     /// What the loop is to be told of. While a request waits nothing is read; who sends nothing meanwhile needs no word to the system.
     pub fn wished(&self) -> (bool, bool) {
-        let is_reading = !self.is_sending() && (self.request.is_none() || (self.interest.0 && !self.has_more));
+        let is_reading = !self.is_sending() && !self.is_ready && (self.request.is_none() || (self.interest.0 && !self.has_more));
         (is_reading, self.is_sending())
     }
 

@@ -81,16 +81,16 @@ impl Core {
         self.call(&[], &Lent::default());
     }
 
-    /// How many milliseconds until a key goes.
-    pub fn until_due(&self) -> Option<u64> {
-        self.due.map(|due| due.saturating_sub(self.clock.reading()))
+    /// The reading at which a key goes.
+    pub fn due(&self) -> Option<u64> {
+        self.due
     }
 
     /// Asks the core which keys it holds: what was derived from another goes, and the time of the next to go is noted.
     fn settle(&mut self) {
         let clock = self.gateway.clock();
         let held: BTreeMap<u64, String> = self.gateway.keys().map(|k| (k.number, fingerprint(k.blob))).collect();
-        self.due = self.gateway.keys().filter_map(|k| k.left).min().map(|left| clock + left);
+        self.due = self.gateway.keys().filter_map(|k| k.left).min().map(|left| clock.saturating_add(left));
         self.derived.retain(|number, _| held.contains_key(number));
         let told = std::mem::replace(&mut self.told, held);
         self.gone.extend(told.into_iter().filter(|(number, _)| !self.told.contains_key(number)));
@@ -166,10 +166,10 @@ mod tests {
         core.keep(1, Arc::new(Key::load(&fields).unwrap()));
         core.keep(2, Arc::new(Key::load(&fields).unwrap()));
         assert!(core.derived(1).is_some() && core.derived(2).is_none());
-        assert_eq!(core.until_due(), Some(0));
+        assert!(core.due().is_some());
         assert_eq!(core.call(&[22, 0, 0, 0, 1, 97], &yes()), Outcome::Reply);
         assert!(core.is_locked() && core.shown().is_empty() && core.derived(1).is_none());
         assert_eq!(core.changes().0[0].0, 1);
-        assert_eq!(core.until_due(), None);
+        assert_eq!(core.due(), None);
     }
 }

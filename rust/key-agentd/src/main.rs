@@ -24,8 +24,9 @@ use clap::Parser;
 use nix::sys::signal::{SigSet, Signal};
 use lines::{Line, Lines};
 use options::{Options, Say};
-use sockets::{handed_over, listen, own_path, Made};
+use sockets::{absolute, handed_over, listen, own_path, Made};
 use std::io::{Read, Write};
+use std::os::unix::ffi::OsStrExt;
 use std::os::unix::net::UnixListener;
 use std::path::PathBuf;
 use std::sync::mpsc::{sync_channel, SyncSender};
@@ -39,11 +40,11 @@ fn main() {
     }));
     let mut made = Made::default();
     let ended = std::panic::catch_unwind(std::panic::AssertUnwindSafe(|| run(options, &mut made)));
-    made.remove();
+    let has_made = made.remove();
     let status = match ended {
         Ok(Ok((status, log, is_told))) => {
             if is_told {
-                log.say("agent: ended, socket removed".to_string());
+                log.say(if has_made { "agent: ended, socket removed" } else { "agent: ended" }.to_string());
             }
             log.finish();
             status
@@ -72,18 +73,19 @@ fn run(options: Options, made: &mut Made) -> Result<(i32, log::Log, bool), Strin
     let log = log::Log::new(options.log, has_command).map_err(|e| format!("no thread: {e}"))?;
     let is_told = !has_command || log.has(log::Level::Info);
     if is_told {
-        log.say(format!("export SSH_AUTH_SOCK={}", quoted(&path.to_string_lossy())));
-        log.say(format!("agent: gate {}, confirm {}; Ctrl-C ends it and removes the socket", options.gate.word(), options.confirm.word()));
+        let end = if made.is_empty() { "Ctrl-C ends it" } else { "Ctrl-C ends it and removes the socket" };
+        log.say(format!("export SSH_AUTH_SOCK={}", quoted(path.as_os_str().as_bytes())));
+        log.say(format!("agent: gate {}, confirm {}; {end}", options.gate.word(), options.confirm.word()));
     }
     let wake = workers::Wake::new().map_err(|e| e.desc().to_string())?;
     let (to_loop, lines) = sync_channel(64);
-    let is_asking = options.gate == Say::Ask || options.confirm == Say::Ask;
-    if is_asking && !has_command {
+    let has_terminal = (options.gate == Say::Ask || options.confirm == Say::Ask) && !has_command;
+    if has_terminal {
         read_terminal(to_loop, wake).map_err(|e| format!("no thread: {e}"))?;
     }
     let child = if has_command { Some(process::start(&options.command, &path, before)?) } else { None };
     let most = process::most_connections(options.max_connections);
-    let set = serve::Serve { options, log, clock: clock::Clock::new(), wake, lines, signals, agent, panel_listener, child, most };
+    let set = serve::Serve { options, log, clock: clock::Clock::new(), wake, lines, signals, agent, panel_listener, child, most, has_terminal };
     let (status, log) = serve::serve(set)?;
     Ok((status, log, is_told))
 }
@@ -98,7 +100,7 @@ fn all_sockets(options: &Options, made: &mut Made) -> Result<(UnixListener, Opti
         }
         None => {
             let path = match &options.socket {
-                Some(path) => std::env::current_dir().map_err(|e| e.to_string())?.join(path),
+                Some(path) => absolute(path)?,
                 None => own_path(made)?,
             };
             (listen(&path, made)?, path)
@@ -138,12 +140,23 @@ fn read_terminal(to_loop: SyncSender<Option<Line>>, wake: workers::Wake) -> std:
 }
 
 /// As a word of a shell's line.
-fn quoted(path: &str) -> String {
-    let is_plain = |c: char| c.is_ascii_alphanumeric() || "@%+=:,./-_".contains(c);
-    if !path.is_empty() && path.chars().all(is_plain) {
-        path.to_string()
-    } else {
-        format!("'{}'", path.replace('\'', "'\"'\"'"))
+fn quoted(path: &[u8]) -> String {
+    let is_plain = |b: &u8| b.is_ascii_alphanumeric() || b"@%+=:,./-_".contains(b);
+    match std::str::from_utf8(path) {
+        Ok(text) if !path.is_empty() && path.iter().all(is_plain) => text.to_string(),
+        Ok(text) if !text.chars().any(char::is_control) => format!("'{}'", text.replace('\'', "'\"'\"'")),
+        _ => format!("$'{}'", path.iter().map(|b| if is_plain(b) { char::from(*b).to_string() } else { format!("\\x{b:02x}") }).collect::<String>()),
     }
 }
 
+#[cfg(test)]
+mod tests {
+    use super::quoted;
+
+    #[test]
+    fn paths_for_a_shell() {
+        assert_eq!(quoted(b"/run/user/1000/agent"), "/run/user/1000/agent");
+        assert_eq!(quoted("/tmp/it's ü".as_bytes()), "'/tmp/it'\"'\"'s ü'");
+        assert_eq!(quoted(b"/tmp/\xff\n"), "$'/tmp/\\xff\\x0a'");
+    }
+}

@@ -76,10 +76,14 @@ pub fn fingerprint(blob: &[u8]) -> String {
     format!("SHA256:{}", encode_block(&sha256(blob)).trim_end_matches('='))
 }
 
-/// One line for eyes: what could move a cursor or turn a line round is shown as `?`.
+/// One line for eyes: what could move a cursor, turn a line round or is not seen at all is shown as `?`.
 pub fn shown(text: &str) -> String {
-    let is_hidden = |c: char| c.is_control() || matches!(c, '\u{200b}'..='\u{200f}' | '\u{2028}'..='\u{202e}' | '\u{2066}'..='\u{2069}' | '\u{feff}');
-    text.chars().map(|c| if is_hidden(c) { '?' } else { c }).collect()
+    text.chars().map(|c| if c.is_control() || is_unseen(c) { '?' } else { c }).collect()
+}
+
+fn is_unseen(c: char) -> bool {
+    matches!(c, '\u{ad}' | '\u{61c}' | '\u{115f}' | '\u{1160}' | '\u{180b}'..='\u{180f}' | '\u{200b}'..='\u{200f}' | '\u{2028}'..='\u{202e}'
+        | '\u{2060}'..='\u{206f}' | '\u{3164}' | '\u{feff}' | '\u{ffa0}' | '\u{fff0}'..='\u{fffb}' | '\u{e0000}'..='\u{e0fff}')
 }
 
 /// The same as one word.

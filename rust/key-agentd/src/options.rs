@@ -45,16 +45,17 @@ const MORE: &str = "questions:
   with ssh-add -c. Open questions have numbers, several can wait at a time, and each is answered by its number, in any order: type
       3 y    or    3 n        ? shows the open questions
   A client that hangs up takes its question with it. On a terminal type the answers there; otherwise they are read from standard input
-  (not where a COMMAND has it).
+  (not where a COMMAND has it). Where that has ended and there is no --panel, nobody can answer, and each question is a no.
 
   --panel PATH is a second socket for the same answers, for key-agent-panel, another terminal (nc -U PATH) or a program. It writes a line for
   each event,
-      ask NUMBER conn N MESSAGE gate CLASS uid U pid P program NAME [key FINGERPRINT comment TEXT]
+      ask NUMBER conn N MESSAGE gate CLASS uid U pid P program NAME [key FINGERPRINT [comment TEXT]]
       ask NUMBER conn N SIGN confirm key K FINGERPRINT uid U pid P program NAME comment TEXT
       answered NUMBER y|n [timeout] | gone NUMBER
   (first the questions that are open), and reads lines NUMBER y or NUMBER n; to a line that answers nothing it says `error ..`. `show` asks for
       lock open|locked, then a line for each key: key NUMBER FINGERPRINT left SECONDS|- confirm yes|no comment TEXT, then end
-  and `watch` for the same at each change. While locked nothing is said of any key. A panel that does not read is closed.
+  and `watch` for the same at each change. While locked nothing is said of any key. A panel that does not read is closed; there
+  are 16 at most.
 
 log:
   --log writes a line for each connection, request, question and landing: time, connection, message, outcome. Passphrases, their lengths
@@ -79,7 +80,7 @@ exit status: 0 ended by Ctrl-C, SIGTERM or SIGHUP (not where nohup started it); 
 #[derive(Parser, Debug)]
 #[command(name = "key-agentd", version, about = ABOUT, after_help = MORE, max_term_width = 150)]
 pub struct Options {
-    /// The agent's socket, mode 0600 [default: in a new folder of mode 0700 in $XDG_RUNTIME_DIR or /tmp]
+    /// The agent's socket, mode 0600 [default: in a new folder of mode 0700 in $XDG_RUNTIME_DIR, $TMPDIR or /tmp]
     #[arg(long, value_name = "PATH")]
     pub socket: Option<PathBuf>,
     /// What the panel says to each request

@@ -53,6 +53,9 @@ struct Watcher {
     unread: Vec<u8>,
     /// Shall it see keys and lock at each change?
     is_watching: bool,
+    /// It is to see keys and lock, or the open questions, once it has read what was written before.
+    wants_block: bool,
+    wants_list: bool,
     /// Is the loop told of room to write?
     is_told: bool,
     /// The bytes that it has taken; how many they were, and at which reading, when it was looked at and nothing waited or some had been taken.
@@ -65,6 +68,7 @@ struct Watcher {
 pub enum Said {
     Answer { number: u64, asker: u64, yes: bool },
     Wrong(String),
+    List,
     Show,
     Watch,
     Nothing,
@@ -100,19 +104,25 @@ impl Panel {
         self.open.iter().filter(|(_, q)| is_over(q)).map(|(n, q)| (*n, q.asker)).collect()
     }
 
-    pub fn until_due(&self, reading: u64) -> Option<u64> {
-        self.open.values().filter_map(|q| q.deadline).min().map(|d| d.saturating_sub(reading))
+    /// The reading at which the next question's time is over.
+    pub fn due(&self) -> Option<u64> {
+        self.open.values().filter_map(|q| q.deadline).min()
+    }
+
+    /// All open questions, and who asks each.
+    pub fn open(&self) -> Vec<(u64, u64)> {
+        self.open.iter().map(|(n, q)| (*n, q.asker)).collect()
     }
 
     /// What a line from the terminal or a panel says.
-    pub fn read_line(&self, line: &Line, is_locked: bool) -> Said {
+    pub fn read_line(&self, line: &Line) -> Said {
         let words: Vec<&str> = match line {
             Some(line) => line.split_whitespace().collect(),
             None => return unreadable(),
         };
         match words[..] {
             [] => Said::Nothing,
-            ["?"] => Said::Wrong(self.listed(is_locked)),
+            ["?"] => Said::List,
             ["show"] => Said::Show,
             ["watch"] => Said::Watch,
             [number, answer] => self.read_answer(number, answer),
@@ -120,7 +130,8 @@ impl Panel {
         }
     }
 
-    fn listed(&self, is_locked: bool) -> String {
+    /// The open questions, for who asks for them.
+    pub fn listed(&self, is_locked: bool) -> String {
         let lines: Vec<String> = self.open.iter().map(|(n, q)| format!("question {n}: {}", q.text.words(is_locked))).collect();
         if lines.is_empty() {
             "no question is open".to_string()
@@ -142,7 +153,7 @@ impl Panel {
     }
 
     pub fn connect(&mut self, token: u64, stream: UnixStream, is_locked: bool) {
-        let mut w = Watcher { stream, lines: Lines::default(), unread: Vec::new(), is_watching: false, is_told: false, taken: 0, seen: (0, 0) };
+        let mut w = Watcher { stream, lines: Lines::default(), unread: Vec::new(), is_watching: false, wants_block: false, wants_list: false, is_told: false, taken: 0, seen: (0, 0) };
         let lines: Vec<String> = self.open.iter().map(|(n, q)| format!("ask {n} {}", q.text.words(is_locked))).collect();
         if !lines.is_empty() {
             w.put(&lines.join("\n"));
@@ -170,24 +181,42 @@ impl Panel {
         }
     }
 
-    pub fn watch(&mut self, token: u64) {
+    /// The panel is to see keys and lock: once, or at each change.
+    pub fn want_block(&mut self, token: u64, is_watching: bool) {
         if let Some(w) = self.watchers.get_mut(&token) {
-            w.is_watching = true;
+            w.wants_block = true;
+            w.is_watching |= is_watching;
         }
     }
 
-    /// Keys and lock, to one panel, or to all that watch.
-    pub fn show(&mut self, to: Option<u64>, is_locked: bool, keys: &[Shown]) {
-        let block = block(is_locked, keys);
-        for (token, w) in &mut self.watchers {
-            if to.map_or(w.is_watching, |t| t == *token) {
+    pub fn want_list(&mut self, token: u64) {
+        if let Some(w) = self.watchers.get_mut(&token) {
+            w.wants_list = true;
+        }
+    }
+
+    /// Keys or lock have changed.
+    pub fn want_blocks(&mut self) {
+        for w in self.watchers.values_mut().filter(|w| w.is_watching) {
+            w.wants_block = true;
+        }
+    }
+
+    /// Is there one that wants to see something, and has read all before it?
+    pub fn has_wishes(&self) -> bool {
+        self.watchers.values().any(|w| w.unread.is_empty() && (w.wants_block || w.wants_list))
+    }
+
+    pub fn grant_wishes(&mut self, is_locked: bool, keys: &[Shown]) {
+        let (block, list) = (block(is_locked, keys), self.listed(is_locked).replace('\n', "; "));
+        for w in self.watchers.values_mut().filter(|w| w.unread.is_empty()) {
+            if std::mem::replace(&mut w.wants_block, false) {
                 w.put(&block);
             }
+            if std::mem::replace(&mut w.wants_list, false) {
+                w.put(&format!("error {list}"));
+            }
         }
-    }
-
-    pub fn has_watching(&self) -> bool {
-        self.watchers.values().any(|w| w.is_watching)
     }
 
     /// The lines that a panel has sent; none where it has ended.
@@ -210,10 +239,9 @@ impl Panel {
         self.watchers.iter_mut().filter_map(|(t, w)| w.is_unread(reading).then(|| *t)).collect()
     }
 
-    /// How long until one of them may count as one that does not read.
-    pub fn until_unread(&self, reading: u64) -> Option<u64> {
-        let waiting = self.watchers.values().filter(|w| !w.unread.is_empty());
-        waiting.map(|w| (w.seen.1 + PATIENCE).saturating_sub(reading)).min()
+    /// The reading at which one of them may count as one that does not read.
+    pub fn unread_due(&self) -> Option<u64> {
+        self.watchers.values().filter(|w| !w.unread.is_empty()).map(|w| w.seen.1 + PATIENCE).min()
     }
 
     /// The panels for which the loop is to be told otherwise than before: of room to write, or no more of it.
@@ -312,15 +340,15 @@ mod tests {
         let one = p.ask(text(), 11, None, false);
         let two = p.ask(text(), 12, Some(500), false);
         let line = |text: &str| Some(text.to_string());
-        assert_eq!(p.read_line(&line("2 y"), false), Said::Answer { number: two, asker: 12, yes: true });
-        assert_eq!(p.read_line(&line("  1   no "), false), Said::Answer { number: one, asker: 11, yes: false });
+        assert_eq!(p.read_line(&line("2 y")), Said::Answer { number: two, asker: 12, yes: true });
+        assert_eq!(p.read_line(&line("  1   no ")), Said::Answer { number: one, asker: 11, yes: false });
         for wrong in ["y", "3 y", "1 maybe", "-1 y", "+1 y", "1 y 2", "99999999999999999999 y"] {
-            assert!(matches!(p.read_line(&line(wrong), false), Said::Wrong(_)), "{wrong}");
+            assert!(matches!(p.read_line(&line(wrong)), Said::Wrong(_)), "{wrong}");
         }
-        assert!(matches!(p.read_line(&None, false), Said::Wrong(_)));
+        assert!(matches!(p.read_line(&None), Said::Wrong(_)));
         assert_eq!(p.overdue(499), []);
         assert_eq!(p.overdue(500), [(two, 12)]);
         assert!(p.close(one, "gone 1") && !p.close(one, "gone 1"));
-        assert!(matches!(p.read_line(&line("1 y"), false), Said::Wrong(_)));
+        assert!(matches!(p.read_line(&line("1 y")), Said::Wrong(_)));
     }
 }

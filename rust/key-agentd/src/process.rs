@@ -8,24 +8,23 @@ use std::process::{Child, Command};
 
 /// What was set before, for a command that is started.
 pub struct Before {
-    core: Option<(u64, u64)>,
-    files: Option<(u64, u64)>,
+    limits: [(Resource, Option<(u64, u64)>); 3],
     mask: SigSet,
 }
 
-/// Nobody attaches to us or reads our memory, no core file is written, and as many descriptors as the system allows are ours.
+/// Nobody attaches to us or reads our memory, no core file is written, and as many descriptors and as much locked memory as
+/// the system allows are ours.
 pub fn keep_to_ourselves() -> Before {
     // SAFETY: sets an attribute of this process.
     unsafe { libc::prctl(libc::PR_SET_DUMPABLE, 0, 0, 0, 0) };
     let mask = SigSet::thread_get_mask().unwrap_or_else(|_| SigSet::empty());
-    let before = Before { core: getrlimit(Resource::RLIMIT_CORE).ok(), files: getrlimit(Resource::RLIMIT_NOFILE).ok(), mask };
-    if let Some((_, hard)) = before.core {
-        let _ = setrlimit(Resource::RLIMIT_CORE, 0, hard);
+    let limits = [Resource::RLIMIT_CORE, Resource::RLIMIT_NOFILE, Resource::RLIMIT_MEMLOCK].map(|what| (what, getrlimit(what).ok()));
+    for (what, before) in limits {
+        if let Some((_, hard)) = before {
+            let _ = setrlimit(what, if what == Resource::RLIMIT_CORE { 0 } else { hard }, hard);
+        }
     }
-    if let Some((_, hard)) = before.files {
-        let _ = setrlimit(Resource::RLIMIT_NOFILE, hard, hard);
-    }
-    before
+    Before { limits, mask }
 }
 
 /// Locks all memory, the library's copies of keys too, where no limit stands against it; is it locked? With a limit each buffer is locked for itself.
@@ -81,7 +80,7 @@ pub fn start(words: &[std::ffi::OsString], socket: &std::path::Path, before: Bef
     // SAFETY: both calls may be made between fork and exec.
     unsafe {
         command.pre_exec(move || {
-            for (what, value) in [(Resource::RLIMIT_CORE, before.core), (Resource::RLIMIT_NOFILE, before.files)] {
+            for (what, value) in before.limits {
                 if let Some((soft, hard)) = value {
                     let _ = setrlimit(what, soft, hard);
                 }

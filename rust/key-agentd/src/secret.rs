@@ -2,19 +2,23 @@
 use nix::libc;
 use nix::sys::mman::{madvise, mlock, mmap, munmap, MapFlags, MmapAdvise, ProtFlags};
 use std::ffi::c_void;
+use std::io;
 use std::num::NonZeroUsize;
 use std::ops::{Deref, DerefMut};
-use std::sync::atomic::{AtomicBool, Ordering};
+use std::sync::atomic::{AtomicBool, AtomicUsize, Ordering};
 use std::sync::{Mutex, MutexGuard};
 
 /// What a buffer has room for, in steps: most frames fit the first, and who sends 64 KB may get room for the longest frame.
 const ROOMS: [usize; 3] = [8 << 10, 64 << 10, 260 << 10];
 /// How many of each are kept for the next that needs one.
-const KEPT: [usize; 3] = [64, 4, 2];
+const KEPT: [usize; 3] = [64, 4, 4];
+/// What rooms above the first may take in all; above it who needs one is turned away. The first is there for everybody.
+const MOST: usize = 128 << 20;
 /// A call takes up to 29 KB of stack (include/key_agent.h), and what calls it some more.
 const STACK: usize = 48 * 1024;
 
 static UNLOCKED: AtomicBool = AtomicBool::new(false);
+static TAKEN: AtomicUsize = AtomicUsize::new(0);
 
 static POOL: Mutex<[Vec<Pages>; 3]> = Mutex::new([Vec::new(), Vec::new(), Vec::new()]);
 
@@ -35,9 +39,9 @@ fn wipe(bytes: &mut [u8]) {
     unsafe { libc::explicit_bzero(bytes.as_mut_ptr() as *mut c_void, bytes.len()) };
 }
 
-/// Has memory stayed unlocked since this was asked last, as the limit of locked memory was reached?
+/// Has memory stayed unlocked, as the limit of locked memory was reached?
 pub fn has_unlocked() -> bool {
-    UNLOCKED.swap(false, Ordering::Relaxed)
+    UNLOCKED.load(Ordering::Relaxed)
 }
 
 /// Keeps these bytes out of swap and core files, as far as the system lets us.
@@ -58,22 +62,32 @@ struct Pages {
 unsafe impl Send for Pages {}
 
 impl Pages {
-    fn new(len: usize) -> Pages {
+    fn new(len: usize) -> io::Result<Pages> {
+        let taken = if len > ROOMS[0] { TAKEN.fetch_add(len, Ordering::Relaxed) } else { 0 };
+        let mut pages = Pages { at: std::ptr::null_mut(), len };
+        if taken + len > MOST {
+            return Err(io::Error::new(io::ErrorKind::OutOfMemory, "too many long frames at a time"));
+        }
         let size = NonZeroUsize::new(len).expect("above zero");
         // SAFETY: new private memory, wherever the system puts it.
-        let at = unsafe { mmap(None, size, ProtFlags::PROT_READ | ProtFlags::PROT_WRITE, MapFlags::MAP_PRIVATE | MapFlags::MAP_ANONYMOUS, -1, 0) };
-        let at = at.expect("memory for a frame") as *mut u8;
+        let at = unsafe { mmap(None, size, ProtFlags::PROT_READ | ProtFlags::PROT_WRITE, MapFlags::MAP_PRIVATE | MapFlags::MAP_ANONYMOUS, -1, 0) }?;
+        pages.at = at as *mut u8;
         // SAFETY: pages that were just mapped.
-        let _ = unsafe { madvise(at as *mut c_void, len, MmapAdvise::MADV_DONTDUMP) };
-        lock(at, len);
-        Pages { at, len }
+        let _ = unsafe { madvise(at, len, MmapAdvise::MADV_DONTDUMP) };
+        lock(pages.at, len);
+        Ok(pages)
     }
 }
 
 impl Drop for Pages {
     fn drop(&mut self) {
-        // SAFETY: mapped in `new`, and nobody has a reference any more.
-        let _ = unsafe { munmap(self.at as *mut c_void, self.len) };
+        if self.len > ROOMS[0] {
+            TAKEN.fetch_sub(self.len, Ordering::Relaxed);
+        }
+        if !self.at.is_null() {
+            // SAFETY: mapped in `new`, and nobody has a reference any more.
+            let _ = unsafe { munmap(self.at as *mut c_void, self.len) };
+        }
     }
 }
 
@@ -85,16 +99,17 @@ pub struct Secret {
 
 impl Secret {
     /// With room for so many bytes, and none in it.
-    pub fn with_room(room: usize) -> Secret {
+    pub fn with_room(room: usize) -> io::Result<Secret> {
         let step = ROOMS.iter().position(|r| room <= *r).expect("no frame is longer");
         let kept = pool()[step].pop();
-        Secret { pages: Some(kept.unwrap_or_else(|| Pages::new(ROOMS[step]))), len: 0 }
+        let pages = kept.map_or_else(|| Pages::new(ROOMS[step]), Ok)?;
+        Ok(Secret { pages: Some(pages), len: 0 })
     }
 
-    pub fn of(bytes: &[u8]) -> Secret {
-        let mut s = Secret::with_room(bytes.len());
-        s.push(bytes);
-        s
+    pub fn of(bytes: &[u8]) -> io::Result<Secret> {
+        let mut s = Secret::with_room(bytes.len())?;
+        s.push(bytes)?;
+        Ok(s)
     }
 
     fn pages(&self) -> &Pages {
@@ -106,20 +121,22 @@ impl Secret {
     }
 
     /// Adds bytes at the end; what is there moves to a larger place where it must.
-    pub fn push(&mut self, bytes: &[u8]) {
-        self.reserve(bytes.len());
+    pub fn push(&mut self, bytes: &[u8]) -> io::Result<()> {
+        self.reserve(bytes.len())?;
         let from = self.len;
         self.len += bytes.len();
         self[from..].copy_from_slice(bytes);
+        Ok(())
     }
 
-    pub fn reserve(&mut self, more: usize) {
+    pub fn reserve(&mut self, more: usize) -> io::Result<()> {
         if self.room() < more {
-            let mut larger = Secret::with_room(self.len + more);
+            let mut larger = Secret::with_room(self.len + more)?;
             larger.len = self.len;
             larger.copy_from_slice(self);
             *self = larger;
         }
+        Ok(())
     }
 
     /// The room behind the bytes, for a read; `grown` says how many came.
@@ -190,8 +207,8 @@ mod tests {
 
     #[test]
     fn grows_and_shifts() {
-        let mut s = Secret::of(b"vents");
-        s.push(&[7; 262_143]);
+        let mut s = Secret::of(b"vents").unwrap();
+        s.push(&[7; 262_143]).unwrap();
         assert_eq!((&s[..5], s.len()), (&b"vents"[..], 4 + key_agent::MAX_PAYLOAD));
         s.shift(3);
         assert_eq!((&s[..3], s.len()), (&b"ts\x07"[..], 262_145));
@@ -200,8 +217,17 @@ mod tests {
     }
 
     #[test]
+    fn long_rooms_have_an_end_and_short_ones_none() {
+        let long: Vec<_> = std::iter::from_fn(|| Secret::with_room(200_000).ok()).take(2000).collect();
+        assert!(long.len() > 400 && long.len() < 520);
+        assert!(Secret::with_room(100).is_ok());
+        drop(long);
+        assert!(Secret::with_room(200_000).is_ok());
+    }
+
+    #[test]
     fn a_pooled_buffer_is_zero() {
         drop(Secret::of(b"a passphrase"));
-        assert!(Secret::with_room(12).free().iter().all(|b| *b == 0));
+        assert!(Secret::with_room(12).unwrap().free().iter().all(|b| *b == 0));
     }
 }

@@ -1,12 +1,12 @@
 //! The loop. It owns the core and never blocks: whoever answers a question, checks a key or signs does so elsewhere, and the answer comes back as
 //! the next call of the request. Between two calls any other request may land; each call looks afresh.
-use crate::clock::Clock;
+use crate::clock::{Clock, Timer};
 use crate::connection::{Connection, Front, Request, Waiting};
 use crate::core::{Core, Lent, Shown};
 use crate::lines::Line;
 use crate::log::{Level, Log};
 use crate::names;
-use crate::options::{Options, Sign};
+use crate::options::{Options, Say, Sign};
 use crate::panel::{KeyWords, Panel, Said, Text};
 use crate::secret::{self, Secret};
 use crate::sockets::Peer;
@@ -31,7 +31,8 @@ const AGENT: u64 = 0;
 const PANEL: u64 = 1;
 const SIGNALS: u64 = 2;
 const WAKE: u64 = 3;
-const FIRST: u64 = 4;
+const TIMER: u64 = 4;
+const FIRST: u64 = 5;
 
 /// Frames of one connection in a row, before the others have their turn.
 const TURN: usize = 8;
@@ -40,6 +41,10 @@ const TAKEN: usize = 64;
 const TYPED: usize = 64;
 /// Panels at a time.
 const PANELS: usize = 16;
+/// Lines of one kind about connections that are refused, in a second.
+const A_SECOND: u64 = 10;
+/// Idle connections are looked for once in so many milliseconds.
+const SWEEP: u64 = 1000;
 /// How long nothing is taken where the system has no descriptor left.
 const PAUSE: u64 = 100;
 
@@ -71,7 +76,36 @@ pub struct Serve {
     pub agent: UnixListener,
     pub panel_listener: Option<UnixListener>,
     pub child: Option<std::process::Child>,
+    /// The connections that are served at a time.
     pub most: usize,
+    /// Is the terminal read for answers?
+    pub has_terminal: bool,
+}
+
+/// Lines that somebody could make us write without end.
+#[derive(Default)]
+struct Seldom {
+    /// The reading at which the second began, how many lines were written in it, and how many were left out since the last.
+    began: u64,
+    written: u64,
+    left_out: u64,
+}
+
+impl Seldom {
+    /// The line to write now, if any.
+    fn line(&mut self, text: &str, reading: u64) -> Option<String> {
+        if reading >= self.began + 1000 {
+            self.began = reading;
+            self.written = 0;
+        }
+        if self.written >= A_SECOND {
+            self.left_out += 1;
+            return None;
+        }
+        self.written += 1;
+        let more = std::mem::take(&mut self.left_out);
+        Some(if more == 0 { text.to_string() } else { format!("{text}; {more} lines like it were left out") })
+    }
 }
 
 struct Loop {
@@ -93,6 +127,11 @@ struct Loop {
     swept: u64,
     /// The most connections since memory was handed back.
     peak: usize,
+    timer: Timer,
+    /// Lines about other users, on the agent's and the panel's socket, and about too many connections.
+    others: [Seldom; 2],
+    crowds: Seldom,
+    is_told_unlocked: bool,
 }
 
 /// Serves until a signal or the command's end; the exit status.
@@ -101,6 +140,7 @@ pub fn serve(set: Serve) -> Result<(i32, Log), String> {
     let epoll = epoll_create1(EpollCreateFlags::EPOLL_CLOEXEC).map_err(fault)?;
     let core = Core::new(set.clock);
     let workers = Workers::new(set.wake).map_err(|e| format!("no thread: {e}"))?;
+    let timer = Timer::new(set.clock).map_err(fault)?;
     let mut l = Loop {
         set,
         epoll,
@@ -115,6 +155,10 @@ pub fn serve(set: Serve) -> Result<(i32, Log), String> {
         paused: None,
         swept: 0,
         peak: 0,
+        timer,
+        others: Default::default(),
+        crowds: Seldom::default(),
+        is_told_unlocked: false,
     };
     l.add(l.set.agent.as_raw_fd(), AGENT).map_err(fault)?;
     if let Some(p) = &l.set.panel_listener {
@@ -122,6 +166,7 @@ pub fn serve(set: Serve) -> Result<(i32, Log), String> {
     }
     l.add(l.set.signals.as_raw_fd(), SIGNALS).map_err(fault)?;
     l.add(l.set.wake.fd(), WAKE).map_err(fault)?;
+    l.add(l.timer.fd(), TIMER).map_err(fault)?;
     let status = l.run();
     Ok((status, l.set.log))
 }
@@ -145,7 +190,9 @@ impl Loop {
     fn run(&mut self) -> i32 {
         let mut events = vec![EpollEvent::empty(); 256];
         loop {
-            let n = epoll_wait(self.epoll, &mut events, self.patience()).unwrap_or(0);
+            self.timer.set(self.deadline());
+            let patience = if self.ready.is_empty() { -1 } else { 0 };
+            let n = epoll_wait(self.epoll, &mut events, patience).unwrap_or(0);
             let mut status = None;
             for e in &events[..n] {
                 status = status.or(self.on_event(e.data(), e.events()));
@@ -159,17 +206,10 @@ impl Loop {
         }
     }
 
-    /// How long to wait for events, in milliseconds; -1 is for ever.
-    fn patience(&self) -> isize {
-        if !self.ready.is_empty() {
-            return 0;
-        }
-        let reading = self.set.clock.reading();
-        let sweep = self.set.options.idle_timeout.map(|_| (self.swept + 1000).saturating_sub(reading));
-        let pause = self.paused.map(|p| p.saturating_sub(reading));
-        let panel = self.panel.until_due(reading).into_iter().chain(self.panel.until_unread(reading)).min();
-        let least = [self.core.until_due(), panel, sweep, pause].into_iter().flatten().min();
-        least.map_or(-1, |ms| ms.min(i32::MAX as u64 - 1) as isize)
+    /// The reading at which something is to be done though nobody comes.
+    fn deadline(&self) -> Option<u64> {
+        let sweep = self.set.options.idle_timeout.filter(|_| !self.connections.is_empty()).map(|_| self.swept + SWEEP);
+        [self.core.due(), self.panel.due(), self.panel.unread_due(), sweep, self.paused].into_iter().flatten().min()
     }
 
     fn on_event(&mut self, token: u64, events: EpollFlags) -> Option<i32> {
@@ -178,6 +218,7 @@ impl Loop {
             PANEL => self.take_panels(),
             SIGNALS => return self.on_signal(),
             WAKE => self.on_wake(),
+            TIMER => self.timer.clear(),
             _ if self.panel.is_panel(token) => self.on_panel(token, events),
             _ => self.on_client(token, events),
         }
@@ -213,11 +254,10 @@ impl Loop {
         let name = format!("conn {}", self.opened);
         let peer = match let_in(&stream) {
             Ok(peer) => peer,
-            Err(why) => return self.set.log.write(Level::Warn, &name, "", &format!("refused: {why}")),
+            Err(why) => return self.refuse_other(&name, &why, AGENT),
         };
         if self.connections.len() >= self.set.most {
-            let text = format!("refused: {} connections are open, as many as --max-connections allows", self.connections.len());
-            return self.set.log.write(Level::Warn, &name, "", &text);
+            return self.refuse_crowd(&name);
         }
         let token = self.next_token();
         if stream.set_nonblocking(true).is_err() || self.add(stream.as_raw_fd(), token).is_err() {
@@ -226,6 +266,23 @@ impl Loop {
         self.set.log.write(Level::Info, &name, "", &format!("opened by uid {} pid {} program {}", peer.uid, peer.pid, peer.program));
         self.connections.insert(token, Connection::new(stream, self.opened, peer, self.set.clock.reading()));
         self.peak = self.peak.max(self.connections.len());
+    }
+
+    fn refuse_other(&mut self, name: &str, why: &str, from: u64) {
+        let reading = self.set.clock.reading();
+        if let Some(line) = self.others[from as usize].line(&format!("refused: {why}"), reading) {
+            self.set.log.write(Level::Warn, name, "", &line);
+        }
+    }
+
+    fn refuse_crowd(&mut self, name: &str) {
+        let most = self.set.most;
+        let what = if most < self.set.options.max_connections as usize { "the limit of open files" } else { "--max-connections" };
+        let text = format!("refused: {most} connections are open, as many as {what} allows");
+        let reading = self.set.clock.reading();
+        if let Some(line) = self.crowds.line(&text, reading) {
+            self.set.log.write(Level::Warn, name, "", &line);
+        }
     }
 
     fn next_token(&mut self) -> u64 {
@@ -248,7 +305,7 @@ impl Loop {
 
     fn take_panel(&mut self, stream: UnixStream) {
         if let Err(why) = let_in(&stream) {
-            return self.set.log.write(Level::Warn, "panel", "", &format!("refused: {why}"));
+            return self.refuse_other("panel", &why, PANEL);
         }
         if self.panel.panels() >= PANELS {
             return self.set.log.write(Level::Warn, "panel", "", &format!("refused: {PANELS} panels are open"));
@@ -303,7 +360,10 @@ impl Loop {
                 Front::More => return Ok(()),
             }
         }
-        self.ready.push_back(token);
+        if !c.is_ready {
+            c.is_ready = true;
+            self.ready.push_back(token);
+        }
         Ok(())
     }
 
@@ -363,25 +423,25 @@ impl Loop {
             match question {
                 Question::Gate(class) => {
                     let what = format!("gate {}", names::class(class));
-                    match self.set.options.gate.standing() {
+                    match self.standing(c, self.set.options.gate) {
                         Some(yes) => request.lent.gate = Some(self.stands(c, payload, &what, yes)),
                         None => return Ok(Step::Wait(self.ask(token, c, payload, &what, None), 0, what)),
                     }
                 }
                 Question::Confirmation { number } => {
                     let what = format!("confirm key {number}");
-                    match self.set.options.confirm.standing() {
+                    match self.standing(c, self.set.options.confirm) {
                         Some(yes) => request.lent.confirmation = Some(Numbered { number, answer: self.stands(c, payload, &what, yes) }),
                         None => return Ok(Step::Wait(self.ask(token, c, payload, &what, Some(number)), number, what)),
                     }
                 }
                 Question::Check(part) => {
-                    let work = Work::Check { fields: Secret::of(&payload[part]) };
+                    let work = Work::Check { fields: Secret::of(&payload[part])? };
                     return Ok(Step::Wait(self.start(token, work), 0, "key check".to_string()));
                 }
                 Question::Signature { number, data, hash } => {
                     let what = format!("signature by key {number}, {} bytes of data, hash {}", data.len(), names::hash(hash));
-                    match self.signing(number, &payload[data], hash) {
+                    match self.signing(number, &payload[data], hash)? {
                         Some(work) => return Ok(Step::Wait(self.start(token, work), number, what)),
                         None => {
                             self.set.log.write(Level::Info, &c.name, "SIGN", &format!("{what}? none given"));
@@ -391,6 +451,15 @@ impl Loop {
                 }
             }
         }
+    }
+
+    /// The answer that stands: by an option, or a no where nobody can be asked.
+    fn standing(&self, c: &Connection, say: Say) -> Option<bool> {
+        if say == Say::Ask && !self.set.has_terminal && self.set.panel_listener.is_none() {
+            self.set.log.write(Level::Warn, &c.name, "", "nobody can answer, so it is a no; --panel PATH is a way");
+            return Some(false);
+        }
+        say.standing()
     }
 
     fn stands(&self, c: &Connection, payload: &[u8], text: &str, yes: bool) -> bool {
@@ -407,17 +476,20 @@ impl Loop {
     }
 
     /// What a signer is to do; none where it gives nothing.
-    fn signing(&mut self, number: u64, data: &[u8], hash: Hash) -> Option<Work> {
+    fn signing(&mut self, number: u64, data: &[u8], hash: Hash) -> std::io::Result<Option<Work>> {
         match self.set.options.sign {
-            Sign::No => return None,
-            Sign::Panic => return Some(Work::Panic),
+            Sign::No => return Ok(None),
+            Sign::Panic => return Ok(Some(Work::Panic)),
             Sign::Yes => {}
         }
         let source = match self.core.derived(number) {
             Some(key) => Source::Derived(key),
-            None => Source::Fields(self.core.with_fields(number, Secret::of)?),
+            None => match self.core.with_fields(number, Secret::of) {
+                Some(fields) => Source::Fields(fields?),
+                None => return Ok(None),
+            },
         };
-        Some(Work::Sign { source, data: Secret::of(data), hash })
+        Ok(Some(Work::Sign { source, data: Secret::of(data)?, hash }))
     }
 
     // --- Questions
@@ -541,14 +613,28 @@ impl Loop {
     }
 
     fn on_terminal(&mut self, line: Option<Line>) {
-        match line.map(|l| self.panel.read_line(&l, self.core.is_locked())) {
-            None if self.set.panel_listener.is_none() => {
-                self.set.log.say("agent: standard input has ended, so nobody can answer a question; --panel PATH is another way".to_string());
-            }
-            None | Some(Said::Nothing) => {}
-            Some(Said::Answer { number, asker, yes }) => self.answer(number, asker, yes, ""),
-            Some(Said::Wrong(text)) => self.set.log.say(text),
-            Some(Said::Show | Said::Watch) => self.set.log.say("that is for the panel's socket".to_string()),
+        let line = match line {
+            Some(line) => line,
+            None => return self.on_terminal_end(),
+        };
+        match self.panel.read_line(&line) {
+            Said::Nothing => {}
+            Said::Answer { number, asker, yes } => self.answer(number, asker, yes, ""),
+            Said::Wrong(text) => self.set.log.say(text),
+            Said::List => self.set.log.say(self.panel.listed(self.core.is_locked())),
+            Said::Show | Said::Watch => self.set.log.say("that is for the panel's socket".to_string()),
+        }
+    }
+
+    /// Where there is no panel's socket either, what is open is a no.
+    fn on_terminal_end(&mut self) {
+        self.set.has_terminal = false;
+        if self.set.panel_listener.is_some() {
+            return;
+        }
+        self.set.log.say("agent: standard input has ended, so nobody can answer a question, and each is a no; --panel PATH is another way".to_string());
+        for (number, asker) in self.panel.open() {
+            self.answer(number, asker, false, " nobody");
         }
     }
 
@@ -564,23 +650,15 @@ impl Loop {
             None => return self.close_panel(token, "closed"),
         };
         for line in lines {
-            match self.panel.read_line(&line, self.core.is_locked()) {
+            match self.panel.read_line(&line) {
                 Said::Nothing => {}
                 Said::Answer { number, asker, yes } => self.answer(number, asker, yes, ""),
-                Said::Wrong(text) => self.panel.tell_one(token, &format!("error {}", text.replace('\n', "; "))),
-                Said::Show => self.show(Some(token)),
-                Said::Watch => {
-                    self.panel.watch(token);
-                    self.show(Some(token));
-                }
+                Said::Wrong(text) => self.panel.tell_one(token, &format!("error {text}")),
+                Said::List => self.panel.want_list(token),
+                Said::Show => self.panel.want_block(token, false),
+                Said::Watch => self.panel.want_block(token, true),
             }
         }
-    }
-
-    /// Keys and lock as they are now, to one panel or to all that watch.
-    fn show(&mut self, to: Option<u64>) {
-        self.core.let_go();
-        self.panel.show(to, self.core.is_locked(), &self.core.shown());
     }
 
     fn close_panel(&mut self, token: u64, why: &str) {
@@ -610,6 +688,7 @@ impl Loop {
         for _ in 0..self.ready.len() {
             let token = self.ready.pop_front().expect("counted");
             if let Some(mut c) = self.connections.remove(&token) {
+                c.is_ready = false;
                 let result = self.take_turn(token, &mut c);
                 self.put_back(token, c, result);
             }
@@ -617,10 +696,10 @@ impl Loop {
     }
 
     fn on_time(&mut self) {
-        if self.core.until_due() == Some(0) {
+        let reading = self.set.clock.reading();
+        if self.core.due().map_or(false, |due| due <= reading) {
             self.core.let_go();
         }
-        let reading = self.set.clock.reading();
         for (number, asker) in self.panel.overdue(reading) {
             self.set.log.say(format!("question {number}: no answer in time, so it is a no"));
             self.answer(number, asker, false, " timeout");
@@ -636,14 +715,15 @@ impl Loop {
             self.sweep(reading, u64::from(seconds) * 1000);
         }
         self.hand_memory_back();
-        if secret::has_unlocked() {
+        if secret::has_unlocked() && !self.is_told_unlocked {
+            self.is_told_unlocked = true;
             self.set.log.write(Level::Warn, "-", "", "some memory is not locked: the limit of locked memory (ulimit -l) is reached");
         }
     }
 
     /// Closes connections that have been idle for so many milliseconds.
     fn sweep(&mut self, reading: u64, idle: u64) {
-        if reading < self.swept + 1000 {
+        if reading < self.swept + SWEEP {
             return;
         }
         self.swept = reading;
@@ -674,8 +754,12 @@ impl Loop {
         for (number, fingerprint) in gone {
             self.set.log.write(Level::Info, "-", "", &format!("key {number} is gone: {fingerprint}"));
         }
-        if is_changed && self.panel.has_watching() {
-            self.show(None);
+        if is_changed {
+            self.panel.want_blocks();
+        }
+        if self.panel.has_wishes() {
+            self.core.let_go(); // so that time left is as of now
+            self.panel.grant_wishes(self.core.is_locked(), &self.core.shown());
         }
         for token in self.panel.unread(self.set.clock.reading()) {
             self.close_panel(token, "closed: the panel does not read");

@@ -1,43 +1,51 @@
 //! The sockets that are served, and who is at the other end.
 use crate::names::word;
 use nix::errno::Errno;
+use nix::fcntl::{flock, FlockArg};
 use nix::sys::socket::{connect, getsockopt, socket, sockopt, AddressFamily, SockFlag, SockType, UnixAddr};
 use nix::sys::stat::{umask, Mode};
 use std::fs;
 use std::io;
-use std::os::unix::fs::{DirBuilderExt, FileTypeExt};
+use std::os::unix::fs::{DirBuilderExt, FileTypeExt, MetadataExt};
 use std::os::unix::io::{AsRawFd, FromRawFd, RawFd};
 use std::os::unix::net::{UnixListener, UnixStream};
 use std::path::{Path, PathBuf};
 
-/// What was made and is removed at the end.
+/// What was made and is removed at the end, where it still is what was made.
 #[derive(Default)]
 pub struct Made {
-    sockets: Vec<PathBuf>,
+    sockets: Vec<(PathBuf, Option<(u64, u64)>)>,
     folder: Option<PathBuf>,
 }
 
 impl Made {
-    pub fn remove(&mut self) {
-        for path in self.sockets.drain(..) {
-            let _ = fs::remove_file(path);
+    pub fn is_empty(&self) -> bool {
+        self.sockets.is_empty()
+    }
+
+    /// Was there anything?
+    pub fn remove(&mut self) -> bool {
+        let has_made = !self.is_empty();
+        for (path, made) in self.sockets.drain(..) {
+            if identity(&path) == made {
+                let _ = fs::remove_file(path);
+            }
         }
         if let Some(folder) = self.folder.take() {
             let _ = fs::remove_dir(folder);
         }
+        has_made
     }
 }
 
-impl Drop for Made {
-    fn drop(&mut self) {
-        self.remove();
-    }
+fn identity(path: &Path) -> Option<(u64, u64)> {
+    fs::symlink_metadata(path).ok().map(|m| (m.dev(), m.ino()))
 }
 
 /// A path in a new folder of mode 0700.
 pub fn own_path(made: &mut Made) -> Result<PathBuf, String> {
     let parent = match std::env::var_os("XDG_RUNTIME_DIR").filter(|d| !d.is_empty()) {
-        Some(d) if Path::new(&d).is_dir() => PathBuf::from(d),
+        Some(d) if Path::new(&d).is_dir() => absolute(Path::new(&d))?,
         Some(d) => {
             let d = d.to_string_lossy();
             return Err(format!("XDG_RUNTIME_DIR names {d}, which is not there: make it, unset it, or name a socket by --socket"));
@@ -65,8 +73,35 @@ fn new_folder(parent: &Path) -> io::Result<PathBuf> {
     }
 }
 
+pub fn absolute(path: &Path) -> Result<PathBuf, String> {
+    std::env::current_dir().map(|d| d.join(path)).map_err(|e| format!("no folder to begin a path with: {e}"))
+}
+
+/// Holds the folder of a path while a socket is looked for and made there, so that of two who start at once one sees the other. Whoever cannot have it
+/// within a second goes on without.
+struct Turn {
+    _folder: Option<fs::File>,
+}
+
+impl Turn {
+    fn at(path: &Path) -> Turn {
+        let folder = path.parent().and_then(|d| fs::File::open(d).ok());
+        if let Some(f) = &folder {
+            for _ in 0..100 {
+                if flock(f.as_raw_fd(), FlockArg::LockExclusiveNonblock) != Err(Errno::EWOULDBLOCK) {
+                    break;
+                }
+                std::thread::sleep(std::time::Duration::from_millis(10));
+            }
+        }
+        Turn { _folder: folder }
+    }
+}
+
 /// A socket of mode 0600 at this path; one that nobody serves any more is replaced.
 pub fn listen(path: &Path, made: &mut Made) -> Result<UnixListener, String> {
+    let path = &absolute(path)?;
+    let _turn = Turn::at(path);
     match probe(path) {
         Ok(()) | Err(Errno::EAGAIN) => return Err(format!("somebody serves {} already", path.display())),
         Err(Errno::ECONNREFUSED) => remove_stale(path),
@@ -76,7 +111,7 @@ pub fn listen(path: &Path, made: &mut Made) -> Result<UnixListener, String> {
     let bound = UnixListener::bind(path);
     umask(before);
     let listener = bound.map_err(|e| format!("no socket at {}: {e}", path.display()))?;
-    made.sockets.push(path.to_path_buf());
+    made.sockets.push((path.to_path_buf(), identity(path)));
     listener.set_nonblocking(true).map_err(|e| e.to_string())?;
     Ok(listener)
 }
@@ -103,11 +138,14 @@ pub fn handed_over() -> Result<(Option<UnixListener>, Option<UnixListener>), Str
     }
     let names: Vec<String> = std::env::var("LISTEN_FDNAMES").unwrap_or_default().split(':').map(String::from).collect();
     let count = number("LISTEN_FDS").unwrap_or(0);
+    if count > 2 {
+        return Err(format!("LISTEN_FDS hands over {count} sockets; there are two, the agent's and the panel's"));
+    }
     for name in ["LISTEN_PID", "LISTEN_FDS", "LISTEN_FDNAMES"] {
         std::env::remove_var(name);
     }
     let (mut agent, mut panel) = (None, None);
-    for i in 0..count.min(16) {
+    for i in 0..count {
         let listener = take_over(3 + i as RawFd)?;
         match names.get(i as usize).map(String::as_str) {
             Some("agent") => agent = Some(listener),

@@ -191,7 +191,7 @@ mod tests {
             let n = workers.start(Work::Panic);
             assert!(matches!(await_one(&mut workers), (m, Answer::Panicked) if m == n));
         }
-        let n = workers.start(Work::Check { fields: Secret::of(b"no key") });
+        let n = workers.start(Work::Check { fields: Secret::of(b"no key").unwrap() });
         assert!(matches!(await_one(&mut workers), (m, Answer::Checked(Err(_))) if m == n));
     }
 }
