@@ -6,8 +6,12 @@
 //!
 //! The signer here is a stand-in: it writes the key's type and the data. A true one takes the key fields and signs.
 use key_agent::{split, Answers, Class, Gateway, Hash, Key, Numbered, Outcome, Question, Reply, Split};
+use std::fs::{self, DirBuilder, Permissions};
 use std::io::{self, Read, Write};
+use std::os::unix::fs::{DirBuilderExt, PermissionsExt};
 use std::os::unix::net::{UnixListener, UnixStream};
+use std::path::Path;
+use std::sync::mpsc::{channel, Sender};
 use std::sync::{Arc, Mutex};
 use std::time::Instant;
 
@@ -130,9 +134,11 @@ impl<A: Agent> Connection<A> {
     }
 }
 
-/// Says what it is asked, and yes.
+/// Says what it is asked, and yes. A list waits for the head grower's word, where somebody plays her.
 #[derive(Clone)]
-struct Panel;
+struct Panel {
+    grower: Option<Sender<Sender<bool>>>,
+}
 
 fn string(b: &[u8]) -> Vec<u8> {
     [&(b.len() as u32).to_be_bytes()[..], b].concat()
@@ -140,12 +146,15 @@ fn string(b: &[u8]) -> Vec<u8> {
 
 impl Agent for Panel {
     fn confirm_request(&self, class: Class) -> bool {
-        println!("panel: {class:?}? yes");
-        if class == Class::RequestKeys {
-            // the head grower takes her time with this one, so that another request can land
-            std::thread::sleep(std::time::Duration::from_millis(300));
-        }
-        true
+        let yes = match &self.grower {
+            Some(grower) if class == Class::RequestKeys => {
+                let (word, heard) = channel();
+                grower.send(word).is_ok() && heard.recv().unwrap_or(false)
+            }
+            _ => true,
+        };
+        println!("panel: {class:?}? {}", if yes { "yes" } else { "no" });
+        yes
     }
     fn confirm(&self, blob: &[u8]) -> bool {
         println!("panel: sign with a key of {} bytes? yes", blob.len());
@@ -161,7 +170,7 @@ impl Agent for Panel {
 }
 
 /// One request on a connection of its own.
-fn request(path: &std::path::Path, payload: &[u8]) -> io::Result<Vec<u8>> {
+fn request(path: &Path, payload: &[u8]) -> io::Result<Vec<u8>> {
     let mut s = UnixStream::connect(path)?;
     s.write_all(&string(payload))?;
     let mut prefix = [0; 4];
@@ -171,28 +180,49 @@ fn request(path: &std::path::Path, payload: &[u8]) -> io::Result<Vec<u8>> {
     Ok(body)
 }
 
+/// A socket of mode 0600: made in a folder that nobody else enters, and put in its place, where nothing may stand, when its mode is set.
+fn bind(path: &Path) -> io::Result<UnixListener> {
+    let folder = path.with_extension(std::process::id().to_string());
+    DirBuilder::new().mode(0o700).create(&folder)?;
+    let inside = folder.join("socket");
+    let listener = UnixListener::bind(&inside).and_then(|listener| {
+        fs::set_permissions(&inside, Permissions::from_mode(0o600))?;
+        fs::hard_link(&inside, path)?;
+        Ok(listener)
+    });
+    let _ = fs::remove_file(&inside);
+    fs::remove_dir(&folder)?;
+    listener
+}
+
 fn main() -> io::Result<()> {
     if let Some(path) = std::env::args_os().nth(1) {
-        return serve(UnixListener::bind(path)?, Panel);
+        return serve(bind(Path::new(&path))?, Panel { grower: None });
     }
     let path = std::env::temp_dir().join(format!("key-agent-{}", std::process::id()));
-    let listener = UnixListener::bind(&path)?;
-    std::thread::spawn(move || serve(listener, Panel));
+    let listener = bind(&path)?;
+    let (grower, asked) = channel();
+    std::thread::spawn(move || serve(listener, Panel { grower: Some(grower) }));
     let q = [&[4][..], &[1; 64]].concat();
     let blob = [string(b"ecdsa-sha2-nistp256"), string(b"nistp256"), string(&q)].concat();
     let add = [&[25][..], &blob, &string(&[1; 32]), &string(b"night shift"), &[2]].concat();
     assert_eq!(request(&path, &add)?, [6]);
     let signed = request(&path, &[&[13][..], &string(&blob), &string(b"data"), &[0; 4]].concat())?;
     assert_eq!(signed[5..], [string(b"ecdsa-sha2-nistp256"), string(b"data")].concat());
-    assert_eq!(request(&path, &[11])?, [&[12, 0, 0, 0, 1][..], &string(&blob), &string(b"night shift")].concat());
-    // a list waits at the gate, a lock lands: the list finds it
-    let list = std::thread::spawn({
+    // a list that waits at the gate, and the head grower's word for it
+    let list = || {
         let path = path.clone();
-        move || request(&path, &[11])
-    });
-    std::thread::sleep(std::time::Duration::from_millis(100));
+        let reply = std::thread::spawn(move || request(&path, &[11]));
+        (asked.recv().expect("the panel is asked"), reply)
+    };
+    let (word, reply) = list();
+    word.send(true).unwrap();
+    assert_eq!(reply.join().unwrap()?, [&[12, 0, 0, 0, 1][..], &string(&blob), &string(b"night shift")].concat());
+    // while one waits a lock lands: the list finds it
+    let (word, reply) = list();
     assert_eq!(request(&path, &[&[22][..], &string(b"ab")].concat())?, [6]);
-    assert_eq!(list.join().unwrap()?, [5]);
+    word.send(true).unwrap();
+    assert_eq!(reply.join().unwrap()?, [5]);
     println!("the lock landed first: the list got FAILURE");
-    std::fs::remove_file(&path)
+    fs::remove_file(&path)
 }

@@ -28,7 +28,7 @@ mod raw;
 
 use std::fmt;
 use std::ops::{Deref, Range};
-use std::sync::OnceLock;
+use std::sync::Once;
 
 /// The length of the key store: eight places of 4,096 bytes.
 pub const STORE_LEN: usize = 32_768;
@@ -325,8 +325,8 @@ impl Gateway {
     /// No keys, open, clock at 0. The first gateway of a program also tests that the archive and this crate agree on layout and numbers, and
     /// panics if they do not.
     pub fn new() -> Gateway {
-        static TESTED: OnceLock<()> = OnceLock::new();
-        TESTED.get_or_init(self_test);
+        static TESTED: Once = Once::new();
+        TESTED.call_once(self_test);
         Gateway::untested()
     }
 
@@ -424,6 +424,12 @@ impl Gateway {
     pub fn is_sound(&self) -> bool {
         // SAFETY: the store is lent with its own length and only read; the state goes by value.
         unsafe { raw::key_agent_is_sound(*self.state, self.store.as_ptr(), self.store.len()) }
+    }
+
+    /// Where state and store lie, and how long each is: for a host that keeps them out of swap.
+    pub fn memory(&self) -> [(*const u8, usize); 2] {
+        let state: *const raw::State = &*self.state;
+        [(state.cast(), std::mem::size_of::<raw::State>()), (self.store.as_ptr(), self.store.len())]
     }
 
     /// Is the gateway locked?

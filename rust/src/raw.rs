@@ -105,23 +105,43 @@ extern "C" {
     pub fn key_agent_next(state: State, store: *const u8, store_len: usize, after: u64) -> u64;
 }
 
+/// Where an integer of a struct begins (std's is younger than Rust 1.63): it is 1, low byte first, and every other byte is 0.
+macro_rules! offset_of {
+    ($t:ty, $($field:tt)+) => {{
+        union Seen {
+            value: $t,
+            bytes: [u8; size_of::<$t>()],
+        }
+        let mut seen = Seen { bytes: [0; size_of::<$t>()] };
+        // SAFETY: both sides are plain integers and the bytes were all written.
+        unsafe {
+            seen.value.$($field)+ = 1;
+            let mut at = 0;
+            while seen.bytes[at] != 1 {
+                at += 1;
+            }
+            at
+        }
+    }};
+}
+
 // The layout that the archive was built for (64 bits; the numbers are the C rules' for these fields).
 const _: () = {
-    use std::mem::{align_of, offset_of, size_of};
+    use std::mem::{align_of, size_of};
     assert!(size_of::<usize>() == 8);
     assert!(size_of::<Comment>() == 264 && offset_of!(Comment, len) == 256);
     assert!(size_of::<Entry>() == 312 && align_of::<Entry>() == 8);
     assert!(offset_of!(Entry, number) == 0 && offset_of!(Entry, reading) == 8);
     assert!(offset_of!(Entry, limited) == 16 && offset_of!(Entry, seconds) == 20 && offset_of!(Entry, confirm) == 24);
-    assert!(offset_of!(Entry, blob_len) == 32 && offset_of!(Entry, fields_len) == 40 && offset_of!(Entry, comment) == 48);
+    assert!(offset_of!(Entry, blob_len) == 32 && offset_of!(Entry, fields_len) == 40 && offset_of!(Entry, comment.bytes[0]) == 48);
     assert!(size_of::<LockRecord>() == 1032 && offset_of!(LockRecord, len) == 1024);
     assert!(size_of::<State>() == 3544 && align_of::<State>() == 8);
-    assert!(offset_of!(State, lock) == 2496 && offset_of!(State, clock) == 3528 && offset_of!(State, next) == 3536);
+    assert!(offset_of!(State, lock.bytes[0]) == 2496 && offset_of!(State, clock) == 3528 && offset_of!(State, next) == 3536);
     assert!(size_of::<FlatAnswers>() == 24 && offset_of!(FlatAnswers, confirmation_number) == 8);
     assert!(size_of::<FlatOutcome>() == 32 && offset_of!(FlatOutcome, hash) == 2 && offset_of!(FlatOutcome, number) == 8);
     assert!(offset_of!(FlatOutcome, from) == 16 && offset_of!(FlatOutcome, to) == 24);
     assert!(size_of::<FlatSplit>() == 24 && offset_of!(FlatSplit, from) == 8);
     assert!(size_of::<HeldKey>() == 320 && offset_of!(HeldKey, confirm) == 8 && offset_of!(HeldKey, limited) == 9);
     assert!(offset_of!(HeldKey, left) == 16 && offset_of!(HeldKey, blob_from) == 24 && offset_of!(HeldKey, blob_to) == 32);
-    assert!(offset_of!(HeldKey, fields_from) == 40 && offset_of!(HeldKey, fields_to) == 48 && offset_of!(HeldKey, comment) == 56);
+    assert!(offset_of!(HeldKey, fields_from) == 40 && offset_of!(HeldKey, fields_to) == 48 && offset_of!(HeldKey, comment.bytes[0]) == 56);
 };

@@ -1,0 +1,1 @@
+"""The rows of `desk/test`, by topic, and what they share."""

@@ -1,0 +1,211 @@
+"""Rows: who is kept out, and what the agent tells nobody."""
+import argparse
+import os
+import re
+import resource
+import shutil
+import signal
+import socket
+import subprocess
+import tempfile
+
+from . import base
+from .agents import Desk
+from .base import AGENT, Skip, must, row, until
+from .frames import EMPTY_LIST, FAILURE, LIST, LOCK, UNLOCK, Raw, receive, string
+from .processes import ANOTHER, NOBODY, as_user, become, status
+from .tools import WORD, fails, works
+
+
+def root_only(what):
+    if os.geteuid() != 0:
+        raise Skip(f'only root can {what}')
+
+
+def tried(path, line):
+    """Sends this to the socket; what comes back, or that it was closed with nothing."""
+    def f():
+        with socket.socket(socket.AF_UNIX) as s:
+            s.settimeout(5)
+            s.connect(path)
+            try:
+                s.sendall(line)
+            except BrokenPipeError:
+                return 'closed'
+            try:
+                return 'answered' if s.recv(100) else 'closed'
+            except ConnectionResetError:
+                return 'closed'
+    return f
+
+
+class Shared:
+    """A folder and a copy of the agent that every user reaches."""
+
+    def __enter__(self):
+        self.folder = tempfile.mkdtemp(prefix='desk-shared-')
+        os.chmod(self.folder, 0o777)
+        self.agent = shutil.copy(AGENT, self.folder)
+        os.chmod(self.agent, 0o755)
+        return self
+
+    def __exit__(self, *_):
+        shutil.rmtree(self.folder)
+
+
+def opened(a, folder):
+    """Everybody may connect now: what is left is the agent's own look at who comes."""
+    os.chmod(folder, 0o711)
+    for path in (a.path, a.panel_path):
+        must(os.stat(path).st_mode & 0o777 == 0o600, f'mode {os.stat(path).st_mode:o}')
+        os.chmod(path, 0o666)
+
+
+@row('another user, and root, on the agent\'s and the panel\'s socket')
+def _():
+    root_only('be another user')
+    with Desk('--gate', 'ask') as a:
+        must('PermissionError' in as_user(NOBODY, tried(a.path, string(LIST))), 'the folder lets others in')
+        opened(a, base.folder)
+        try:
+            a.always('LIST')
+            for path, line in ((a.path, string(LIST)), (a.panel_path, b'?\n')):
+                must(tried(path, line)() == 'answered', 'we are kept out')
+                for _ in range(3):
+                    must(as_user(NOBODY, tried(path, line)) == 'closed', f'another user is served at {path}')
+            a.logged(f'uid {NOBODY}', 6)
+            must('conn' not in str([line for line in a.panel.lines if f'uid {NOBODY}' in line]), 'the panel was asked for it')
+            must(Raw(a).ask(LIST) == EMPTY_LIST, 'others suffer')
+        finally:
+            os.chmod(base.folder, 0o700)
+    with Shared() as shared:
+        log = os.path.join(shared.folder, 'log')
+        path, panel = os.path.join(shared.folder, 'agent'), os.path.join(shared.folder, 'panel')
+        with open(log, 'wb') as f:
+            p = subprocess.Popen([shared.agent, '--log', '--socket', path, '--panel', panel], stdin=subprocess.DEVNULL, stdout=f,
+                                 stderr=subprocess.STDOUT, cwd=shared.folder, preexec_fn=lambda: become(NOBODY))
+        try:
+            until(lambda: os.path.exists(panel) or p.poll() is not None, 'no agent')
+            for where in (path, panel):
+                os.chmod(where, 0o666)
+            for where, line in ((path, string(LIST)), (panel, b'?\n')):
+                must(as_user(NOBODY, tried(where, line)) == 'answered', 'its own user is kept out')
+                must(tried(where, line)() == 'answered', 'root is kept out')
+                must(as_user(ANOTHER, tried(where, line)) == 'closed', 'another user is served')
+        finally:
+            p.terminate()
+            p.wait(10)
+    return 'its own user and root are served; another is closed at once, with a line in the log'
+
+
+def reads_memory(process):
+    def f():
+        with open(f'/proc/{process}/mem', 'rb'):
+            return 'read'
+    return f
+
+
+@row('another process of the same user reads nothing of it; no core file; locked memory')
+def _():
+    with Desk() as a:
+        with open(f'/proc/{a.process.pid}/limits') as f:
+            must(re.search(r'Max core file size +0 ', f.read()), 'core files are allowed')
+        must(int(status(a.process.pid, 'VmLck').split()[0]) >= 32, f'VmLck is {status(a.process.pid, "VmLck")}')
+        locked = status(a.process.pid, 'VmLck')
+    root = os.geteuid() == 0
+    with Shared() as shared:
+        def prepare():
+            resource.setrlimit(resource.RLIMIT_CORE, (resource.getrlimit(resource.RLIMIT_CORE)[1],) * 2)
+            if root:
+                become(NOBODY)
+        path = os.path.join(shared.folder, 'agent')
+        agent = subprocess.Popen([shared.agent, '--socket', path], stdin=subprocess.DEVNULL, stdout=subprocess.DEVNULL, cwd=shared.folder,
+                                 preexec_fn=prepare)
+        other = subprocess.Popen(['sleep', '60'], cwd=shared.folder, preexec_fn=prepare)
+        try:
+            until(lambda: os.path.exists(path), 'no agent')
+            must(os.stat(f'/proc/{agent.pid}/mem').st_uid == 0, 'it is dumpable')
+            user = NOBODY if root else None
+            must(as_user(user, reads_memory(other.pid)) == 'read', 'we could read no process of ours')
+            said = as_user(user, reads_memory(agent.pid))
+            must('PermissionError' in said, f'its memory: {said}')
+            dumps = []
+            for p in (other, agent):
+                p.send_signal(signal.SIGABRT)
+                dumps.append(os.WCOREDUMP(os.waitpid(p.pid, 0)[1]))
+            must(not dumps[1], 'it left a core file')
+        finally:
+            for p in (agent, other):
+                try:
+                    p.kill()
+                except ProcessLookupError:
+                    pass
+    beside = ', where `sleep` leaves one' if dumps[0] else ''
+    return f'refused, where of `sleep` it is allowed; killed by SIGABRT it leaves no core file{beside}; {locked} locked'
+
+
+def no_locks():
+    resource.setrlimit(resource.RLIMIT_MEMLOCK, (0, 0))
+    become(NOBODY)
+
+
+@row('memory that the system lets nobody lock')
+def _():
+    root_only('be a user who may lock nothing')
+    with Shared() as shared, open(os.path.join(shared.folder, 'log'), 'w+') as log:
+        path = os.path.join(shared.folder, 'agent')
+        p = subprocess.Popen([shared.agent, '--socket', path], stdin=subprocess.DEVNULL, stdout=log, stderr=subprocess.STDOUT, cwd=shared.folder,
+                             preexec_fn=no_locks)
+        try:
+            until(lambda: os.path.exists(path), 'no agent')
+            a = argparse.Namespace(path=path)
+            works(a, 'ssh-add', 'ed25519')
+            works(a, 'ssh-add', '-T', 'ed25519.pub')
+            log.seek(0)
+            text = log.read()
+            must(status(p.pid, 'VmLck') == '0 kB' and len(re.findall('not locked', text)) == 1, f'{status(p.pid, "VmLck")} {text}')
+        finally:
+            p.terminate()
+            p.wait(10)
+    return 'it serves, and says so once in the log'
+
+
+def session(level, word, wrong):
+    """A log with locks and unlocks, right and wrong ones, whole and cut; times and process numbers left out."""
+    with Desk('--gate', 'ask', log=level) as a:
+        a.always('.')
+        works(a, 'ssh-add', '-x', word=word)
+        fails(a, 'ssh-add', '-X', word=wrong)
+        fails(a, 'ssh-add', '-x', word=wrong)
+        works(a, 'ssh-add', '-X', word=word)
+        for number in (LOCK, UNLOCK):
+            frame = string(number + string(word.encode()))
+            r = Raw(a)
+            r.send(frame[:-1])
+            r.conn.shutdown(socket.SHUT_WR)
+            must(receive(r.conn) is None, 'answered')
+            must(Raw(a).ask(number + string(word.encode())[:-1]) == FAILURE, 'a cut one is taken')
+        a.always(None)
+        r = Raw(a)
+        r.send(string(LOCK + string(word.encode())))
+        a.waiting('Lock')
+        r.conn.close()
+        until(lambda: not a.panel.open, 'the question stays')
+        lines = a.panel.lines[:]
+    text = re.sub(r'(?m)^\d\d:\d\d:\d\d\.\d+', 'TIME', a.log())
+    return re.sub(r'pid \d+', 'pid P', re.sub(r'(agent|panel)\d+', r'\1', text)), [re.sub(r'pid \d+', 'pid P', line) for line in lines]
+
+
+@row('no passphrase and no length of one in the log, at any level, nor on the panel')
+def _():
+    sizes = []
+    for level in ('--log', '--log=error', '--log=warn', '--log=info', '--log=debug'):
+        logs = [session(level, word, word + '?') for word in (WORD, 'Gurke' * 70)]
+        for log, lines in logs:
+            for text in (log, *lines):
+                must('Taupunkt' not in text and 'Gurke' not in text, f'{level}: a passphrase is written')
+        a, b = (sorted(set(log.splitlines() + lines)) for log, lines in logs)
+        must(a == b, f'{level}: other lines for another length: {sorted(set(a) ^ set(b))[:6]}')
+        must(not re.search(r'\b(37|38|42|43|46)\b', logs[0][0]), f'{level}: a length is written: {logs[0][0]}')
+        sizes.append(len(logs[0][0].splitlines()))
+    return f'locked, unlocked and refused with 37 and with 350 bytes: the same lines ({", ".join(map(str, sizes))} by level)'
