@@ -228,7 +228,9 @@ class Chance:
         elif n < 10:
             client.shutdown(rng.choice((socket.SHUT_WR, socket.SHUT_RD)))
         elif n < 45 and whole:
-            client.send(b''.join(string(rng.choice(self.payloads)) for _ in range(rng.choice((1, 1, 1, 5, 12)))))
+            data = b''.join(string(rng.choice(self.payloads)) for _ in range(rng.choice((1, 1, 1, 5, 12))))
+            if client.send(data) < len(data):
+                self.broken.add(client)
         elif n < 50 and whole:
             frame = string(rng.choice(self.payloads))
             self.broken.add(client)
