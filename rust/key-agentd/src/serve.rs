@@ -49,6 +49,8 @@ const PANELS: usize = 16;
 const A_SECOND: u64 = 10;
 /// Idle connections are looked for once in so many milliseconds.
 const SWEEP: u64 = 1000;
+/// Long rooms that nobody took for so many milliseconds go back to the system.
+const UNUSED: u64 = 1000;
 /// How long nothing is taken where the system has no descriptor left.
 const PAUSE: u64 = 100;
 
@@ -131,6 +133,8 @@ struct Loop {
     swept: u64,
     /// The most connections since memory was handed back.
     peak: usize,
+    /// The uses of long rooms, and the reading at which they were so many for the first time, while some are kept.
+    long: Option<(usize, u64)>,
     timer: Timer,
     /// Lines about other users and about too many connections, on the agent's and on the panel's socket.
     others: [Seldom; 2],
@@ -159,6 +163,7 @@ pub fn serve(set: Serve) -> Result<(i32, Log), String> {
         paused: None,
         swept: 0,
         peak: 0,
+        long: None,
         timer,
         others: Default::default(),
         crowds: Default::default(),
@@ -213,7 +218,8 @@ impl Loop {
     /// The reading at which something is to be done though nobody comes.
     fn deadline(&self) -> Option<u64> {
         let sweep = self.set.options.idle_timeout.filter(|_| !self.connections.is_empty()).map(|_| self.swept + SWEEP);
-        [self.core.due(), self.panel.due(), self.panel.unread_due(), sweep, self.paused].into_iter().flatten().min()
+        let unused = self.long.map(|(_, since)| since + UNUSED);
+        [self.core.due(), self.panel.due(), self.panel.unread_due(), sweep, unused, self.paused].into_iter().flatten().min()
     }
 
     fn on_event(&mut self, token: u64, events: EpollFlags) -> Option<i32> {
@@ -294,6 +300,7 @@ impl Loop {
             self.sweep(reading, u64::from(seconds) * 1000);
         }
         self.hand_memory_back();
+        self.look_at_long_rooms(reading);
         if secret::has_unlocked() && !self.is_told_unlocked {
             self.is_told_unlocked = true;
             self.set.log.write(Level::Warn, "-", "", "some memory is not locked: the limit of locked memory (ulimit -l) is reached");
@@ -325,6 +332,18 @@ impl Loop {
             self.ready.shrink_to_fit();
             // SAFETY: only hands free memory back.
             unsafe { libc::malloc_trim(0) };
+        }
+    }
+
+    fn look_at_long_rooms(&mut self, reading: u64) {
+        self.long = match (secret::kept_long(), self.long) {
+            (Some(uses), Some((before, since))) if uses == before => Some((uses, since)),
+            (Some(uses), _) => Some((uses, reading)),
+            (None, _) => None,
+        };
+        if self.long.map_or(false, |(_, since)| since + UNUSED <= reading) {
+            secret::trim();
+            self.long = None;
         }
     }
 
