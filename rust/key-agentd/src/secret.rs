@@ -220,7 +220,13 @@ pub fn wipe_stack() {
 mod tests {
     use super::*;
 
+    // one behind the other, as both take long rooms
     #[test]
+    fn rooms() {
+        grows_and_shifts();
+        long_rooms_have_an_end_and_short_ones_none();
+    }
+
     fn grows_and_shifts() {
         let mut s = Secret::of(b"vents").unwrap();
         s.push(&[7; 262_143]).unwrap();
@@ -231,7 +237,6 @@ mod tests {
         assert!(s.is_empty() && s.free().iter().all(|b| *b == 0));
     }
 
-    #[test]
     fn long_rooms_have_an_end_and_short_ones_none() {
         let long: Vec<_> = std::iter::from_fn(|| Secret::with_room(200_000).ok()).take(2000).collect();
         assert!(long.len() > 400 && long.len() < 520);
