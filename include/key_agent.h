@@ -191,7 +191,7 @@ key_agent_split_result key_agent_split(const uint8_t *bytes, size_t bytes_len);
 key_agent_held_key key_agent_key(key_agent_state state, const uint8_t *store, size_t store_len, uint64_t number);
 
 /* The least held insertion number above `after`; 0 where there is none, and where state and store are not sound. From 0 on it walks all held
- * keys in order of insertion. A number that key_agent_key does not tell of is gone for good: no later key gets it.
+ * keys in order of insertion. A number that was told of and is not any more is gone for good: no later key gets it.
  */
 uint64_t key_agent_next(key_agent_state state, const uint8_t *store, size_t store_len, uint64_t after);
 

@@ -64,6 +64,42 @@ impl Fold {
     }
 }
 
+const UNTOLD: raw::HeldKey = raw::HeldKey {
+    number: 0,
+    confirm: 0,
+    limited: 0,
+    left: 0,
+    blob_from: 0,
+    blob_to: 0,
+    fields_from: 0,
+    fields_to: 0,
+    comment: raw::Comment { bytes: [0; 255], len: 0 },
+};
+
+/// What is told of each number of a state and a store, sound or not, held to the layout of both.
+fn lookups(s: &raw::State, b: &[u8], sound: bool) {
+    // SAFETY: a slice's pointer and length; nothing is written.
+    let told = |number| unsafe { raw::key_agent_key(*s, b.as_ptr(), b.len(), number) };
+    let next = |after| unsafe { raw::key_agent_next(*s, b.as_ptr(), b.len(), after) };
+    let mut held: Vec<_> = s.entries.iter().enumerate().filter(|(_, e)| sound && e.number != 0).collect();
+    held.sort_by_key(|(_, e)| e.number);
+    let mut after = 0;
+    for (place, e) in &held {
+        let left = if e.limited == 1 { (1_000 * u64::from(e.seconds)).saturating_sub(s.clock - e.reading) } else { 0 };
+        let (blob_from, fields_from) = (4_096 * place, 4_096 * place + 1_024);
+        let (blob_to, fields_to) = (blob_from + e.blob_len, fields_from + e.fields_len);
+        let (number, confirm, limited, comment) = (e.number, e.confirm, e.limited, e.comment);
+        let want = raw::HeldKey { number, confirm, limited, left, blob_from, blob_to, fields_from, fields_to, comment };
+        assert_eq!(told(number), want);
+        assert_eq!(next(after), number);
+        after = number;
+    }
+    assert_eq!(next(after), 0);
+    for number in s.entries.iter().map(|e| e.number).chain([0, 1, s.next, u64::MAX]) {
+        assert!(held.iter().any(|(_, e)| e.number == number) || told(number) == UNTOLD, "nothing is told of {number}");
+    }
+}
+
 fn string(b: &[u8]) -> Vec<u8> {
     [&(b.len() as u32).to_be_bytes()[..], b].concat()
 }
@@ -170,6 +206,7 @@ fn one_walk() {
         if r.percent(10) {
             f.bytes(&store);
             f.bytes(&reply);
+            lookups(&state, &store, true);
         }
         // a state and a store with one value changed: sound or not, and a call on them
         if r.percent(20) {
@@ -191,8 +228,11 @@ fn one_walk() {
                 _ => b[4_096 * e + 4 * n] ^= value as u8,
             }
             // SAFETY: as above.
+            let is = unsafe { raw::key_agent_is_sound(s, b.as_ptr(), b.len()) };
+            lookups(&s, &b, is);
+            lookups(&s, &b[1..], false);
+            // SAFETY: as above.
             let (is, o) = unsafe {
-                let is = raw::key_agent_is_sound(s, b.as_ptr(), b.len());
                 (is, raw::key_agent_call(&mut s, b.as_mut_ptr(), b.len(), [11].as_ptr(), 1, 0, a, [0].as_ptr(), 0, reply.as_mut_ptr(), 10_305))
             };
             sound[is as usize] += 1;

@@ -1,0 +1,111 @@
+//! What is told of held keys: one by its insertion number, all in order of insertion, and nothing of a number that none has.
+use key_agent::*;
+
+fn string(b: &[u8]) -> Vec<u8> {
+    [&(b.len() as u32).to_be_bytes()[..], b].concat()
+}
+/// A P-256 key whose point and number are made up: fields, blob.
+fn key(i: u8) -> (Vec<u8>, Vec<u8>) {
+    let blob = [string(b"ecdsa-sha2-nistp256"), string(b"nistp256"), string(&[&[4][..], &[i; 64]].concat())].concat();
+    ([blob.clone(), string(&[i; 32])].concat(), blob)
+}
+fn call(g: &mut Gateway, payload: &[u8], at: u64) -> Outcome {
+    g.call(payload, at, &Answers { gate: Some(true), check: Some(true), ..Answers::default() }, &mut Reply::new())
+}
+fn add(g: &mut Gateway, i: u8, comment: &str, constraints: &[u8], at: u64) {
+    let mut r = Reply::new();
+    let payload = [&[25][..], &key(i).0, &string(comment.as_bytes()), constraints].concat();
+    g.call(&payload, at, &Answers { gate: Some(true), check: Some(true), ..Answers::default() }, &mut r);
+    assert_eq!(r.bytes(), [0, 0, 0, 1, 6]);
+}
+fn remove(g: &mut Gateway, i: u8) {
+    assert_eq!(call(g, &[&[18][..], &string(&key(i).1)].concat(), 0), Outcome::Reply);
+}
+fn numbers(g: &Gateway) -> Vec<u64> {
+    g.keys().map(|k| k.number).collect()
+}
+
+#[test]
+fn each_of_its_own() {
+    let mut g = Gateway::new();
+    for i in 1..9 {
+        let constraints: &[u8] = [&[][..], &[2], &[1, 0, 0, 0, 9], &[1, 0, 0, 1, 0, 2]][i as usize % 4];
+        add(&mut g, i, &format!("key {i}"), constraints, 1_000 * u64::from(i));
+    }
+    for i in 1..9 {
+        let k = g.key(u64::from(i)).unwrap();
+        let lifetime = [None, None, Some(9_000), Some(256_000)][i as usize % 4];
+        let left = lifetime.map(|l| l - (8_000 - 1_000 * u64::from(i)));
+        assert_eq!((k.number, k.left, k.confirm), (i.into(), left, i % 2 == 1));
+        assert_eq!((&*k.comment, k.blob, k.fields), (&format!("key {i}")[..], &key(i).1[..], &key(i).0[..]));
+    }
+    let shown = format!("{:?}", g.key(1).unwrap());
+    assert!(shown.contains("key 1") && !shown.contains(&format!("{:?}", &[1; 32])), "the fields are not shown: {shown}");
+}
+
+#[test]
+fn what_is_left() {
+    let mut g = Gateway::new();
+    add(&mut g, 1, "", &[1, 0, 0, 0, 2], 5_000);
+    assert_eq!(g.key(1).unwrap().left, Some(2_000));
+    assert_eq!(call(&mut g, &[11], 5_700), Outcome::Reply);
+    assert_eq!(g.key(1).unwrap().left, Some(1_300));
+    // a lower reading moves nothing, a refused call neither
+    assert_eq!(call(&mut g, &[11], 10), Outcome::Reply);
+    assert_eq!(call(&mut g, &[11; MAX_PAYLOAD + 1], 9_000), Outcome::Refused(Refusal::PayloadTooLong));
+    assert_eq!(g.key(1).unwrap().left, Some(1_300));
+    // there a millisecond before, gone when none is left, also while locked
+    assert_eq!(call(&mut g, &[22, 0, 0, 0, 1, 97], 6_999), Outcome::Reply);
+    assert_eq!(g.key(1).unwrap().left, Some(1));
+    assert_eq!(call(&mut g, &[11], 7_000), Outcome::Reply);
+    assert_eq!((g.key(1), g.next_held(0), g.is_locked()), (None, None, true));
+}
+
+#[test]
+fn none_is_left_of_lifetime_0() {
+    let mut g = Gateway::new();
+    add(&mut g, 1, "", &[1, 0, 0, 0, 0], 5);
+    assert_eq!(g.key(1).unwrap().left, Some(0));
+    add(&mut g, 2, "", &[1, 255, 255, 255, 255], 6);
+    assert_eq!((g.key(1), g.key(2).unwrap().left), (None, Some(u64::from(u32::MAX) * 1_000)));
+}
+
+#[test]
+fn in_order_of_insertion() {
+    let mut g = Gateway::new();
+    assert_eq!((numbers(&g), g.next_held(0)), (vec![], None));
+    for i in 1..9 {
+        add(&mut g, i, "", &[], 0);
+    }
+    // replaced in its place: a new number; a free place is taken again: a new number too
+    add(&mut g, 3, "", &[], 0);
+    remove(&mut g, 1);
+    remove(&mut g, 6);
+    add(&mut g, 9, "", &[], 0);
+    let want = [2, 4, 5, 7, 8, 9, 10];
+    assert_eq!(numbers(&g), want);
+    for after in 0..20 {
+        assert_eq!(g.next_held(after), want.iter().copied().find(|n| *n > after), "after {after}");
+    }
+    for n in (0..20).chain([u64::MAX - 1, u64::MAX]) {
+        assert_eq!(g.key(n).map(|k| k.number), want.iter().copied().find(|m| *m == n), "number {n}");
+    }
+    assert_eq!(g.next_held(u64::MAX), None);
+    assert_eq!(call(&mut g, &[19], 0), Outcome::Reply);
+    assert_eq!((numbers(&g), g.key(10)), (vec![], None));
+}
+
+#[test]
+fn what_a_question_names_is_told() {
+    let mut g = Gateway::new();
+    add(&mut g, 1, "", &[2], 0);
+    add(&mut g, 2, "", &[], 0);
+    for (i, number) in [(1, 1), (2, 2)] {
+        let sign = [&[13][..], &string(&key(i).1), &string(b"data"), &[0; 4]].concat();
+        let asked = match call(&mut g, &sign, 0) {
+            Outcome::Asks(Question::Confirmation { number }) | Outcome::Asks(Question::Signature { number, .. }) => number,
+            other => panic!("{other:?}"),
+        };
+        assert_eq!((asked, g.key(asked).unwrap().blob), (number, &key(i).1[..]));
+    }
+}
