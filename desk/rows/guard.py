@@ -134,7 +134,7 @@ def _():
         must('PermissionError' in said, f'its memory: {said}')
         beside = ', where `sleep` leaves one' if leaves_core(other) else ''
         must(not leaves_core(a.process), 'it left a core file')
-    return f'refused, where of `sleep` it is allowed; killed by SIGABRT it leaves no core file{beside}; {locked} locked'
+    return f'refused, where of `sleep` it is allowed; killed by SIGABRT it leaves no core file{beside}; its memory is locked'
 
 
 def no_locks():

@@ -92,7 +92,8 @@ def _():
         time.sleep(1.1)
         must(Raw(a).is_closed(), 'served')
         lines = re.findall('.*refused.*', a.log())
-        must(len(lines) < 100, f'{len(lines)} lines')
+        more = sum(int(n) for n in re.findall(r'(\d+) lines like it were left out', a.log()))
+        must(len(lines) < 100 and len(lines) + more == 301, f'{len(lines)} lines and {more} more')
     return 'ten lines a second, and how many more there were'
 
 
