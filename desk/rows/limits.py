@@ -88,6 +88,49 @@ def _():
     return 'closed at once, with a line in the log; taken again'
 
 
+@row('300 connections above `--max-connections`: the log (raw)')
+def _():
+    with Desk('--max-connections', '1') as a:
+        first = Raw(a)
+        for _ in range(300):
+            must(Raw(a).is_closed(), 'served')
+        must(first.ask(LIST) == EMPTY_LIST, 'the first suffers')
+        time.sleep(1.1)
+        must(Raw(a).is_closed(), 'served')
+        lines = re.findall('.*refused.*', a.log())
+        must(len(lines) < 100, f'{len(lines)} lines')
+    return 'ten lines a second, and how many more there were'
+
+
+@row('long frames of 700 connections, none of them whole (raw)')
+def _():
+    with Desk() as a:
+        before = int(status(a.process.pid, 'VmRSS').split()[0])
+        good = Raw(a)
+        must(good.ask(LIST) == EMPTY_LIST, 'not served')
+        conns = []
+        for _ in range(700):
+            conns.append(Raw(a))
+            try:
+                conns[-1].send(struct.pack('>I', 262144) + bytes(100000))
+            except (BrokenPipeError, ConnectionResetError):
+                pass
+        during = int(status(a.process.pid, 'VmRSS').split()[0])
+        must(during < 200 * 1024, f'{during} KB of memory')
+        works(a, 'ssh-add', 'rsa-4096')
+        works(a, 'ssh-add', '-T', 'rsa-4096.pub')
+        closed = sum(select.select([r.conn], [], [], 0)[0] != [] for r in conns)
+        must(0 < closed < 400, f'{closed} are closed')
+        for r in conns:
+            r.conn.close()
+
+        def is_back():
+            return int(status(a.process.pid, 'VmRSS').split()[0]) < before + 8192
+        until(is_back, f'it keeps memory: {before} KB before')
+        must(Raw(a).ask(LIST + bytes(262143))[0] == 12, 'no long frame any more')
+    return 'above 128 MB the next is closed; the others go on; the memory goes back'
+
+
 def few_files():
     resource.setrlimit(resource.RLIMIT_NOFILE, (100, 100))
 

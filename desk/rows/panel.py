@@ -10,9 +10,10 @@ import termios
 import threading
 import time
 
-from .agents import Desk, Panel
+from . import base
+from .agents import Desk, Panel, said
 from .base import AGENT, Skip, at, must, row, until
-from .frames import ADD, ADD_CONSTRAINED, EMPTY_LIST, LIST, LOCK, REMOVE, SUCCESS, UNLOCK, Raw, receive, string
+from .frames import ADD, ADD_CONSTRAINED, EMPTY_LIST, FAILURE, LIST, LOCK, REMOVE, SUCCESS, UNLOCK, Raw, receive, string
 from .keys import blob_of, fields_of, fingerprint, sign_request
 from .tools import ended, run, started, works
 
@@ -211,6 +212,60 @@ def _():
             must(panel.said(f'^answered {q}') == f'answered {q} y', f'{panel.lines}')
         must(sum(i.startswith('error ') for i in a.panel.lines) == len(wrong), f'an empty line is an error: {a.panel.lines[-3:]}')
     return 'an error line each; the question stays, the first answer counts'
+
+
+@row('where neither standard input nor a panel can answer, a question is a no')
+def _():
+    for open_first in (False, True):
+        a = argparse.Namespace(path=at('alone'))
+        p = subprocess.Popen([AGENT, '--gate', 'ask', '--socket', a.path], stdin=subprocess.PIPE, stdout=subprocess.PIPE, text=True)
+        p.stdout.readline()
+        r = Raw(a)
+        if open_first:
+            r.send(string(LIST))
+            while 'question 1' not in p.stdout.readline():
+                pass
+        p.stdin.close()
+        while 'standard input has ended' not in p.stdout.readline():
+            pass
+        must((receive(r.conn) if open_first else r.ask(LIST)) == FAILURE, 'not a no')
+        p.terminate()
+        text = p.stdout.read()
+        must(p.wait(10) == 0 and (open_first or 'nobody can answer' in text), text)
+    status, out, error = said(command=['sh', '-c', 'ssh-add -q -c ed25519 && ssh-add -T ed25519.pub'], cwd=base.folder)
+    must(status == 1 and 'nobody can answer' in error, f'{status} {out} {error}')
+    with Desk('--gate', 'ask') as a:  # a panel's socket is there, and nobody at it
+        a.panel.conn.shutdown(socket.SHUT_RDWR)
+        must(a.panel.ended.wait(5), 'still there')
+        r = Raw(a)
+        r.send(string(LIST))
+        late = Panel(a.panel_path)
+        late.answer(late.waiting('LIST')[0], True)
+        must(receive(r.conn) == EMPTY_LIST, 'not answered')
+    return 'at once, and for the open one; with COMMAND too. Where there is a panel\'s socket it waits for a panel'
+
+
+@row('a panel that sends 2,000 lines at once, `?` and `show`, while 500 questions are open (raw)')
+def _():
+    with Desk('--gate', 'ask') as a:
+        clients = [Raw(a) for _ in range(500)]
+        for r in clients:
+            r.send(string(LIST))
+        a.waiting('LIST', 500)
+        panel = Panel(a.panel_path)
+        start = time.monotonic()
+        for _ in range(10):
+            panel.conn.sendall(b'?\nshow\n' * 100)
+            r = Raw(a)
+            r.send(string(LOCK + string(b'night')))
+            a.answer(a.waiting('Lock')[0], False)
+            must(receive(r.conn) == FAILURE, 'not a no')
+        spent = time.monotonic() - start
+        must(spent < 5, f'ten other questions and answers took {spent:.1f} s')
+        a.always('LIST')
+        for r in clients:
+            must(receive(r.conn) == EMPTY_LIST, 'not answered')
+    return 'ten questions of others are asked and answered meanwhile; then the 500'
 
 
 def left_to_read(s):

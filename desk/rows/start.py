@@ -132,6 +132,26 @@ def _():
     return 'refused at once; an agent removes its own socket alone'
 
 
+@row('four agents started at once on one stale socket, twenty times')
+def _():
+    stale = socket.socket(socket.AF_UNIX)
+    stale.bind(at('stale'))
+    stale.close()
+    for _ in range(20):
+        agents = [subprocess.Popen([AGENT, '--socket', at('stale')], stdin=subprocess.DEVNULL, stdout=subprocess.PIPE, stderr=subprocess.PIPE,
+                                   text=True) for _ in range(4)]
+        first = [p.stdout.readline() for p in agents]
+        serving = [p for p, line in zip(agents, first) if line]
+        must(len(serving) == 1, f'{len(serving)} serve it')
+        must(Raw(argparse.Namespace(path=at('stale'))).ask(LIST) == EMPTY_LIST, 'nobody serves it')
+        serving[0].kill()  # its socket stays
+        for p in agents:
+            p.communicate(timeout=10)
+        must(sorted(p.returncode for p in agents) == [-9, 1, 1, 1], f'{[p.returncode for p in agents]}')
+    must([n for n in os.listdir(base.folder) if 'stale' in n] == ['stale'], 'more is left')
+    return 'exactly one serves it, the others are refused'
+
+
 @row('SIGHUP where it was ignored, as by `nohup`')
 def _():
     with Desk(preexec_fn=lambda: signal.signal(signal.SIGHUP, signal.SIG_IGN)) as a:

@@ -524,16 +524,8 @@ fn self_test() {
     let mut want = fresh;
     comment.bytes[..4].copy_from_slice(b"shed");
     comment.len = 4;
-    want.entries[0] = raw::Entry {
-        number: 1,
-        reading: 78,
-        limited: 1,
-        seconds: 0x0102_0304,
-        confirm: 1,
-        blob_len: blob.len(),
-        fields_len: fields.len(),
-        comment,
-    };
+    want.entries[0] =
+        raw::Entry { number: 1, reading: 78, limited: 1, seconds: 0x0102_0304, confirm: 1, blob_len: blob.len(), fields_len: fields.len(), comment };
     want.clock = 78;
     want.next = 2;
     assert_eq!(*g.state, want, "layout of State: an entry");

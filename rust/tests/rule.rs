@@ -114,7 +114,9 @@ fn lifetimes() {
 
 #[test]
 fn constraints() {
-    for (bytes, want) in [(&[2, 2][..], SUCCESS), (&[1, 0, 0, 0, 5, 1, 0, 0, 0, 5], FAILURE), (&[3], FAILURE), (&[255], FAILURE), (&[1, 0, 0], FAILURE)] {
+    for (bytes, want) in
+        [(&[2, 2][..], SUCCESS), (&[1, 0, 0, 0, 5, 1, 0, 0, 0, 5], FAILURE), (&[3], FAILURE), (&[255], FAILURE), (&[1, 0, 0], FAILURE)]
+    {
         assert_eq!(reply(&mut Gateway::new(), &added(1, bytes), 0), want, "{bytes:?}");
     }
 }

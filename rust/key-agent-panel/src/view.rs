@@ -208,7 +208,11 @@ pub fn span(seconds: u64) -> String {
 }
 
 fn yes_or_no(yes: bool) -> &'static str {
-    if yes { "yes" } else { "no" }
+    if yes {
+        "yes"
+    } else {
+        "no"
+    }
 }
 
 /// What a line says in a sentence, where it needs no state.

@@ -83,7 +83,11 @@ pub struct Key {
 #[derive(Clone, Debug, PartialEq, Eq)]
 pub enum Event {
     Ask(Question),
-    Answered { number: u64, yes: bool, late: bool },
+    Answered {
+        number: u64,
+        yes: bool,
+        late: bool,
+    },
     Gone(u64),
     Error(String),
     /// The head of a block: locked or open.
@@ -193,7 +197,11 @@ fn expect(rest: &mut &str, name: &str) -> Option<()> {
 /// A number as the agent takes it: up to 18 digits.
 pub fn number(word: &str) -> Option<u64> {
     let fits = (1..=18).contains(&word.len()) && word.bytes().all(|b| b.is_ascii_digit());
-    if fits { word.parse().ok() } else { None }
+    if fits {
+        word.parse().ok()
+    } else {
+        None
+    }
 }
 
 /// A yes or a no, in the words that the agent takes.
@@ -289,11 +297,36 @@ mod tests {
     #[test]
     fn lines_that_say_nothing() {
         let lines = [
-            "", " ", "ask", "ask 1", "ask x conn 1 LIST gate RequestKeys", "ask -1 conn 1 LIST gate RequestKeys", "ask 1 conn", "ask 1 conn 1",
-            "ask 1 conn 1 LIST", "ask 1 conn 1 LIST gate", "ask 1 conn 1 LIST door X", "ask 1 conn 1 SIGN confirm", "ask 1 conn 1 SIGN confirm key x",
-            "ask 9999999999999999999 conn 1 LIST gate RequestKeys", "ask +1 conn 1 LIST gate X", "ask ١ conn 1 LIST gate X", "answered",
-            "answered 1", "answered 1 maybe", "gone", "gone 1.5", "lock", "lock ajar", "key", "key 1", "key 1 SHA256:a left soon",
-            "key 1 SHA256:a confirm perhaps", "ASK 1 conn 1 LIST gate RequestKeys", " ask 1 conn 1 LIST gate RequestKeys", "question 1: conn 1",
+            "",
+            " ",
+            "ask",
+            "ask 1",
+            "ask x conn 1 LIST gate RequestKeys",
+            "ask -1 conn 1 LIST gate RequestKeys",
+            "ask 1 conn",
+            "ask 1 conn 1",
+            "ask 1 conn 1 LIST",
+            "ask 1 conn 1 LIST gate",
+            "ask 1 conn 1 LIST door X",
+            "ask 1 conn 1 SIGN confirm",
+            "ask 1 conn 1 SIGN confirm key x",
+            "ask 9999999999999999999 conn 1 LIST gate RequestKeys",
+            "ask +1 conn 1 LIST gate X",
+            "ask ١ conn 1 LIST gate X",
+            "answered",
+            "answered 1",
+            "answered 1 maybe",
+            "gone",
+            "gone 1.5",
+            "lock",
+            "lock ajar",
+            "key",
+            "key 1",
+            "key 1 SHA256:a left soon",
+            "key 1 SHA256:a confirm perhaps",
+            "ASK 1 conn 1 LIST gate RequestKeys",
+            " ask 1 conn 1 LIST gate RequestKeys",
+            "question 1: conn 1",
         ];
         for line in lines {
             assert_eq!(read(line), Event::Unknown, "{line:?}");

@@ -103,6 +103,10 @@ impl Core {
         (std::mem::take(&mut self.gone), std::mem::replace(&mut self.is_changed, false))
     }
 
+    pub fn is_changed(&self) -> bool {
+        self.is_changed
+    }
+
     pub fn is_locked(&self) -> bool {
         self.gateway.is_locked()
     }

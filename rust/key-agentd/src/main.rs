@@ -21,8 +21,8 @@ mod sockets;
 mod workers;
 
 use clap::Parser;
-use nix::sys::signal::{SigSet, Signal};
 use lines::{Line, Lines};
+use nix::sys::signal::{SigSet, Signal};
 use options::{Options, Say};
 use sockets::{absolute, handed_over, listen, own_path, Made};
 use std::io::{Read, Write};

@@ -37,7 +37,8 @@ pub enum Sign {
     Panic,
 }
 
-const ABOUT: &str = "An SSH agent on a Unix socket. Every decision is the proved core's; Ctrl-C ends it and removes the socket. Copy the SSH_AUTH_SOCK
+const ABOUT: &str =
+    "An SSH agent on a Unix socket. Every decision is the proved core's; Ctrl-C ends it and removes the socket. Copy the SSH_AUTH_SOCK
 line that it prints to the shell where ssh-add, ssh-keygen -Y sign or ssh shall use it, or name a COMMAND to run under it.";
 
 const MORE: &str = "questions:

@@ -153,7 +153,17 @@ impl Panel {
     }
 
     pub fn connect(&mut self, token: u64, stream: UnixStream, is_locked: bool) {
-        let mut w = Watcher { stream, lines: Lines::default(), unread: Vec::new(), is_watching: false, wants_block: false, wants_list: false, is_told: false, taken: 0, seen: (0, 0) };
+        let mut w = Watcher {
+            stream,
+            lines: Lines::default(),
+            unread: Vec::new(),
+            is_watching: false,
+            wants_block: false,
+            wants_list: false,
+            is_told: false,
+            taken: 0,
+            seen: (0, 0),
+        };
         let lines: Vec<String> = self.open.iter().map(|(n, q)| format!("ask {n} {}", q.text.words(is_locked))).collect();
         if !lines.is_empty() {
             w.put(&lines.join("\n"));

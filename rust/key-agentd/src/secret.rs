@@ -19,6 +19,7 @@ const STACK: usize = 48 * 1024;
 
 static UNLOCKED: AtomicBool = AtomicBool::new(false);
 static TAKEN: AtomicUsize = AtomicUsize::new(0);
+static LONG_USES: AtomicUsize = AtomicUsize::new(0);
 
 static POOL: Mutex<[Vec<Pages>; 3]> = Mutex::new([Vec::new(), Vec::new(), Vec::new()]);
 
@@ -26,10 +27,22 @@ fn pool() -> MutexGuard<'static, [Vec<Pages>; 3]> {
     POOL.lock().expect("no panic under it")
 }
 
-/// Hands back to the system what is kept, but for a few.
+/// Hands back to the system what is kept: all long rooms, and the short ones but for a few.
 pub fn trim() {
     for (kept, most) in pool().iter_mut().zip([8, 0, 0]) {
         kept.truncate(most);
+    }
+}
+
+/// Where long rooms are kept: how often one was taken or came back so far.
+pub fn kept_long() -> Option<usize> {
+    let has_long = pool()[1..].iter().any(|kept| !kept.is_empty());
+    has_long.then(|| LONG_USES.load(Ordering::Relaxed))
+}
+
+fn note_use(step: usize) {
+    if step > 0 {
+        LONG_USES.fetch_add(1, Ordering::Relaxed);
     }
 }
 
@@ -101,6 +114,7 @@ impl Secret {
     /// With room for so many bytes, and none in it.
     pub fn with_room(room: usize) -> io::Result<Secret> {
         let step = ROOMS.iter().position(|r| room <= *r).expect("no frame is longer");
+        note_use(step);
         let kept = pool()[step].pop();
         let pages = kept.map_or_else(|| Pages::new(ROOMS[step]), Ok)?;
         Ok(Secret { pages: Some(pages), len: 0 })
@@ -185,6 +199,7 @@ impl Drop for Secret {
         self.clear();
         let pages = self.pages.take().expect("dropped once");
         if let Some(step) = ROOMS.iter().position(|r| *r == pages.len) {
+            note_use(step);
             let mut pool = pool();
             if pool[step].len() < KEPT[step] {
                 pool[step].push(pages);
@@ -205,7 +220,13 @@ pub fn wipe_stack() {
 mod tests {
     use super::*;
 
+    // one behind the other, as both take long rooms
     #[test]
+    fn rooms() {
+        grows_and_shifts();
+        long_rooms_have_an_end_and_short_ones_none();
+    }
+
     fn grows_and_shifts() {
         let mut s = Secret::of(b"vents").unwrap();
         s.push(&[7; 262_143]).unwrap();
@@ -216,7 +237,6 @@ mod tests {
         assert!(s.is_empty() && s.free().iter().all(|b| *b == 0));
     }
 
-    #[test]
     fn long_rooms_have_an_end_and_short_ones_none() {
         let long: Vec<_> = std::iter::from_fn(|| Secret::with_room(200_000).ok()).take(2000).collect();
         assert!(long.len() > 400 && long.len() < 520);

@@ -17,8 +17,14 @@ pub enum Source {
 }
 
 pub enum Work {
-    Check { fields: Secret },
-    Sign { source: Source, data: Secret, hash: Hash },
+    Check {
+        fields: Secret,
+    },
+    Sign {
+        source: Source,
+        data: Secret,
+        hash: Hash,
+    },
     /// For tests: what a fault in a library would do.
     Panic,
 }

@@ -1,0 +1,266 @@
+//! A client's requests: each is called until it lands or waits, and goes on when its answer is there.
+use super::*;
+
+impl Loop {
+    pub(super) fn on_client(&mut self, token: u64, events: EpollFlags) {
+        let mut c = match self.connections.remove(&token) {
+            Some(c) => c,
+            None => return,
+        };
+        let result = self.serve_client(token, &mut c, events);
+        self.put_back(token, c, result);
+    }
+
+    fn serve_client(&mut self, token: u64, c: &mut Connection, events: EpollFlags) -> Result<(), End> {
+        c.active = self.set.clock.reading();
+        if c.request.is_some() {
+            // it waits: only its end counts, and what it sends meanwhile is read later
+            c.has_more = true;
+            return if events.intersects(EpollFlags::EPOLLHUP | EpollFlags::EPOLLERR) { Err(hung_up(c)) } else { Ok(()) };
+        }
+        if c.is_sending() {
+            c.write()?;
+        }
+        if c.is_sending() {
+            return if events.contains(EpollFlags::EPOLLERR) { Err(End("closed".to_string())) } else { Ok(()) };
+        }
+        if events.intersects(EpollFlags::EPOLLIN | EpollFlags::EPOLLHUP | EpollFlags::EPOLLERR) {
+            c.read()?;
+        }
+        self.take_turn(token, c)
+    }
+
+    /// Requests that are whole, until one waits or the turn is over.
+    pub(super) fn take_turn(&mut self, token: u64, c: &mut Connection) -> Result<(), End> {
+        for _ in 0..TURN {
+            if c.request.is_some() || c.is_sending() {
+                return Ok(());
+            }
+            match c.front() {
+                Front::Payload(payload) => self.begin(token, c, payload)?,
+                Front::TooLong(n) => return Err(End(format!("closed: too long a frame: {n} bytes announced"))),
+                Front::More if c.has_ended => return Err(End(c.cut().map_or("closed".to_string(), |cut| format!("closed: {cut}")))),
+                Front::More => return Ok(()),
+            }
+        }
+        if !c.is_ready {
+            c.is_ready = true;
+            self.ready.push_back(token);
+        }
+        Ok(())
+    }
+
+    fn begin(&mut self, token: u64, c: &mut Connection, payload: Range<usize>) -> Result<(), End> {
+        if self.set.log.has(Level::Info) {
+            let bytes = &c.bytes()[payload.clone()];
+            let size = if names::is_telling(bytes) { String::new() } else { format!(", {} bytes", bytes.len()) };
+            self.set.log.write(Level::Info, &c.name, &names::message(bytes), &format!("request{size}"));
+        }
+        // lent before it is asked a standing answer changes nothing; the log is to show that it was asked
+        let gate = self.set.options.gate.standing().filter(|_| !self.set.log.has(Level::Info));
+        c.has_more = false;
+        c.request = Some(Request { payload, lent: Lent { gate, ..Lent::default() }, waiting: None, about: 0, what: String::new() });
+        self.go_on(token, c)
+    }
+
+    /// Calls until the request lands or waits.
+    pub(super) fn go_on(&mut self, token: u64, c: &mut Connection) -> Result<(), End> {
+        let mut request = match c.request.take() {
+            Some(r) => r,
+            None => return Ok(()),
+        };
+        match self.step(token, c, &mut request)? {
+            Step::Wait(waiting, about, what) => {
+                c.request = Some(Request { waiting: Some(waiting), about, what, ..request });
+                Ok(())
+            }
+            Step::Close => {
+                self.set.log.write(Level::Info, &c.name, &names::message(&c.bytes()[request.payload.clone()]), "landed: close");
+                Err(End("closed".to_string()))
+            }
+            Step::Reply => {
+                if self.set.log.has(Level::Info) {
+                    let text = format!("landed: {}", names::reply(self.core.reply()));
+                    self.set.log.write(Level::Info, &c.name, &names::message(&c.bytes()[request.payload.clone()]), &text);
+                }
+                c.drop_front(request.payload.end);
+                c.active = self.set.clock.reading();
+                Ok(c.send(self.core.reply())?)
+            }
+        }
+    }
+
+    fn step(&mut self, token: u64, c: &Connection, request: &mut Request) -> Result<Step, End> {
+        loop {
+            let payload = &c.bytes()[request.payload.clone()];
+            let outcome = self.core.call(payload, &request.lent);
+            if self.set.log.has(Level::Debug) {
+                self.set.log.write(Level::Debug, &c.name, &names::message(payload), &format!("call: {}", outcome_words(&outcome)));
+            }
+            match outcome {
+                Outcome::Reply => return Ok(Step::Reply),
+                Outcome::Close => return Ok(Step::Close),
+                Outcome::Refused(why) => return Err(End(format!("closed: {why}"))), // this host stays within the limits
+                Outcome::Asks(question) => {
+                    if let Some(wait) = self.meet(token, c, payload, &mut request.lent, question)? {
+                        return Ok(wait);
+                    }
+                }
+            }
+        }
+    }
+
+    /// Answers a question at once, where an answer stands, or hands it to whoever finds the answer.
+    fn meet(&mut self, token: u64, c: &Connection, payload: &[u8], lent: &mut Lent, question: Question) -> Result<Option<Step>, End> {
+        match question {
+            Question::Gate(class) => {
+                let what = format!("gate {}", names::class(class));
+                match self.standing(c, self.set.options.gate) {
+                    Some(yes) => lent.gate = Some(self.stands(c, payload, &what, yes)),
+                    None => return Ok(Some(Step::Wait(self.ask(token, c, payload, &what, None), 0, what))),
+                }
+            }
+            Question::Confirmation { number } => {
+                let what = format!("confirm key {number}");
+                match self.standing(c, self.set.options.confirm) {
+                    Some(yes) => lent.confirmation = Some(Numbered { number, answer: self.stands(c, payload, &what, yes) }),
+                    None => return Ok(Some(Step::Wait(self.ask(token, c, payload, &what, Some(number)), number, what))),
+                }
+            }
+            Question::Check(part) => {
+                let work = Work::Check { fields: Secret::of(&payload[part])? };
+                return Ok(Some(Step::Wait(self.start(token, work), 0, "key check".to_string())));
+            }
+            Question::Signature { number, data, hash } => {
+                let what = format!("signature by key {number}, {} bytes of data, hash {}", data.len(), names::hash(hash));
+                if let Some(work) = self.signing(number, &payload[data], hash)? {
+                    return Ok(Some(Step::Wait(self.start(token, work), number, what)));
+                }
+                self.set.log.write(Level::Info, &c.name, "SIGN", &format!("{what}? none given"));
+                lent.signature = Some(Numbered { number, answer: None });
+            }
+        }
+        Ok(None)
+    }
+
+    /// The answer that stands: by an option, or a no where nobody can be asked.
+    fn standing(&self, c: &Connection, say: Say) -> Option<bool> {
+        if say == Say::Ask && !self.set.has_terminal && self.set.panel_listener.is_none() {
+            self.set.log.write(Level::Warn, &c.name, "", "nobody can answer, so it is a no; --panel PATH is a way");
+            return Some(false);
+        }
+        say.standing()
+    }
+
+    fn stands(&self, c: &Connection, payload: &[u8], text: &str, yes: bool) -> bool {
+        if self.set.log.has(Level::Info) {
+            self.set.log.write(Level::Info, &c.name, &names::message(payload), &format!("{text}? {}", yes_or_no(yes)));
+        }
+        yes
+    }
+
+    fn start(&mut self, token: u64, work: Work) -> Waiting {
+        let number = self.workers.start(work);
+        self.works.insert(number, token);
+        Waiting::Work(number)
+    }
+
+    /// What a signer is to do; none where it gives nothing.
+    fn signing(&mut self, number: u64, data: &[u8], hash: Hash) -> std::io::Result<Option<Work>> {
+        match self.set.options.sign {
+            Sign::No => return Ok(None),
+            Sign::Panic => return Ok(Some(Work::Panic)),
+            Sign::Yes => {}
+        }
+        let source = match self.core.derived(number) {
+            Some(key) => Source::Derived(key),
+            None => match self.core.with_fields(number, Secret::of) {
+                Some(fields) => Source::Fields(fields?),
+                None => return Ok(None),
+            },
+        };
+        Ok(Some(Work::Sign { source, data: Secret::of(data)?, hash }))
+    }
+
+    /// A key check or a signature is done.
+    pub(super) fn worked(&mut self, token: u64, c: &mut Connection, number: u64, answer: Answer) -> Result<(), End> {
+        let request = match &mut c.request {
+            Some(r) if r.waiting == Some(Waiting::Work(number)) => r,
+            _ => return Ok(()),
+        };
+        request.waiting = None;
+        let result = match answer {
+            Answer::Panicked => {
+                self.set.log.write(Level::Error, &c.name, "", "a fault in the signer");
+                return Err(End("closed: a fault in the signer".to_string()));
+            }
+            Answer::Checked(found) => {
+                request.lent.check = Some(found.is_ok());
+                found.map_or_else(|why| format!("no: {why}"), |kind| format!("yes: {kind}"))
+            }
+            Answer::Signed(found) => {
+                let number = request.about;
+                let is_too_long = matches!(&found, Ok((signature, _)) if signature.len() > MAX_SIGNATURE);
+                let found = if is_too_long { Err("too long".to_string()) } else { found };
+                let result = found.as_ref().map_or_else(|why| format!("none given: {why}"), |(signature, _)| format!("{} bytes", signature.len()));
+                let signature = found.ok().map(|(signature, key)| {
+                    self.core.keep(number, key);
+                    signature
+                });
+                request.lent.signature = Some(Numbered { number, answer: signature });
+                result
+            }
+        };
+        let text = format!("{}? {result}", request.what);
+        self.set.log.write(Level::Info, &c.name, &names::message(c.payload()), &text);
+        self.go_on(token, c)?;
+        self.take_turn(token, c)
+    }
+
+    pub(super) fn put_back(&mut self, token: u64, mut c: Connection, result: Result<(), End>) {
+        if let Err(end) = result {
+            return self.close(c, end);
+        }
+        let wished = c.wished();
+        if wished != c.interest {
+            self.watch_for(c.stream.as_raw_fd(), token, wished.0, wished.1);
+            c.interest = wished;
+        }
+        self.connections.insert(token, c);
+    }
+
+    pub(super) fn close(&mut self, c: Connection, End(why): End) {
+        match c.request.as_ref().and_then(|r| r.waiting) {
+            Some(Waiting::Question(number)) => {
+                if self.panel.close(number, &format!("gone {number}")) {
+                    self.set.log.say(format!("question {number}: nobody waits for it any more"));
+                }
+            }
+            Some(Waiting::Work(number)) => {
+                self.works.remove(&number);
+                self.workers.forget(number);
+            }
+            None => {}
+        }
+        self.set.log.write(Level::Info, &c.name, "", &why);
+    }
+}
+
+fn hung_up(c: &Connection) -> End {
+    match c.request.as_ref().and_then(|r| r.waiting) {
+        Some(Waiting::Question(n)) => End(format!("closed: hung up while question {n} was open")),
+        _ => End("closed: hung up".to_string()),
+    }
+}
+
+fn outcome_words(outcome: &Outcome) -> String {
+    match outcome {
+        Outcome::Asks(Question::Gate(class)) => format!("asks gate {}", names::class(*class)),
+        Outcome::Asks(Question::Check(_)) => "asks key check".to_string(),
+        Outcome::Asks(Question::Confirmation { number }) => format!("asks confirmation of key {number}"),
+        Outcome::Asks(Question::Signature { number, .. }) => format!("asks signature of key {number}"),
+        Outcome::Reply => "replies".to_string(),
+        Outcome::Close => "closes".to_string(),
+        Outcome::Refused(why) => why.to_string(),
+    }
+}
