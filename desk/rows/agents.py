@@ -11,6 +11,12 @@ from .base import AGENT, at, must, until
 from .frames import receive
 
 
+def serves(path):
+    """Does somebody listen there?"""
+    with socket.socket(socket.AF_UNIX) as s:
+        return s.connect_ex(path) == 0
+
+
 class Panel:
     """A connection to the panel's socket. Its lines are kept, its questions answered."""
 
@@ -142,10 +148,7 @@ class OpenSSH:
         self.path = at('openssh')
         self.process = subprocess.Popen(['ssh-agent', '-D', '-a', self.path], stdout=subprocess.DEVNULL, stderr=subprocess.DEVNULL)
 
-        def serves():
-            with socket.socket(socket.AF_UNIX) as s:
-                return s.connect_ex(self.path) == 0
-        until(serves, 'no ssh-agent')
+        until(lambda: serves(self.path), 'no ssh-agent')
         return self
 
     def __exit__(self, *_):

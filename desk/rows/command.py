@@ -8,7 +8,7 @@ import subprocess
 import sys
 
 from . import base
-from .agents import Panel, said
+from .agents import Panel, said, serves
 from .base import AGENT, at, must, row, until
 from .frames import EMPTY_LIST, LIST, Raw
 from .tools import environment, works
@@ -99,7 +99,7 @@ def _():
     other = listener('not-ours')
     p = activated([other], '', '--socket', at('ours'), pid='another')
     try:
-        until(lambda: os.path.exists(at('ours')), 'LISTEN_PID of another process counts')
+        until(lambda: serves(at('ours')), 'LISTEN_PID of another process counts')
     finally:
         p.terminate()
     p.wait(10)

@@ -10,7 +10,7 @@ import subprocess
 import tempfile
 
 from . import base
-from .agents import Desk
+from .agents import Desk, serves
 from .base import AGENT, Skip, must, row, until
 from .frames import EMPTY_LIST, FAILURE, LIST, LOCK, UNLOCK, Raw, receive, string
 from .processes import ANOTHER, NOBODY, as_user, become, status
@@ -85,7 +85,7 @@ def _():
             p = subprocess.Popen([shared.agent, '--log', '--socket', path, '--panel', panel], stdin=subprocess.DEVNULL, stdout=f,
                                  stderr=subprocess.STDOUT, cwd=shared.folder, preexec_fn=lambda: become(NOBODY))
         try:
-            until(lambda: os.path.exists(panel) or p.poll() is not None, 'no agent')
+            until(lambda: serves(panel) or p.poll() is not None, 'no agent')
             for where in (path, panel):
                 os.chmod(where, 0o666)
             for where, line in ((path, string(LIST)), (panel, b'?\n')):
@@ -123,7 +123,7 @@ def _():
                                  preexec_fn=prepare)
         other = subprocess.Popen(['sleep', '60'], cwd=shared.folder, preexec_fn=prepare)
         try:
-            until(lambda: os.path.exists(path), 'no agent')
+            until(lambda: serves(path), 'no agent')
             must(os.stat(f'/proc/{agent.pid}/mem').st_uid == 0, 'it is dumpable')
             user = NOBODY if root else None
             must(as_user(user, reads_memory(other.pid)) == 'read', 'we could read no process of ours')
@@ -157,7 +157,7 @@ def _():
         p = subprocess.Popen([shared.agent, '--socket', path], stdin=subprocess.DEVNULL, stdout=log, stderr=subprocess.STDOUT, cwd=shared.folder,
                              preexec_fn=no_locks)
         try:
-            until(lambda: os.path.exists(path), 'no agent')
+            until(lambda: serves(path), 'no agent')
             a = argparse.Namespace(path=path)
             works(a, 'ssh-add', 'ed25519')
             works(a, 'ssh-add', '-T', 'ed25519.pub')

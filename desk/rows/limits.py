@@ -1,6 +1,5 @@
 """Rows: timeouts, the cap of connections, load, and a signer that panics."""
 import argparse
-import os
 import re
 import resource
 import select
@@ -10,7 +9,7 @@ import subprocess
 import threading
 import time
 
-from .agents import Desk, Panel
+from .agents import Desk, Panel, serves
 from .base import AGENT, at, must, row, until
 from .frames import ADD, EMPTY_LIST, FAILURE, LIST, LOCK, SUCCESS, UNLOCK, Raw, receive, string
 from .keys import fields_of, sign_request
@@ -189,7 +188,7 @@ def _():
         a = argparse.Namespace(path=at('full'))
         p = subprocess.Popen([AGENT, '--sign', 'panic', '--socket', a.path], stdin=subprocess.DEVNULL, stdout=full, stderr=full)
     try:
-        until(lambda: os.path.exists(a.path), 'no agent')
+        until(lambda: serves(a.path), 'no agent')
         works(a, 'ssh-add', 'ed25519')
         fails(a, 'ssh-add', '-T', 'ed25519.pub')
         must(len(works(a, 'ssh-add', '-l').splitlines()) == 1, 'others suffer where its word of it cannot be written')

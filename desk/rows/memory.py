@@ -202,12 +202,15 @@ def _():
             r.conn.close()
             is_clean(a, secrets, what)
     with Desk('--idle-timeout', '1') as a:
+        clients, all_secrets = [], {}
         for what, part, secrets in half_frames():
-            r = Raw(a)
-            r.send(part)
+            all_secrets.update({f'{what} {name}': secret for name, secret in secrets.items()})
+            clients.append(Raw(a))
+            clients[-1].send(part)
+        for r in clients:
             while r.conn.recv(65536):
                 pass
-            is_clean(a, secrets, what + ', timed out')
+        is_clean(a, all_secrets, 'timed out')
     return 'found in the half frame; nothing afterwards'
 
 

@@ -16,12 +16,12 @@ def words(secret):
 
 
 def mappings(process):
-    """Start, end and name of each readable mapping."""
+    """Start, end and name of each readable mapping, but for what is the unaltered part of a file."""
     with open(f'/proc/{process}/maps') as f:
         for line in f:
             span, rights, _, _, _, *name = line.split(maxsplit=5)
             name = name[0].strip() if name else 'no name'
-            if rights[0] == 'r' and name not in SKIPPED:
+            if rights[0] == 'r' and name not in SKIPPED and (rights[1] == 'w' or name[0] != '/'):
                 yield (*(int(n, 16) for n in span.split('-')), f'{name} {rights}')
 
 

@@ -10,7 +10,7 @@ import tempfile
 import time
 
 from . import base
-from .agents import Desk, said
+from .agents import Desk, said, serves
 from .base import AGENT, HERE, at, must, row, until
 from .frames import EMPTY_LIST, LIST, Raw
 from .tools import fails, run
@@ -123,7 +123,7 @@ def _():
         os.unlink(first.path)
         second = subprocess.Popen([AGENT, '--socket', first.path], stdin=subprocess.DEVNULL, stdout=subprocess.DEVNULL)
         try:
-            until(lambda: os.path.exists(first.path), 'no second agent')
+            until(lambda: serves(first.path), 'no second agent')
             first.end(signal.SIGTERM)
             must(Raw(first).ask(LIST) == EMPTY_LIST, 'the second has lost its socket')
         finally:
