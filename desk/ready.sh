@@ -41,5 +41,6 @@ ready() {
     building > /dev/null & ticker=$!
     (cd "$root/rust" && cargo build --release --offline --target-dir target -p key-agentd -p key-agent-panel) || status=1
     kill "$ticker" 2> /dev/null || true
+    wait "$ticker" 2> /dev/null || true # no child is left to the program that is started next
     return $status
 }
