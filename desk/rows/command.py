@@ -1,7 +1,6 @@
 """Rows: a command under the agent, and sockets that are handed over."""
 import argparse
 import os
-import re
 import signal
 import socket
 import subprocess
@@ -14,16 +13,18 @@ from .frames import EMPTY_LIST, LIST, Raw
 from .tools import environment, works
 
 
-@row('`key-agentd -- COMMAND`: the command has the agent; its exit status; its input and output; signals; one that is not there')
-def _():
+def under(*command, options=(), **how):
+    """This command under the agent: exit status, standard output, standard error."""
     os.makedirs(at('run'), exist_ok=True)
     env = {**environment(argparse.Namespace(path='')), 'XDG_RUNTIME_DIR': at('run')}
+    done = said(*options, command=command, env=env, cwd=base.folder, seconds=30, **how)
+    must(os.listdir(at('run')) == [], f'left behind: {os.listdir(at("run"))}')
+    return done
 
-    def under(*command, options=(), **how):
-        done = said(*options, command=command, env=env, cwd=base.folder, seconds=30, **how)
-        must(os.listdir(at('run')) == [], f'left behind: {os.listdir(at("run"))}')
-        return done
-    script = 'ssh-add ed25519 2>/dev/null; ssh-add -T ed25519.pub && ssh-add -l; echo "$SSH_AUTH_SOCK $SSH_AGENT_PID $PPID"; exit 7'
+
+@row('`key-agentd -- COMMAND`: the command has the agent, its own input and output; its exit status; one that is not there')
+def _():
+    script = 'ssh-add -q ed25519; ssh-add -T ed25519.pub && ssh-add -l; echo "$SSH_AUTH_SOCK $SSH_AGENT_PID $PPID"; exit 7'
     status, out, error = under('sh', '-c', script)
     lines = out.splitlines()
     must(status == 7 and len(lines) == 2 and lines[0].endswith('test ed25519 (ED25519)'), f'{status} {out} {error}')
@@ -32,17 +33,27 @@ def _():
     status, out, error = under('sh', '-c', 'ssh-add -l', options=['--log'])
     must(status == 1 and out == 'The agent has no identities.\n' and 'LIST' in error and 'landed' in error, f'{status} {out} {error}')
     must(under('cat', input='a word\n', stdin=None)[:2] == (0, 'a word\n'), 'its input is not its own')
-    must(under('sh', '-c', 'kill -TERM $$; exit 3')[0] == 128 + signal.SIGTERM, 'killed by a signal')
-    names = under('sh', '-c', 'grep -E "^Sig(Blk|Ign)|^NoNewPrivs" /proc/self/status; ls /proc/self/fd; ulimit -c; exec ls -l /proc/self/fd')[1]
-    must(all(not int(n, 16) for n in re.findall(r'Sig(?:Blk|Ign):\s+(\w+)', names)) and 'socket' not in names, f'handed on: {names}')
-    for command in (['/no/such/command'], ['no-such-command', 'x'], [at('askpass.pub')]):
+    for command in (['/no/such/command'], ['no-such-command', 'x'], [at('ed25519.pub')]):
         status, out, error = under(*command)
-        must(status not in (0, 2) and command[0] in error and 'panicked' not in error, f'{status} {out} {error}')
+        must(status == 1 and command[0] in error and 'fault' not in error, f'{status} {out} {error}')
+    return 'exit 7; nothing of the agent on its output, the log on standard error; socket gone; exit 1 and its name'
+
+
+@row('`key-agentd -- COMMAND`: signals, limits and files')
+def _():
+    must(under('sh', '-c', 'kill -TERM $$; exit 3')[0] == 128 + signal.SIGTERM, 'killed by a signal')
     status, out, error = under('sh', '-c', 'kill -TERM $PPID; sleep 5; echo late')
     must(status == 128 + signal.SIGTERM and out == '', f'SIGTERM to the agent is not handed on: {status} {out} {error}')
+    status, out, error = under('sh', '-c', 'kill -INT $PPID; ssh-add -l')
+    must(out == 'The agent has no identities.\n', f'SIGINT to the agent, which a terminal sends to both: {status} {out} {error}')
     ignored = under('sh', '-c', 'exit 7', preexec_fn=lambda: signal.signal(signal.SIGCHLD, signal.SIG_IGN))
     must(ignored[0] == 7, f'where SIGCHLD was ignored: {ignored}')
-    return 'exit 7, and 143 where a signal ends it; nothing of the agent on its output; socket gone; "not there" is told'
+    seen = 'cat /proc/$$/limits; grep -E "^Sig(Blk|Ign)" /proc/$$/status; ls -l /proc/$$/fd'
+    mine = subprocess.run(['sh', '-c', seen], stdin=subprocess.DEVNULL, capture_output=True, text=True).stdout
+    its = under('sh', '-c', seen)[1]
+    must(mine.split('total')[0] == its.split('total')[0], f'other limits and signals than without the agent: {its}')
+    must('socket' not in its and its.count(' -> ') == mine.count(' -> '), f'files of the agent: {its}')
+    return '143 where SIGTERM ends the command or comes to the agent; limits, signals and files as without the agent'
 
 
 ACTIVATE = '''
@@ -57,6 +68,11 @@ if sys.argv[3]:
     os.environ["LISTEN_FDNAMES"] = sys.argv[3]
 os.execv(sys.argv[4], sys.argv[4:])
 '''
+
+
+def text_of(name):
+    with open(at(name)) as f:
+        return f.read()
 
 
 def listener(name):
@@ -82,9 +98,7 @@ def _():
             panel = Panel(at(f'given-b{n}'))
             panel.always('LIST')
             must(Raw(argparse.Namespace(path=at(f'given-a{n}'))).ask(LIST) == EMPTY_LIST, 'not served')
-            with open(at('activated')) as f:
-                text = f.read()
-            must(f'export SSH_AUTH_SOCK={at(f"given-a{n}")}\n' in text, text)
+            until(lambda: f'export SSH_AUTH_SOCK={at(f"given-a{n}")}\n' in text_of('activated'), text_of('activated'))
         finally:
             p.terminate()
         must(p.wait(10) == 0 and os.path.exists(at(f'given-a{n}')) and os.path.exists(at(f'given-b{n}')), 'a socket that was given is removed')

@@ -1,5 +1,4 @@
 """Rows: who is kept out, and what the agent tells nobody."""
-import argparse
 import os
 import re
 import resource
@@ -39,23 +38,36 @@ def tried(path, line):
     return f
 
 
-class Shared:
-    """A folder and a copy of the agent that every user reaches."""
+class Elsewhere:
+    """An agent of another user, where every user gets at it; `prepare` makes its process that user's."""
 
-    def __enter__(self):
+    def __init__(self, prepare, *options):
         self.folder = tempfile.mkdtemp(prefix='desk-shared-')
         os.chmod(self.folder, 0o777)
-        self.agent = shutil.copy(AGENT, self.folder)
-        os.chmod(self.agent, 0o755)
+        os.chmod(shutil.copy(AGENT, os.path.join(self.folder, 'program')), 0o755)
+        self.path, self.panel_path = os.path.join(self.folder, 'agent'), os.path.join(self.folder, 'panel')
+        self.out = open(os.path.join(self.folder, 'log'), 'w+')
+        self.process = subprocess.Popen([os.path.join(self.folder, 'program'), '--socket', self.path, '--panel', self.panel_path, *options],
+                                        stdin=subprocess.DEVNULL, stdout=self.out, stderr=subprocess.STDOUT, cwd=self.folder, preexec_fn=prepare)
+
+    def log(self):
+        self.out.seek(0)
+        return self.out.read()
+
+    def __enter__(self):
+        until(lambda: serves(self.panel_path) or self.process.poll() is not None, 'no agent')
+        must(self.process.poll() is None, f'the agent ended: {self.log()}')
         return self
 
     def __exit__(self, *_):
+        self.process.terminate()
+        self.process.wait(10)
+        self.out.close()
         shutil.rmtree(self.folder)
 
 
-def opened(a, folder):
+def opened(a):
     """Everybody may connect now: what is left is the agent's own look at who comes."""
-    os.chmod(folder, 0o711)
     for path in (a.path, a.panel_path):
         must(os.stat(path).st_mode & 0o777 == 0o600, f'mode {os.stat(path).st_mode:o}')
         os.chmod(path, 0o666)
@@ -66,7 +78,8 @@ def _():
     root_only('be another user')
     with Desk('--gate', 'ask') as a:
         must('PermissionError' in as_user(NOBODY, tried(a.path, string(LIST))), 'the folder lets others in')
-        opened(a, base.folder)
+        opened(a)
+        os.chmod(base.folder, 0o711)
         try:
             a.always('LIST')
             for path, line in ((a.path, string(LIST)), (a.panel_path, b'?\n')):
@@ -74,27 +87,16 @@ def _():
                 for _ in range(3):
                     must(as_user(NOBODY, tried(path, line)) == 'closed', f'another user is served at {path}')
             a.logged(f'uid {NOBODY}', 6)
-            must('conn' not in str([line for line in a.panel.lines if f'uid {NOBODY}' in line]), 'the panel was asked for it')
+            must(not any(f'uid {NOBODY}' in line for line in a.panel.lines), 'the panel was asked for it')
             must(Raw(a).ask(LIST) == EMPTY_LIST, 'others suffer')
         finally:
             os.chmod(base.folder, 0o700)
-    with Shared() as shared:
-        log = os.path.join(shared.folder, 'log')
-        path, panel = os.path.join(shared.folder, 'agent'), os.path.join(shared.folder, 'panel')
-        with open(log, 'wb') as f:
-            p = subprocess.Popen([shared.agent, '--log', '--socket', path, '--panel', panel], stdin=subprocess.DEVNULL, stdout=f,
-                                 stderr=subprocess.STDOUT, cwd=shared.folder, preexec_fn=lambda: become(NOBODY))
-        try:
-            until(lambda: serves(panel) or p.poll() is not None, 'no agent')
-            for where in (path, panel):
-                os.chmod(where, 0o666)
-            for where, line in ((path, string(LIST)), (panel, b'?\n')):
-                must(as_user(NOBODY, tried(where, line)) == 'answered', 'its own user is kept out')
-                must(tried(where, line)() == 'answered', 'root is kept out')
-                must(as_user(ANOTHER, tried(where, line)) == 'closed', 'another user is served')
-        finally:
-            p.terminate()
-            p.wait(10)
+    with Elsewhere(lambda: become(NOBODY)) as a:
+        opened(a)
+        for path, line in ((a.path, string(LIST)), (a.panel_path, b'?\n')):
+            must(as_user(NOBODY, tried(path, line)) == 'answered', 'its own user is kept out')
+            must(tried(path, line)() == 'answered', 'root is kept out')
+            must(as_user(ANOTHER, tried(path, line)) == 'closed', 'another user is served')
     return 'its own user and root are served; another is closed at once, with a line in the log'
 
 
@@ -105,42 +107,33 @@ def reads_memory(process):
     return f
 
 
+def leaves_core(process):
+    """Killed by SIGABRT, does it leave a core file?"""
+    process.send_signal(signal.SIGABRT)
+    return os.WCOREDUMP(os.waitpid(process.pid, 0)[1])
+
+
 @row('another process of the same user reads nothing of it; no core file; locked memory')
 def _():
     with Desk() as a:
         with open(f'/proc/{a.process.pid}/limits') as f:
             must(re.search(r'Max core file size +0 ', f.read()), 'core files are allowed')
-        must(int(status(a.process.pid, 'VmLck').split()[0]) >= 32, f'VmLck is {status(a.process.pid, "VmLck")}')
         locked = status(a.process.pid, 'VmLck')
-    root = os.geteuid() == 0
-    with Shared() as shared:
-        def prepare():
-            resource.setrlimit(resource.RLIMIT_CORE, (resource.getrlimit(resource.RLIMIT_CORE)[1],) * 2)
-            if root:
-                become(NOBODY)
-        path = os.path.join(shared.folder, 'agent')
-        agent = subprocess.Popen([shared.agent, '--socket', path], stdin=subprocess.DEVNULL, stdout=subprocess.DEVNULL, cwd=shared.folder,
-                                 preexec_fn=prepare)
-        other = subprocess.Popen(['sleep', '60'], cwd=shared.folder, preexec_fn=prepare)
-        try:
-            until(lambda: serves(path), 'no agent')
-            must(os.stat(f'/proc/{agent.pid}/mem').st_uid == 0, 'it is dumpable')
-            user = NOBODY if root else None
-            must(as_user(user, reads_memory(other.pid)) == 'read', 'we could read no process of ours')
-            said = as_user(user, reads_memory(agent.pid))
-            must('PermissionError' in said, f'its memory: {said}')
-            dumps = []
-            for p in (other, agent):
-                p.send_signal(signal.SIGABRT)
-                dumps.append(os.WCOREDUMP(os.waitpid(p.pid, 0)[1]))
-            must(not dumps[1], 'it left a core file')
-        finally:
-            for p in (agent, other):
-                try:
-                    p.kill()
-                except ProcessLookupError:
-                    pass
-    beside = ', where `sleep` leaves one' if dumps[0] else ''
+        must(int(locked.split()[0]) >= 32, f'VmLck is {locked}')
+    user = NOBODY if os.geteuid() == 0 else None
+
+    def prepare():
+        resource.setrlimit(resource.RLIMIT_CORE, (resource.getrlimit(resource.RLIMIT_CORE)[1],) * 2)
+        if user:
+            become(user)
+    with Elsewhere(prepare) as a:
+        must(os.stat(f'/proc/{a.process.pid}/mem').st_uid == 0, 'it is dumpable')
+        other = subprocess.Popen(['sleep', '60'], cwd=a.folder, preexec_fn=prepare)
+        must(as_user(user, reads_memory(other.pid)) == 'read', 'we could read no process of ours')
+        said = as_user(user, reads_memory(a.process.pid))
+        must('PermissionError' in said, f'its memory: {said}')
+        beside = ', where `sleep` leaves one' if leaves_core(other) else ''
+        must(not leaves_core(a.process), 'it left a core file')
     return f'refused, where of `sleep` it is allowed; killed by SIGABRT it leaves no core file{beside}; {locked} locked'
 
 
@@ -152,21 +145,11 @@ def no_locks():
 @row('memory that the system lets nobody lock')
 def _():
     root_only('be a user who may lock nothing')
-    with Shared() as shared, open(os.path.join(shared.folder, 'log'), 'w+') as log:
-        path = os.path.join(shared.folder, 'agent')
-        p = subprocess.Popen([shared.agent, '--socket', path], stdin=subprocess.DEVNULL, stdout=log, stderr=subprocess.STDOUT, cwd=shared.folder,
-                             preexec_fn=no_locks)
-        try:
-            until(lambda: serves(path), 'no agent')
-            a = argparse.Namespace(path=path)
-            works(a, 'ssh-add', 'ed25519')
-            works(a, 'ssh-add', '-T', 'ed25519.pub')
-            log.seek(0)
-            text = log.read()
-            must(status(p.pid, 'VmLck') == '0 kB' and len(re.findall('not locked', text)) == 1, f'{status(p.pid, "VmLck")} {text}')
-        finally:
-            p.terminate()
-            p.wait(10)
+    with Elsewhere(no_locks) as a:
+        works(a, 'ssh-add', 'ed25519')
+        works(a, 'ssh-add', '-T', 'ed25519.pub')
+        until(lambda: 'not locked' in a.log(), 'no word of it in the log')
+        must(status(a.process.pid, 'VmLck') == '0 kB' and a.log().count('not locked') == 1, a.log())
     return 'it serves, and says so once in the log'
 
 
