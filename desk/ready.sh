@@ -25,12 +25,22 @@ missing() { # the Debian packages of what is not there
     done
 }
 
+building() { # a line every nine seconds, where cargo draws no bar
+    local n=0
+    [ ! -t 2 ] || return 0
+    while sleep 9 > /dev/null 2>&1; do n=$((n + 9)); echo "desk: building, $n s" >&2; done
+}
+
 ready() {
-    local packages
+    local packages status=0 ticker
     packages=$(missing)
     # shellcheck disable=SC2086
     [ -z "$packages" ] || get $packages || return 1
     [ -x "$built/key-agentd" ] || echo 'desk: the first start proves the core and builds key-agentd: some minutes' >&2
     [ -n "${KEY_AGENT_LIB:-}" ] || "$root/rust/archive" > /dev/null || return 1
-    (cd "$root/rust" && cargo build --release --offline --target-dir target -p key-agentd -p key-agent-panel) || return 1
+    building > /dev/null & ticker=$!
+    (cd "$root/rust" && cargo build --release --offline --target-dir target -p key-agentd -p key-agent-panel) || status=1
+    kill "$ticker" 2> /dev/null || true
+    wait "$ticker" 2> /dev/null || true # no child is left to the program that is started next
+    return $status
 }
