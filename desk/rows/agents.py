@@ -93,7 +93,11 @@ class Desk:
         self.log_file = open(self.log_path, 'wb')
         self.process = subprocess.Popen([*command, log, '--socket', self.path, '--panel', self.panel_path, *options], stdin=input,
                                         stdout=self.log_file, stderr=subprocess.STDOUT, **how)
-        until(lambda: 'Ctrl-C ends it' in self.written() or self.process.poll() is not None, 'no agent', 60)
+        try:
+            until(lambda: 'Ctrl-C ends it' in self.written() or self.process.poll() is not None, 'no agent', 60)
+        except AssertionError:
+            self.process.kill()
+            raise
         must(self.process.poll() is None, f'the agent ended: {self.log()}')
         self.panel = Panel(self.panel_path)
         self.waiting, self.answer, self.always = self.panel.waiting, self.panel.answer, self.panel.always
