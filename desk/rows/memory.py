@@ -1,4 +1,4 @@
-"""Rows: what stays of keys and passphrases in the agent's memory. Each shows first that the scan finds what is held."""
+"""Rows: what stays of keys and passphrases in the agent's memory. Where something is held, they show first that the scan finds it."""
 import struct
 import threading
 import time
@@ -11,7 +11,7 @@ from .scan import holds, is_clean
 from .tools import WORD, ended, fails, started, works
 
 OTHER = 'Gurken brauchen Schatten, Tomaten nicht'
-WRONG = ['Bodenfeuchte 61 Prozent, Luefter aus.', 'Nebel um 6:40', 'Schneelast auf dem Ostdach! ' * 30]
+WRONG = ['Bodenfeuchte 61 Prozent, Luefter aus.', 'Nebel um 6:40, Gitter zu', 'Schneelast auf dem Ostdach! ' * 30]
 
 
 def words(*texts):
