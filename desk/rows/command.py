@@ -1,6 +1,7 @@
 """Rows: a command under the agent, and sockets that are handed over."""
 import argparse
 import os
+import re
 import signal
 import socket
 import subprocess
@@ -48,11 +49,11 @@ def _():
     must(out == 'The agent has no identities.\n', f'SIGINT to the agent, which a terminal sends to both: {status} {out} {error}')
     ignored = under('sh', '-c', 'exit 7', preexec_fn=lambda: signal.signal(signal.SIGCHLD, signal.SIG_IGN))
     must(ignored[0] == 7, f'where SIGCHLD was ignored: {ignored}')
-    seen = 'cat /proc/$$/limits; grep -E "^Sig(Blk|Ign)" /proc/$$/status; ls -l /proc/$$/fd'
-    mine = subprocess.run(['sh', '-c', seen], stdin=subprocess.DEVNULL, capture_output=True, text=True).stdout
-    its = under('sh', '-c', seen)[1]
-    must(mine.split('total')[0] == its.split('total')[0], f'other limits and signals than without the agent: {its}')
-    must('socket' not in its and its.count(' -> ') == mine.count(' -> '), f'files of the agent: {its}')
+    for words, kept in ((['cat', '/proc/self/limits'], '.*'), (['cat', '/proc/self/status'], 'Sig(?:Blk|Ign).*'),
+                        (['ls', '-l', '/proc/self/fd'], r'\d+ -> ')):
+        mine = subprocess.run(words, stdin=subprocess.DEVNULL, capture_output=True, text=True).stdout
+        its = under(*words)[1]
+        must(re.findall(kept, mine) == re.findall(kept, its), f'not as without the agent: {its}')
     return '143 where SIGTERM ends the command or comes to the agent; limits, signals and files as without the agent'
 
 
