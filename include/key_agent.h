@@ -1,4 +1,4 @@
-/* The key agent for C: what the archive of the crate gateway exports. `rt staticlib gateway` writes it for x86-64 Linux, rust/arm/archive for
+/* The key agent for C: what the archive of the crate gateway exports. rust/archive makes it, for x86-64 Linux and
  * aarch64 Linux.
  *
  * The agent decides and keeps; sockets, clock, panel, key check and signer stay on this side. Each call is handed the request's payload and
