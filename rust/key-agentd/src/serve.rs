@@ -39,7 +39,7 @@ const TIMER: u64 = 4;
 const FIRST: u64 = 5;
 
 /// Frames of one connection in a row, before the others have their turn.
-const TURN: usize = 8;
+const TURN: usize = 2;
 /// Connections taken in a row, and lines from the terminal.
 const TAKEN: usize = 8;
 const TYPED: usize = 64;
