@@ -7,7 +7,7 @@ from .agents import Desk
 from .base import must, row
 from .frames import ADD, ADD_CONSTRAINED, FAILURE, LIST, LOCK, SUCCESS, UNLOCK, Raw, receive, string, strings
 from .keys import FIVE, KINDS, blob_of, fields_of, make, private, sign_request, stored
-from .scan import holds, is_clean
+from .scan import holds, holds_once, is_clean
 from .tools import WORD, ended, fails, started, works
 
 OTHER = 'Gurken brauchen Schatten, Tomaten nicht'
@@ -29,6 +29,8 @@ def kind_row(kind):
     def f():
         secrets = private(kind)
         with Desk() as a:
+            works(a, 'ssh-add', kind)
+            holds_once(a, stored(kind), 'added')
             used(a, kind)
             holds(a, stored(kind), 'held')
             works(a, 'ssh-add', '-d', kind)
@@ -45,13 +47,14 @@ def kind_row(kind):
             is_clean(a, secrets, 'gone on time')
             used(a, kind, '-t', '2')
             works(a, 'ssh-add', '-x', word=WORD)
-            holds(a, {**stored(kind), **words(WORD)}, 'locked')
+            holds(a, stored(kind), 'locked')
+            holds_once(a, words(WORD), 'locked')
             time.sleep(3)
             is_clean(a, secrets, 'gone on time while locked')
-            holds(a, words(WORD), 'locked')
+            holds_once(a, words(WORD), 'locked')
             works(a, 'ssh-add', '-X', word=WORD)
             is_clean(a, {**secrets, **words(WORD)}, 'unlocked')
-        return 'found while held; nothing of it afterwards'
+        return 'found at one place when added; nothing of it afterwards'
     return f
 
 
@@ -113,7 +116,7 @@ def _():
     with Desk() as a:
         works(a, 'ssh-add', 'ed25519')
         works(a, 'ssh-add', '-x', word=WORD)
-        holds(a, words(WORD), 'locked')
+        holds_once(a, words(WORD), 'locked')
         for word in WRONG:
             fails(a, 'ssh-add', '-X', word=word)
             is_clean(a, words(word), 'tried')
@@ -130,14 +133,14 @@ def _():
         for hangs_up in (False, True):
             p = started(a, 'ssh-add', '-x', word=WORD)
             q = a.waiting('Lock')[0]
-            holds(a, words(WORD), 'waiting')
+            holds_once(a, words(WORD), 'waiting')
             if hangs_up:
                 p.kill()
             else:
                 a.answer(q, False)
             ended(p)
             is_clean(a, words(WORD), 'hung up' if hangs_up else 'answered no')
-    return 'found while locked and while the question waits; nothing afterwards'
+    return 'found at one place while locked and while the question waits; nothing afterwards'
 
 
 def wrong_halves():
@@ -198,7 +201,7 @@ def _():
             r = Raw(a)
             r.send(part)
             time.sleep(0.2)
-            holds(a, secrets, what)
+            holds_once(a, secrets, what)
             r.conn.close()
             is_clean(a, secrets, what)
     with Desk('--idle-timeout', '1') as a:
@@ -211,7 +214,7 @@ def _():
             while r.conn.recv(65536):
                 pass
         is_clean(a, all_secrets, 'timed out')
-    return 'found in the half frame; nothing afterwards'
+    return 'found at one place, in the half frame; nothing afterwards'
 
 
 @row('memory: LOCK, UNLOCK and ADD in pieces of a byte, several in one, and while the client goes without its reply (raw)')

@@ -27,6 +27,8 @@ def mappings(process):
 
 def memory(process):
     """The process's memory, in parts: address, bytes, mapping."""
+    if os.geteuid() == 0 and os.path.basename(os.readlink(f'/proc/{process}/exe')).startswith('qemu'):
+        raise Skip('the agent runs in an emulator, whose memory holds the registers too')
     try:
         mem = open(f'/proc/{process}/mem', 'rb', buffering=0)
     except PermissionError as e:
@@ -41,27 +43,42 @@ def memory(process):
 
 
 def found(process, secrets):
-    """Where words of these secrets (by name) stand: lines NAME: BYTES in MAPPING at ADDRESS."""
-    names = {}
+    """Where words of these secrets (by name) stand: for each place NAME: BYTES in MAPPING at ADDRESS."""
+    names, places = {}, []
     for name, secret in secrets.items():
         for word in words(secret):
             names.setdefault(word, name)
-    places = {}
     for address, data, mapping in memory(process):
         data = data[:len(data) // 8 * 8]
         if data.count(0) == len(data) or names.keys().isdisjoint(array.array('Q', data)):
             continue
         for i, word in enumerate(array.array('Q', data)):
             if word in names:
-                places.setdefault((names[word], mapping, (address + 8 * i) // 4096), []).append(address + 8 * i)
-    return [f'{name}: {8 * len(at)} bytes in {mapping} at {at[0]:#x}' for (name, mapping, _), at in places.items()]
+                put(places, names[word], mapping, address + 8 * i)
+    return [f'{name}: {end - start} bytes in {mapping} at {start:#x}' for name, mapping, start, end in places]
+
+
+def put(places, name, mapping, address):
+    """The word belongs to the last place where it follows it."""
+    if places and places[-1][0] == name and places[-1][3] == address:
+        places[-1][3] += 8
+    else:
+        places.append([name, mapping, address, address + 8])
 
 
 def holds(agent, secrets, when):
-    """Each of these secrets is in the agent's memory: so the scan can find it."""
+    """Each of these secrets is in the agent's memory: so the scan can find it. How often each, by name."""
     lines = found(agent.process.pid, secrets)
-    for name in secrets:
-        must(any(line.startswith(name + ':') for line in lines), f'{when}: the scan does not find {name}')
+    counts = {name: sum(line.startswith(name + ':') for line in lines) for name in secrets}
+    for name, count in counts.items():
+        must(count, f'{when}: the scan does not find {name}')
+    return counts
+
+
+def holds_once(agent, secrets, when):
+    """Each of them is there at one place alone: the core's."""
+    counts = holds(agent, secrets, when)
+    must(set(counts.values()) == {1}, f'{when}: {found(agent.process.pid, secrets)}')
 
 
 def is_clean(agent, secrets, when):

@@ -11,7 +11,7 @@ use std::os::unix::net::UnixStream;
 /// A frame is at most this long with its length in front.
 const FRAME: usize = 4 + key_agent::MAX_PAYLOAD;
 /// What is read at a time, so that a long frame holds nobody up.
-const CHUNK: usize = 65_536;
+const CHUNK: usize = 16_384;
 
 /// What a request waits for.
 #[derive(Clone, Copy, PartialEq, Eq, Debug)]

@@ -41,7 +41,7 @@ const FIRST: u64 = 5;
 /// Frames of one connection in a row, before the others have their turn.
 const TURN: usize = 8;
 /// Connections taken in a row, and lines from the terminal.
-const TAKEN: usize = 64;
+const TAKEN: usize = 8;
 const TYPED: usize = 64;
 /// Panels at a time.
 const PANELS: usize = 16;

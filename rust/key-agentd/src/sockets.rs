@@ -171,19 +171,23 @@ fn take_over(fd: RawFd) -> Result<UnixListener, String> {
 }
 
 /// Who is at the other end, as the kernel says.
-#[derive(Clone)]
+#[derive(Clone, Copy)]
 pub struct Peer {
-    pub uid: u32,
-    pub pid: i32,
-    pub program: String,
+    uid: u32,
+    pid: i32,
 }
 
 impl Peer {
     pub fn of(stream: &UnixStream) -> nix::Result<Peer> {
         let c = getsockopt(stream.as_raw_fd(), sockopt::PeerCredentials)?;
-        let name = fs::read(format!("/proc/{}/comm", c.pid())).unwrap_or_default();
-        let program = word(String::from_utf8_lossy(&name).trim_end_matches('\n'));
-        Ok(Peer { uid: c.uid(), pid: c.pid(), program })
+        Ok(Peer { uid: c.uid(), pid: c.pid() })
+    }
+
+    /// For log and panel. The program's name is read when it is to be shown, and not of each who comes.
+    pub fn words(&self) -> String {
+        let Peer { uid, pid } = self;
+        let name = fs::read(format!("/proc/{pid}/comm")).unwrap_or_default();
+        format!("uid {uid} pid {pid} program {}", word(String::from_utf8_lossy(&name).trim_end_matches('\n')))
     }
 
     /// Our own user, and root.

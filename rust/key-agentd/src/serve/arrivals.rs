@@ -40,7 +40,9 @@ impl Loop {
         if stream.set_nonblocking(true).is_err() || self.add(stream.as_raw_fd(), token).is_err() {
             return self.set.log.write(Level::Warn, &name, "", "refused: the system takes no more");
         }
-        self.set.log.write(Level::Info, &name, "", &format!("opened by uid {} pid {} program {}", peer.uid, peer.pid, peer.program));
+        if self.set.log.has(Level::Info) {
+            self.set.log.write(Level::Info, &name, "", &format!("opened by {}", peer.words()));
+        }
         self.connections.insert(token, Connection::new(stream, self.opened, peer, self.set.clock.reading()));
         self.peak = self.peak.max(self.connections.len());
     }
@@ -97,6 +99,6 @@ fn let_in(stream: &UnixStream) -> Result<Peer, String> {
     if peer.is_let_in() {
         Ok(peer)
     } else {
-        Err(format!("uid {} pid {} program {} is another user", peer.uid, peer.pid, peer.program))
+        Err(format!("{} is another user", peer.words()))
     }
 }

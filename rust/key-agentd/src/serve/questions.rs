@@ -4,12 +4,7 @@ use super::*;
 impl Loop {
     pub(super) fn ask(&mut self, token: u64, c: &Connection, payload: &[u8], what: &str, key: Option<u64>) -> Waiting {
         let message = names::message(payload);
-        let Peer { uid, pid, program } = &c.peer;
-        let text = Text {
-            front: format!("{} {message} {what}", c.name),
-            key: self.key_words(payload, key),
-            who: format!("uid {uid} pid {pid} program {program}"),
-        };
+        let text = Text { front: format!("{} {message} {what}", c.name), key: self.key_words(payload, key), who: c.peer.words() };
         let is_locked = self.core.is_locked();
         let words = text.words(is_locked);
         let deadline = self.set.options.question_timeout.map(|s| self.set.clock.reading() + u64::from(s) * 1000);
