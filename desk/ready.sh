@@ -1,5 +1,5 @@
-# Sourced by start, test and ../install, with `root` set to the repository: installs what is missing (apt-get, through sudo where we are not root), makes
-# the core's archive and builds the programs, in $built.
+# Sourced by start, test and ../install, with `root` set to the repository: installs what is missing (apt-get, through sudo where we are not root),
+# makes the core's archive and builds the programs, in $built.
 
 built=$root/rust/target/release
 
