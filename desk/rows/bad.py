@@ -266,7 +266,7 @@ def _():
         works(a, 'ssh-add', '-D')
         fails(a, 'ssh-add', '-l', says='no identities')
         if os.geteuid() == 0:  # nobody else may look
-            must(len(os.listdir(f'/proc/{a.process.pid}/fd')) < 16, 'descriptors stay open')
+            until(lambda: len(os.listdir(f'/proc/{a.process.pid}/fd')) < 16, 'descriptors stay open')
         before = cpu(a)
         time.sleep(1)
         must(cpu(a) - before < 0.2, 'it has work, and nobody is there')

@@ -1,4 +1,5 @@
 """Rows: timeouts, and caps of connections, files and memory."""
+import os
 import re
 import resource
 import select
@@ -114,8 +115,12 @@ def _():
         must(during < 200 * 1024, f'{during} KB of memory')
         works(a, 'ssh-add', 'rsa-4096')
         works(a, 'ssh-add', '-T', 'rsa-4096.pub')
-        closed = sum(select.select([r.conn], [], [], 0)[0] != [] for r in conns)
-        must(0 < closed < 400, f'{closed} are closed')
+
+        def closed():
+            return sum(select.select([r.conn], [], [], 0)[0] != [] for r in conns)
+        until(closed, 'none is closed')
+        time.sleep(1)
+        must(closed() < 400, f'{closed()} are closed')
         for r in conns:
             r.conn.close()
 
@@ -124,6 +129,35 @@ def _():
         until(is_back, f'it keeps memory: {before} KB before')
         must(Raw(a).ask(LIST + bytes(262143))[0] == 12, 'no long frame any more')
     return 'above 128 MB the next is closed; the others go on; the memory goes back'
+
+
+@row('over-long frames: on one connection after the other for a second; on 400 at once (raw)')
+def _():
+    too_long = struct.pack('>I', 262145)
+    with Desk() as a:
+        good = Raw(a)
+        must(good.ask(LIST) == EMPTY_LIST, 'not served')
+        files = len(os.listdir(f'/proc/{a.process.pid}/fd'))
+        count, end = 0, time.monotonic() + 1
+        while time.monotonic() < end:
+            r = Raw(a)
+            r.send(too_long)
+            must(r.is_closed(), 'answered')
+            r.conn.close()
+            count += 1
+        must(5 < count <= 21, f'{count} in a second')
+        conns = [Raw(a) for _ in range(400)]
+        start = time.monotonic()
+        for r in conns:
+            r.send(too_long)
+        must(good.ask(LIST) == EMPTY_LIST, 'others wait')
+        for r in conns:
+            must(r.is_closed(), 'answered')
+        must(time.monotonic() - start < 2, f'closed after {time.monotonic() - start:.1f} s')
+        for r in conns:
+            r.conn.close()
+        until(lambda: len(os.listdir(f'/proc/{a.process.pid}/fd')) == files, 'descriptors are kept')
+    return 'each is closed 50 ms behind its fault, at most 256 at a time wait for it; the others go on'
 
 
 def few_files():

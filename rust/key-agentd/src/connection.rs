@@ -101,6 +101,10 @@ impl Connection {
         Ok(())
     }
 
+    pub fn is_long(&self) -> bool {
+        self.bytes().len() >= CHUNK
+    }
+
     pub fn front(&self) -> Front {
         let bytes = self.bytes();
         match split(bytes) {

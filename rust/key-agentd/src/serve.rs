@@ -53,13 +53,21 @@ const SWEEP: u64 = 1000;
 const UNUSED: u64 = 1000;
 /// How long nothing is taken where the system has no descriptor left.
 const PAUSE: u64 = 100;
+/// A connection that ends by what its client sent is closed so many milliseconds later, and so many of them wait for it. The system frees what belonged
+/// to a connection behind its close and in batches, for which all others wait: who connects again at once is to come seldom.
+const HELD: u64 = 50;
+const HELD_MOST: usize = 256;
 
 /// Why a connection ends.
-struct End(String);
+enum End {
+    Closed(String),
+    /// By what its client sent: an over-long frame, or a request that lands as a close.
+    Fault(String),
+}
 
 impl From<std::io::Error> for End {
     fn from(e: std::io::Error) -> End {
-        End(format!("closed: {e}"))
+        End::Closed(format!("closed: {e}"))
     }
 }
 
@@ -125,8 +133,14 @@ struct Loop {
     works: HashMap<u64, u64>,
     /// Connections with frames that are whole and not yet looked at.
     ready: VecDeque<u64>,
+    /// Connections in the midst of a long frame, with what they were told of in this turn.
+    later: Vec<(u64, EpollFlags)>,
+    /// Connections that have ended, and the reading at which each is closed.
+    held: VecDeque<(u64, UnixStream)>,
     last_token: u64,
     opened: u64,
+    /// The turns of the loop.
+    turns: usize,
     /// Nothing is taken before this reading.
     paused: Option<u64>,
     /// The reading at which idle connections were looked for.
@@ -158,8 +172,11 @@ pub fn serve(set: Serve) -> Result<(i32, Log), String> {
         connections: HashMap::new(),
         works: HashMap::new(),
         ready: VecDeque::new(),
+        later: Vec::new(),
+        held: VecDeque::new(),
         last_token: FIRST,
         opened: 0,
+        turns: 0,
         paused: None,
         swept: 0,
         peak: 0,
@@ -209,6 +226,7 @@ impl Loop {
             if let Some(status) = status {
                 return status;
             }
+            self.on_later();
             self.on_ready();
             self.on_time();
             self.tell_changes();
@@ -219,7 +237,8 @@ impl Loop {
     fn deadline(&self) -> Option<u64> {
         let sweep = self.set.options.idle_timeout.filter(|_| !self.connections.is_empty()).map(|_| self.swept + SWEEP);
         let unused = self.long.map(|(_, since)| since + UNUSED);
-        [self.core.due(), self.panel.due(), self.panel.unread_due(), sweep, unused, self.paused].into_iter().flatten().min()
+        let held = self.held.front().map(|(due, _)| *due);
+        [self.core.due(), self.panel.due(), self.panel.unread_due(), sweep, unused, held, self.paused].into_iter().flatten().min()
     }
 
     fn on_event(&mut self, token: u64, events: EpollFlags) -> Option<i32> {
@@ -296,6 +315,9 @@ impl Loop {
                 self.watch_for(p.as_raw_fd(), PANEL, true, false);
             }
         }
+        while self.held.front().map_or(false, |(due, _)| *due <= reading) {
+            self.held.pop_front();
+        }
         if let Some(seconds) = self.set.options.idle_timeout {
             self.sweep(reading, u64::from(seconds) * 1000);
         }
@@ -317,7 +339,7 @@ impl Loop {
         let tokens: Vec<u64> = self.connections.iter().filter(|(_, c)| is_idle(c)).map(|(t, _)| *t).collect();
         for token in tokens {
             if let Some(c) = self.connections.remove(&token) {
-                self.close(c, End(format!("closed: idle for {} s", idle / 1000)));
+                self.close(c, End::Closed(format!("closed: idle for {} s", idle / 1000)));
             }
         }
     }

@@ -32,7 +32,7 @@ impl Loop {
             Err(why) => return self.refuse_other(&name, &why, AGENT),
         };
         let most = self.set.most;
-        if self.connections.len() >= most {
+        if self.connections.len() + self.held.len() >= most {
             let what = if most < self.set.options.max_connections as usize { "the limit of open files" } else { "--max-connections" };
             return self.refuse_crowd(&name, &format!("refused: {most} connections are open, as many as {what} allows"), AGENT);
         }

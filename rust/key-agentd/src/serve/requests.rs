@@ -3,10 +3,29 @@ use super::*;
 
 impl Loop {
     pub(super) fn on_client(&mut self, token: u64, events: EpollFlags) {
-        let mut c = match self.connections.remove(&token) {
-            Some(c) => c,
-            None => return,
-        };
+        match self.connections.remove(&token) {
+            Some(c) if c.is_long() => {
+                self.connections.insert(token, c);
+                self.later.push((token, events));
+            }
+            Some(c) => self.on_connection(token, c, events),
+            None => {}
+        }
+    }
+
+    /// Of those in the midst of a long frame one has its turn, behind all others; the system tells of the rest again.
+    pub(super) fn on_later(&mut self) {
+        self.turns = self.turns.wrapping_add(1);
+        let one = self.later.get(self.turns % self.later.len().max(1)).copied();
+        self.later.clear();
+        if let Some((token, events)) = one {
+            if let Some(c) = self.connections.remove(&token) {
+                self.on_connection(token, c, events);
+            }
+        }
+    }
+
+    fn on_connection(&mut self, token: u64, mut c: Connection, events: EpollFlags) {
         let result = self.serve_client(token, &mut c, events);
         self.put_back(token, c, result);
     }
@@ -22,7 +41,7 @@ impl Loop {
             c.write()?;
         }
         if c.is_sending() {
-            return if events.contains(EpollFlags::EPOLLERR) { Err(End("closed".to_string())) } else { Ok(()) };
+            return if events.contains(EpollFlags::EPOLLERR) { Err(End::Closed("closed".to_string())) } else { Ok(()) };
         }
         if events.intersects(EpollFlags::EPOLLIN | EpollFlags::EPOLLHUP | EpollFlags::EPOLLERR) {
             c.read()?;
@@ -38,8 +57,8 @@ impl Loop {
             }
             match c.front() {
                 Front::Payload(payload) => self.begin(token, c, payload)?,
-                Front::TooLong(n) => return Err(End(format!("closed: too long a frame: {n} bytes announced"))),
-                Front::More if c.has_ended => return Err(End(c.cut().map_or("closed".to_string(), |cut| format!("closed: {cut}")))),
+                Front::TooLong(n) => return Err(End::Fault(format!("closed: too long a frame: {n} bytes announced"))),
+                Front::More if c.has_ended => return Err(End::Closed(c.cut().map_or("closed".to_string(), |cut| format!("closed: {cut}")))),
                 Front::More => return Ok(()),
             }
         }
@@ -76,7 +95,7 @@ impl Loop {
             }
             Step::Close => {
                 self.set.log.write(Level::Info, &c.name, &names::message(&c.bytes()[request.payload.clone()]), "landed: close");
-                Err(End("closed".to_string()))
+                Err(End::Fault("closed".to_string()))
             }
             Step::Reply => {
                 if self.set.log.has(Level::Info) {
@@ -100,7 +119,7 @@ impl Loop {
             match outcome {
                 Outcome::Reply => return Ok(Step::Reply),
                 Outcome::Close => return Ok(Step::Close),
-                Outcome::Refused(why) => return Err(End(format!("closed: {why}"))), // this host stays within the limits
+                Outcome::Refused(why) => return Err(End::Closed(format!("closed: {why}"))), // this host stays within the limits
                 Outcome::Asks(question) => {
                     if let Some(wait) = self.meet(token, c, payload, &mut request.lent, question)? {
                         return Ok(wait);
@@ -192,7 +211,7 @@ impl Loop {
         let result = match answer {
             Answer::Panicked => {
                 self.set.log.write(Level::Error, &c.name, "", "a fault in the signer");
-                return Err(End("closed: a fault in the signer".to_string()));
+                return Err(End::Closed("closed: a fault in the signer".to_string()));
             }
             Answer::Checked(found) => {
                 request.lent.check = Some(found.is_ok());
@@ -229,7 +248,7 @@ impl Loop {
         self.connections.insert(token, c);
     }
 
-    pub(super) fn close(&mut self, c: Connection, End(why): End) {
+    pub(super) fn close(&mut self, c: Connection, end: End) {
         match c.request.as_ref().and_then(|r| r.waiting) {
             Some(Waiting::Question(number)) => {
                 if self.panel.close(number, &format!("gone {number}")) {
@@ -242,14 +261,19 @@ impl Loop {
             }
             None => {}
         }
-        self.set.log.write(Level::Info, &c.name, "", &why);
+        let (End::Closed(why) | End::Fault(why)) = &end;
+        self.set.log.write(Level::Info, &c.name, "", why);
+        if matches!(end, End::Fault(_)) && self.held.len() < HELD_MOST {
+            let _ = epoll_ctl(self.epoll, EpollOp::EpollCtlDel, c.stream.as_raw_fd(), None);
+            self.held.push_back((self.set.clock.reading() + HELD, c.stream));
+        }
     }
 }
 
 fn hung_up(c: &Connection) -> End {
     match c.request.as_ref().and_then(|r| r.waiting) {
-        Some(Waiting::Question(n)) => End(format!("closed: hung up while question {n} was open")),
-        _ => End("closed: hung up".to_string()),
+        Some(Waiting::Question(n)) => End::Closed(format!("closed: hung up while question {n} was open")),
+        _ => End::Closed("closed: hung up".to_string()),
     }
 }
 
