@@ -1,3 +1,4 @@
+// Derived from keys/agent/server.rs of russh 0.65.0 (Apache-2.0), and changed: see NOTICE.
 // The splitter: what the first bytes of a connection hold, and the payload as a part of them.
 use wire::Split;
 use wire::limits;

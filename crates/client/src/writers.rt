@@ -1,3 +1,4 @@
+// Derived from keys/agent/client.rs of russh 0.65.0 (Apache-2.0), and changed: see NOTICE.
 // Request writers. Each writes its frame to the front of the output, or refuses and leaves the output as it was.
 use crate::Refusal;
 use crate::Wrote;

@@ -1,3 +1,4 @@
+// Derived from keys/agent/server.rs of russh 0.65.0 (Apache-2.0), and changed: see NOTICE.
 // An add request behind its first byte: key fields, comment, and constraints where it has them.
 use crate::constraints::Lifetime;
 use crate::constraints::Walk;

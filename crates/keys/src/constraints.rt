@@ -1,3 +1,4 @@
+// Derived from keys/agent/server.rs of russh 0.65.0 (Apache-2.0), and changed: see NOTICE.
 // The constraints of an add request.
 use wire::Seconds;
 use wire::msg;

@@ -1,3 +1,4 @@
+// Derived from keys/agent/client.rs of russh 0.65.0 (Apache-2.0), and changed: see NOTICE.
 // The identities reader: how many items a reply holds, then each item's blob as a part of the payload.
 use crate::Reach;
 use client::Refusal;

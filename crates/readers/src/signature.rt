@@ -1,3 +1,4 @@
+// Derived from keys/agent/client.rs of russh 0.65.0 (Apache-2.0), and changed: see NOTICE.
 // The signature reader: takes the signature out of a sign reply, where its type fits the hash that was asked for.
 use crate::Reach;
 use client::Refusal;

@@ -1,4 +1,4 @@
--- What one place adds to a list.
+-- What one place adds to a list reply: to its items, and to its count. A free place adds nothing.
 use Prim.Native.Nat.{ℕ}
 use mathlib.Core.Option.{none, some}
 use mathlib.Core.List.{List, []}

@@ -1,3 +1,4 @@
+// Derived from keys/agent/server.rs of russh 0.65.0 (Apache-2.0), and changed: see NOTICE.
 // The add requests (17, 25). Any error in them is FAILURE. What they require, the call has tested.
 use crate::Called;
 use crate::Outcome;

@@ -1,3 +1,4 @@
+// Derived from keys/agent/server.rs of russh 0.65.0 (Apache-2.0), and changed: see NOTICE.
 // The list reply (11): the live entries in place order, each blob with its comment. What it requires, the call has tested.
 use crate::Called;
 use crate::Outcome;

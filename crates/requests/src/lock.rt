@@ -1,3 +1,4 @@
+// Derived from keys/agent/server.rs of russh 0.65.0 (Apache-2.0), and changed: see NOTICE.
 // The requests that set and clear the lock: 22, 23. What they require, the call has tested.
 use crate::Called;
 use crate::replies::failure;

@@ -1,3 +1,4 @@
+// Derived from keys/agent/server.rs of russh 0.65.0 (Apache-2.0), and changed: see NOTICE.
 // The sign request (13). An error in it closes the connection; an absent key or a no is FAILURE. What it requires, the call has
 // tested.
 use crate::Answers;

@@ -51,7 +51,7 @@ opened g = not (locked g)
 abbrev pub millisOf : Seconds → ℕ
 millisOf seconds = seconds .count * 1000
 
--- "an entry with lifetime L is removed .. if clock minus insertion reading is at least 1,000 L"
+-- "each entry with lifetime L is removed .. if clock minus insertion reading is at least 1,000 L"
 unfoldable pub dueAt : ℕ → ℕ → Lifetime → Bool
 dueAt clock reading Forever = false
 dueAt clock reading (For seconds) = leb (millisOf seconds) (clock - reading)
@@ -63,7 +63,7 @@ lasting clock (some e) = so (some e) (dueAt clock (e .reading) (e .lifetime)) no
 unfoldable pub atClock : ℕ → Gateway → Gateway
 atClock clock g = record { places = map (lasting clock) (g .places); lock = g .lock; clock = clock; next = g .next }
 
--- "An accepted call first raises the kept clock to its reading; a lower reading counts as the kept one. Then each entry .. is removed"
+-- "An accepted call first raises the kept clock .. to its reading; a lower reading counts as the kept one. Then each entry .. is removed"
 unfoldable pub advance : ℕ → Gateway → Gateway
 advance reading g = atClock (max (g .clock) reading) g
 

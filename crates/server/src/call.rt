@@ -1,3 +1,4 @@
+// Derived from keys/agent/server.rs of russh 0.65.0 (Apache-2.0), and changed: see NOTICE.
 // One call: its refusals, the clock, the row of its first byte, and the request's function.
 use requests::Answers;
 use requests::Called;

@@ -1,3 +1,4 @@
+// Derived from keys/agent/mod.rs of russh 0.65.0 (Apache-2.0), and changed: see NOTICE.
 // The wire: what the other crates read and write a message with.
 pub mod limits;
 pub mod msg;

@@ -1,4 +1,5 @@
-// The message numbers of msg.rs, under its names.
+// Derived from keys/agent/msg.rs of russh 0.65.0 (Apache-2.0), and changed: see NOTICE.
+// The message numbers, under its names.
 
 pub const FAILURE: u8 = 5;
 
