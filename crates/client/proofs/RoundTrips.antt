@@ -14,6 +14,7 @@ use Rattle.wire.specs.Steps.{so}
 use Rattle.wire.specs.Values.{numberReads, partReads}
 use Rattle.wire.specs.Write.{write, string}
 use Rattle.wire.proofs.Format.{number-form, string-form}
+use Rattle.wire.proofs.FrameLaws.{splits}
 use Rattle.wire.proofs.ByteLaws.{bytes-cons, bytes-append, be32-bytes, string-bytes}
 use Rattle.keys.specs.Forms.{constraintForm, constraintForms}
 use Rattle.rule.specs.Order.{Begins, Carries}
@@ -21,18 +22,9 @@ use Rattle.client.specs.declared.Refusal.{Refusal}
 use Rattle.client.specs.declared.Wrote.{Wrote}
 use Rattle.client.specs.declared.Wrote.the-variants.{Refused}
 use Rattle.client.specs.Requests.{signRequest, removeSmartcardAnswer, removeSmartcardLeft, addSmartcardAnswer, addSmartcardLeft}
-use Rattle.client.specs.Promises.{Holds, Splits, Sent, Writes, WriterRule, RemoveSmartcardRule, AddSmartcardRule, ListRead, LockRead, UnlockRead, SignRead, CardReads, SmartcardRead}
+use Rattle.client.specs.Promises.{Sent, Writes, WriterRule, RemoveSmartcardRule, AddSmartcardRule, ListRead, LockRead, UnlockRead, SignRead, CardReads, SmartcardRead}
 use Rattle.client.proofs.WriteLaws.{Met, Stage, stage, untouched}
-use Rattle.client.proofs.SplitTables.{split-table}
 use Rattle.client.proofs.WriterTables.{not-granted, wrote-written, wrote-refused}
-
--- ## Frames
-
-found : (p rest : List ℕ) → length p ≤ payloadLimit → Holds (string p ++ rest) p
-found p rest h = rw (take-at p rest (length p) refl) at (split-table (string p ++ rest) .whole (length p) (p ++ rest) refl h (simp length-append (omega arith)))
-
-pub splits : Splits
-splits p h = record { alone = rw (append-nil (string p)) at (found p [] h); followed = λ rest. found p rest h }
 
 -- ## Writers
 

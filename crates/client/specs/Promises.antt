@@ -1,59 +1,24 @@
--- What frames, writers and refusals promise, as statements; the proofs are in proofs/.
+-- What writers and refusals promise, as statements; the proofs are in proofs/.
 use Prim.Native.Nat.{ℕ, _+_, _^_, _≤_, _<_}
 use mathlib.Core.Path.{_≡_}
 use mathlib.Core.List.{List, [], _++_}
 use lib.ListN.{length, take, drop}
 use Rattle.wire.specs.Limits.{payloadLimit}
 use Rattle.wire.specs.declared.Constraint.{Constraint}
-use Rattle.wire.specs.declared.Split.{Split}
 use Rattle.wire.specs.Numbers.{Bytes, be32}
 use Rattle.wire.specs.Abnf.{Octets}
 use Rattle.wire.specs.Read.{cutOf, numberAt, stringAt}
 use Rattle.wire.specs.Values.{read, numberReads, partReads}
 use Rattle.wire.specs.Write.{string}
-use Rattle.wire.specs.Frames.{splitOf, framePayload, payloadFrom}
-use Rattle.wire.specs.Promises.{OneToOne, Longest}
+use Rattle.wire.specs.Promises.{OneToOne, Longest, Holds}
 use Rattle.keys.specs.Forms.{constraintForms}
 use Rattle.rule.specs.Order.{Begins, Carries}
 use Rattle.rule.specs.Content.{SignRequest}
 use Rattle.client.specs.declared.Refusal.{Refusal}
 use Rattle.client.specs.declared.Wrote.{Wrote}
 use Rattle.client.specs.Refusals.{Where, no-place, at-place, refusalNumber, refusalPlace}
-use Rattle.client.specs.Values.{splitNumber, Says, grants, refuses, wroteSays}
+use Rattle.client.specs.Values.{Says, grants, refuses, wroteSays}
 use Rattle.client.specs.Requests.{requestIdentities, signRequest, lockRequest, unlockRequest, plainSmartcard, constrainedSmartcard, removeSmartcard, addSmartcard, answered, filled, removeSmartcardAnswer, removeSmartcardLeft, addSmartcardAnswer, addSmartcardLeft}
-
--- ## Frames
-
--- the number of the splitter's answer tells it from the others
-abbrev pub SplitsApart : Type 0
-SplitsApart = OneToOne Split ℕ splitNumber
-
--- the splitter says that a frame is whole, and hands out its payload, the part of the bytes behind their four of length
-pub record Holds (s payload : List ℕ) : Type 0 where
-  pub frame : splitNumber (splitOf s) ≡ 2
-  pub payload-is : framePayload s ≡ payload
-  pub from : payloadFrom s ≡ 4
-
--- a payload's frame alone, and with more bytes behind it
-pub record SplitsBack (payload : List ℕ) : Type 0 where
-  pub alone : Holds (string payload) payload
-  pub followed : (rest : List ℕ) → Holds (string payload ++ rest) payload
-
-abbrev pub Splits : Type 0
-Splits = (payload : List ℕ) → length payload ≤ payloadLimit → SplitsBack payload
-
--- what the splitter says of any bytes: under 4 of them; a length above 262,144, with however many behind it; fewer bytes than the length
--- announces; and all of them. Unless a frame is whole, its payload is empty, and lies at their start
-pub record SplitSays (s : List ℕ) : Type 0 where
-  pub few : length s < 4 → splitNumber (splitOf s) ≡ 0
-  pub long : (n : ℕ) (rest : List ℕ) → s ≡ be32 n ++ rest → n < 2 ^ 32 → payloadLimit < n → splitNumber (splitOf s) ≡ 1
-  pub short : (n : ℕ) (rest : List ℕ) → s ≡ be32 n ++ rest → n ≤ payloadLimit → length rest < n → splitNumber (splitOf s) ≡ 0
-  pub whole : (n : ℕ) (rest : List ℕ) → s ≡ be32 n ++ rest → n ≤ payloadLimit → n ≤ length rest → Holds s (take n rest)
-  pub else-empty : (splitNumber (splitOf s) ≡ 2 → ⊥) → framePayload s ≡ []
-  pub else-start : (splitNumber (splitOf s) ≡ 2 → ⊥) → payloadFrom s ≡ 0
-
-abbrev pub SplitTable : Type 0
-SplitTable = (s : List ℕ) → SplitSays s
 
 -- ## Writers
 

@@ -1,15 +1,7 @@
 -- Answers in 01's words and numbers.
 use Prim.Native.Nat.{ℕ}
-use Rattle.wire.specs.declared.Split.{Split}
-use Rattle.wire.specs.declared.Split.the-variants.{MoreNeeded, TooLong, Frame}
 use Rattle.client.specs.declared.Wrote.{Wrote}
 use Rattle.client.specs.Refusals.{Where, refusalNumber, refusalPlace}
-
--- the splitter's answers in the order of 01's words: 0 more needed, 1 too long, 2 a whole frame
-abbrev pub splitNumber : Split → ℕ
-splitNumber MoreNeeded = 0
-splitNumber TooLong = 1
-splitNumber Frame = 2
 
 pub data Says (A : Type 0) : Type 0 where
   grants : A → Says A

@@ -1,5 +1,4 @@
-// The client's side: frames and request writers, and the refusals that they share with the reply readers.
-pub mod frame;
+// The client's side: request writers, and the refusals that they share with the reply readers.
 pub mod writers;
 
 // Why a reader or a writer refuses; its output is then untouched. 01's numbers are in specs/Refusals.antt.

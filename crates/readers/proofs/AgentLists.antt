@@ -9,6 +9,7 @@ use lib.Seq.{length-take-le}
 use Rattle.wire.specs.Numbers.{Bytes, be32}
 use Rattle.wire.specs.Abnf.{Octets}
 use Rattle.wire.specs.Write.{string}
+use Rattle.wire.proofs.FrameLaws.{splits}
 use Rattle.wire.proofs.ByteLaws.{bytes-cons, bytes-append, be32-bytes, string-bytes, octets-bytes}
 use Rattle.rule.specs.Gateway.{Entry, Place, fresh}
 use Rattle.rule.specs.Soundness.{EveryEntry, SoundEntry}
@@ -23,7 +24,6 @@ use Rattle.rule.proofs.ReplyLaws.{replies-fit}
 use Rattle.rule.proofs.RowLaws.{landing-beyond, through}
 use Rattle.rule.proofs.ListLaws.{list-rule}
 use Rattle.rule.proofs.CommentLaws.{advance-has, text-from-fresh, bytes-from-fresh}
-use Rattle.client.proofs.RoundTrips.{splits}
 use Rattle.readers.specs.declared.Reach.the-variants.{End}
 use Rattle.readers.specs.Identities.{itemsAt}
 use Rattle.readers.specs.Promises.{ItemForms, item, ListForm, HandsOut, listReply, blobsOf, blobPlace, Listable, Each, ListReplyRead, AgentListRead, FreshListRead}

@@ -9,7 +9,7 @@ use Rattle.wire.specs.Numbers.{Bytes, be32}
 use Rattle.wire.specs.Texts.{bytes}
 use Rattle.wire.specs.Abnf.{Octets}
 use Rattle.wire.specs.Write.{write, string}
-use Rattle.wire.specs.Promises.{OneToOne, Longest}
+use Rattle.wire.specs.Promises.{OneToOne, Longest, Holds}
 use Rattle.rule.specs.Gateway.{Entry, Gateway, fresh}
 use Rattle.rule.specs.Rule.{reply, FAILURE, signatureReply}
 use Rattle.rule.specs.Calls.{Call, lands, call}
@@ -19,7 +19,6 @@ use Rattle.rule.specs.Content.{atCall, payloadOf, Lists, itemForms}
 use Rattle.rule.specs.Comments.{TextComments, ByteBlobs, BytesIn}
 use Rattle.client.specs.Refusals.{Where, no-place, at-place}
 use Rattle.client.specs.Values.{Says, grants, refuses, wroteSays}
-use Rattle.client.specs.Promises.{Holds}
 use Rattle.readers.specs.declared.identities.Listing.{Listing}
 use Rattle.readers.specs.declared.identities.Item.{Item}
 use Rattle.readers.specs.Values.{listingSays, Identity, itemSays}

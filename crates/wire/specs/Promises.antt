@@ -5,6 +5,8 @@ use mathlib.Core.List.{List, [], _∷_, _++_}
 use mathlib.Core.Bool.{true}
 use mathlib.Core.Logic.{_↔_, _⊎_}
 use lib.ListN.{length, getD, take, drop}
+use Rattle.wire.specs.Limits.{payloadLimit}
+use Rattle.wire.specs.declared.frame.Split.{Split}
 use Rattle.wire.specs.declared.read.Octet.{Octet}
 use Rattle.wire.specs.declared.read.Number.{Number}
 use Rattle.wire.specs.declared.read.Part.{Part}
@@ -15,6 +17,7 @@ use Rattle.wire.specs.Abnf.{Octets}
 use Rattle.wire.specs.Mpint.{mpint, Shortest}
 use Rattle.wire.specs.Read.{cutOf, cutFrom, same, byteAt, numberAt, stringAt, textAt, mpintAt}
 use Rattle.wire.specs.Write.{string, write}
+use Rattle.wire.specs.Frames.{splitOf, splitNumber, splitSpan, framePayload, payloadFrom}
 
 -- ## Answers
 
@@ -138,3 +141,37 @@ pub record WriteLeaves (out : List ℕ) (at : ℕ) (v : List ℕ) : Type 0 where
 
 abbrev pub WriteRule : Type 0
 WriteRule = (out : List ℕ) (at : ℕ) (v : List ℕ) → at + length v ≤ length out → WriteLeaves out at v
+
+-- ## Frames
+
+-- the number of the splitter's answer, and where it says that a payload lies, tell it from the others
+abbrev pub SplitsApart : Type 0
+SplitsApart = (a b : Split) → splitNumber a ≡ splitNumber b → splitSpan a ≡ splitSpan b → a ≡ b
+
+-- the splitter says that a frame is whole, and hands out its payload, the part of the bytes behind their four of length
+pub record Holds (s payload : List ℕ) : Type 0 where
+  pub frame : splitNumber (splitOf s) ≡ 2
+  pub lies : splitSpan (splitOf s) ≡ record { from = 4; to = 4 + length payload }
+  pub payload-is : framePayload s ≡ payload
+  pub from : payloadFrom s ≡ 4
+
+-- a payload's frame alone, and with more bytes behind it
+pub record SplitsBack (payload : List ℕ) : Type 0 where
+  pub alone : Holds (string payload) payload
+  pub followed : (rest : List ℕ) → Holds (string payload ++ rest) payload
+
+abbrev pub Splits : Type 0
+Splits = (payload : List ℕ) → length payload ≤ payloadLimit → SplitsBack payload
+
+-- what the splitter says of any bytes: under 4 of them; a length above 262,144, with however many behind it; fewer bytes than the length
+-- announces; and all of them. Unless a frame is whole, its payload is empty, and lies at their start
+pub record SplitSays (s : List ℕ) : Type 0 where
+  pub few : length s < 4 → splitNumber (splitOf s) ≡ 0
+  pub long : (n : ℕ) (rest : List ℕ) → s ≡ be32 n ++ rest → n < 2 ^ 32 → payloadLimit < n → splitNumber (splitOf s) ≡ 1
+  pub short : (n : ℕ) (rest : List ℕ) → s ≡ be32 n ++ rest → n ≤ payloadLimit → length rest < n → splitNumber (splitOf s) ≡ 0
+  pub whole : (n : ℕ) (rest : List ℕ) → s ≡ be32 n ++ rest → n ≤ payloadLimit → n ≤ length rest → Holds s (take n rest)
+  pub else-empty : (splitNumber (splitOf s) ≡ 2 → ⊥) → framePayload s ≡ []
+  pub else-start : (splitNumber (splitOf s) ≡ 2 → ⊥) → payloadFrom s ≡ 0
+
+abbrev pub SplitTable : Type 0
+SplitTable = (s : List ℕ) → SplitSays s

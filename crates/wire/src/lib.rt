@@ -1,4 +1,5 @@
 // The wire: what the other crates read and write a message with.
+pub mod frame;
 pub mod limits;
 pub mod msg;
 pub mod read;
@@ -15,11 +16,4 @@ pub struct Seconds {
 pub enum Constraint {
     KeyLifetime { seconds: Seconds },
     Confirm,
-}
-
-// What the first bytes of a connection hold.
-pub enum Split {
-    MoreNeeded,
-    TooLong,
-    Frame,
 }
