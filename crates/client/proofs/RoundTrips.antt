@@ -1,30 +1,29 @@
 -- The promises: the splitter finds what a writer wrote, and the gateway's rule reads from a request what was given.
-use Prim.Native.Nat.{ℕ, _+_, _^_, _≤_, _<_}
+use Prim.Native.Nat.{ℕ, _+_, _^_, _<_}
 use mathlib.Core.Path.{_≡_, refl, ap, subst, _∙_}
 use mathlib.Core.List.{List, [], _∷_, _++_, append-nil}
 use mathlib.Core.Bool.{Bool, true, false}
 use native.Mathlib.Omega.{arith}
-use lib.ListN.{length, take, drop, length-append}
+use lib.ListN.{length, take, drop}
 use lib.Seq.{take-at, drop-at}
-use Rattle.wire.specs.Limits.{payloadLimit}
 use Rattle.wire.specs.declared.Constraint.{Constraint}
 use Rattle.wire.specs.declared.Constraint.the-variants.{KeyLifetime, Confirm}
 use Rattle.wire.specs.Numbers.{Bytes, be32}
 use Rattle.wire.specs.Steps.{so}
 use Rattle.wire.specs.Values.{numberReads, partReads}
 use Rattle.wire.specs.Write.{write, string}
+use Rattle.wire.specs.Constraints.{constraintForm, constraintForms}
+use Rattle.wire.specs.declared.refusal.Refusal.{Refusal}
+use Rattle.wire.specs.declared.refusal.Wrote.{Wrote}
+use Rattle.wire.specs.declared.refusal.Wrote.the-variants.{Refused}
 use Rattle.wire.proofs.Format.{number-form, string-form}
 use Rattle.wire.proofs.FrameLaws.{splits}
-use Rattle.wire.proofs.ByteLaws.{bytes-cons, bytes-append, be32-bytes, string-bytes}
-use Rattle.keys.specs.Forms.{constraintForm, constraintForms}
+use Rattle.wire.proofs.ByteLaws.{bytes-none, bytes-cons, bytes-append, be32-bytes, bytes-string}
+use Rattle.wire.proofs.RefusalLaws.{not-granted, wrote-written, wrote-refused}
 use Rattle.rule.specs.Order.{Begins, Carries}
-use Rattle.client.specs.declared.Refusal.{Refusal}
-use Rattle.client.specs.declared.Wrote.{Wrote}
-use Rattle.client.specs.declared.Wrote.the-variants.{Refused}
 use Rattle.client.specs.Requests.{signRequest, removeSmartcardAnswer, removeSmartcardLeft, addSmartcardAnswer, addSmartcardLeft}
 use Rattle.client.specs.Promises.{Sent, Writes, WriterRule, RemoveSmartcardRule, AddSmartcardRule, ListRead, LockRead, UnlockRead, SignRead, CardReads, SmartcardRead}
 use Rattle.client.proofs.WriteLaws.{Met, Stage, stage, untouched}
-use Rattle.client.proofs.WriterTables.{not-granted, wrote-written, wrote-refused}
 
 -- ## Writers
 
@@ -72,12 +71,6 @@ unfolding addSmartcardAnswer addSmartcardLeft
 add-smartcard-rule id pin cs count out = tested _ out _ _ _ _ (tested _ out _ _ _ _ (writer-rule _ out))
 
 -- ## What the rule reads
-
-bytes-none : Bytes []
-bytes-none i = omega arith
-
-bytes-string : (v rest : List ℕ) → Bytes v → Bytes rest → Bytes (string v ++ rest)
-bytes-string v rest h k = bytes-append (string v) rest (string-bytes v h) k
 
 begins : (byte : ℕ) (s : List ℕ) → Begins byte (byte ∷ s)
 begins byte s = record { some-byte = omega arith; first = refl }

@@ -1,4 +1,4 @@
--- What writers and refusals promise, as statements; the proofs are in proofs/.
+-- What writers promise, as statements; the proofs are in proofs/.
 use Prim.Native.Nat.{ℕ, _+_, _^_, _≤_, _<_}
 use mathlib.Core.Path.{_≡_}
 use mathlib.Core.List.{List, [], _++_}
@@ -10,14 +10,12 @@ use Rattle.wire.specs.Abnf.{Octets}
 use Rattle.wire.specs.Read.{cutOf, numberAt, stringAt}
 use Rattle.wire.specs.Values.{read, numberReads, partReads}
 use Rattle.wire.specs.Write.{string}
-use Rattle.wire.specs.Promises.{OneToOne, Longest, Holds}
-use Rattle.keys.specs.Forms.{constraintForms}
+use Rattle.wire.specs.Promises.{Longest, Holds}
+use Rattle.wire.specs.Constraints.{constraintForms}
+use Rattle.wire.specs.declared.refusal.Wrote.{Wrote}
+use Rattle.wire.specs.Refusals.{Where, no-place, at-place, grants, refuses, wroteSays}
 use Rattle.rule.specs.Order.{Begins, Carries}
 use Rattle.rule.specs.Content.{SignRequest}
-use Rattle.client.specs.declared.Refusal.{Refusal}
-use Rattle.client.specs.declared.Wrote.{Wrote}
-use Rattle.client.specs.Refusals.{Where, no-place, at-place, refusalNumber, refusalPlace}
-use Rattle.client.specs.Values.{Says, grants, refuses, wroteSays}
 use Rattle.client.specs.Requests.{requestIdentities, signRequest, lockRequest, unlockRequest, plainSmartcard, constrainedSmartcard, removeSmartcard, addSmartcard, answered, filled, removeSmartcardAnswer, removeSmartcardLeft, addSmartcardAnswer, addSmartcardLeft}
 
 -- ## Writers
@@ -75,15 +73,6 @@ pub record CardAdded (id pin : List ℕ) (cs : List Constraint) (count : ℕ) (o
 
 abbrev pub AddSmartcardTable : Type 0
 AddSmartcardTable = (id pin : List ℕ) (cs : List Constraint) (count : ℕ) (out : List ℕ) → CardAdded id pin cs count out
-
--- ## Refusals
-
--- the number and the place of a refusal tell it from every other, and a writer's values its answer
-abbrev pub RefusalsApart : Type 0
-RefusalsApart = (a b : Refusal) → refusalNumber a ≡ refusalNumber b → refusalPlace a ≡ refusalPlace b → a ≡ b
-
-abbrev pub WroteApart : Type 0
-WroteApart = OneToOne Wrote (Says ℕ) wroteSays
 
 -- ## What the gateway's rule reads from a request is what was given
 

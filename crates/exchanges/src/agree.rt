@@ -4,8 +4,6 @@ use crate::parts::Piece;
 use crate::parts::Request;
 use crate::parts::Why;
 use crate::parts::Writing;
-use client::Refusal;
-use client::Wrote;
 use client::writers::add_smartcard_key;
 use client::writers::lock;
 use client::writers::prepare_sign_request;
@@ -24,10 +22,12 @@ use wire::frame::frame_payload;
 use wire::frame::read_frame;
 use wire::read::cut;
 use wire::read::is_same;
+use wire::refusal::Refusal;
+use wire::refusal::Wrote;
 use wire::write::put_bytes;
 ghost use mathlib.Core.Path.{_≡_};
 ghost use lib.ListN.{length};
-ghost use Rattle.client.specs.Refusals.{refusalNumber};
+ghost use Rattle.wire.specs.Refusals.{refusalNumber};
 
 fn number_of(refusal: Refusal) -> u8
     ensures { λ r. ⌜ r ≡ refusalNumber refusal ⌝ }

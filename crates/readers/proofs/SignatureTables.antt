@@ -13,23 +13,23 @@ use Rattle.wire.specs.Abnf.{Octets}
 use Rattle.wire.specs.Read.{cutOf, stringAt, textAt}
 use Rattle.wire.specs.Steps.{so, byte, number, part}
 use Rattle.wire.specs.Write.{string}
+use Rattle.wire.specs.Promises.{NoString}
+use Rattle.wire.specs.declared.refusal.Refusal.the-variants.{OutputTooShort, Malformed, UnfitType}
+use Rattle.wire.specs.declared.refusal.Wrote.{Wrote}
+use Rattle.wire.specs.Refusals.{Where, no-place, at-place, refuses, wroteSays}
 use Rattle.wire.proofs.Reading.{le-or-lt, byte-cut, number-cut}
-use Rattle.keys.proofs.FieldLaws.{Lies, lies-cut, lies-bytes, behind, At, inside, string-stands, string-reads}
+use Rattle.wire.proofs.Strings.{Lies, lies-cut, lies-bytes, behind, At, inside, string-stands, string-reads, text-reads, took, string-missing, text-missing, no-text}
+use Rattle.wire.proofs.Cases.{part-cases}
+use Rattle.wire.proofs.RefusalLaws.{granted}
 use Rattle.rule.specs.Order.{Begins}
-use Rattle.rule.proofs.Cases.{part-cases}
-use Rattle.client.specs.declared.Refusal.the-variants.{OutputTooShort, Malformed, UnfitType}
-use Rattle.client.specs.declared.Wrote.{Wrote}
-use Rattle.client.specs.Refusals.{Where, no-place, at-place}
-use Rattle.client.specs.Values.{refuses, wroteSays}
-use Rattle.client.proofs.WriterTables.{granted}
 use Rattle.readers.specs.declared.Reach.the-variants.{Fault}
 use Rattle.readers.specs.declared.signature.Signature.{Signature}
 use Rattle.readers.specs.declared.signature.Signature.the-variants.{Whole}
 use Rattle.readers.specs.Reaches.{reach}
 use Rattle.readers.specs.Signatures.{fits, startsIn, touchedEnd, signatureEnd, signatureAt, replyAt, stringAnswer, stringLeft, wroteOf, leftOf, signatureAnswer, signatureLeft}
-use Rattle.readers.specs.Promises.{NoString, Fitting, CarriesSignature, Typed, SignatureFault, string-cut, type-cut, type-no-text, signature-cut, flags-cut, counter-cut, SignatureTable}
+use Rattle.readers.specs.Promises.{Fitting, CarriesSignature, Typed, SignatureFault, string-cut, type-cut, type-no-text, signature-cut, flags-cut, counter-cut, SignatureTable}
 use Rattle.readers.proofs.ReadSteps.{reach-cases}
-use Rattle.readers.proofs.FormLaws.{starts-rule, text-reads, took, string-missing, text-missing, no-text}
+use Rattle.readers.proofs.FormLaws.{starts-rule}
 use Rattle.readers.proofs.SignatureRoundTrips.{fit-rule, octet-at, signature-rule, end-taken}
 
 not-fit : (hash : ℕ) (t : List ℕ) → (Fitting hash t → ⊥) → fits hash t ≡ false

@@ -9,7 +9,8 @@ use Rattle.wire.specs.Numbers.{Bytes, be32}
 use Rattle.wire.specs.Texts.{bytes}
 use Rattle.wire.specs.Abnf.{Octets}
 use Rattle.wire.specs.Write.{write, string}
-use Rattle.wire.specs.Promises.{OneToOne, Longest, Holds}
+use Rattle.wire.specs.Promises.{OneToOne, NoString, Longest, Holds}
+use Rattle.wire.specs.Refusals.{Where, no-place, at-place, Says, grants, refuses, wroteSays}
 use Rattle.rule.specs.Gateway.{Entry, Gateway, fresh}
 use Rattle.rule.specs.Rule.{reply, FAILURE, signatureReply}
 use Rattle.rule.specs.Calls.{Call, lands, call}
@@ -17,8 +18,6 @@ use Rattle.rule.specs.Runs.{endOf}
 use Rattle.rule.specs.Order.{Begins}
 use Rattle.rule.specs.Content.{atCall, payloadOf, Lists, itemForms}
 use Rattle.rule.specs.Comments.{TextComments, ByteBlobs, BytesIn}
-use Rattle.client.specs.Refusals.{Where, no-place, at-place}
-use Rattle.client.specs.Values.{Says, grants, refuses, wroteSays}
 use Rattle.readers.specs.declared.identities.Listing.{Listing}
 use Rattle.readers.specs.declared.identities.Item.{Item}
 use Rattle.readers.specs.Values.{listingSays, Identity, itemSays}
@@ -48,10 +47,6 @@ CountRule = (p : List ℕ) (n : ℕ) → Bytes p → (listingSays (countOf (12 �
 -- and each is handed out as its blob
 abbrev pub ItemRule : Type 0
 ItemRule = (p : List ℕ) (blobs : List (List ℕ)) → Bytes p → ListForm p blobs → (i : ℕ) → i < length blobs → blobOfItem (12 ∷ p) i ≡ getD blobs i []
-
--- no string stands at the front of the bytes
-abbrev pub NoString : List ℕ → Type 0
-NoString s = (v rest : List ℕ) → length v < 2 ^ 32 → s ≡ string v ++ rest → ⊥
 
 -- no item stands in bytes that begin at a place, and where the fault is: at a length, or where a comment's longest part of UTF-8 ends
 pub data ItemFault (at : ℕ) : List ℕ → ℕ → Type 0 where

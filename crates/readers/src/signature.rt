@@ -1,7 +1,5 @@
 // The signature reader: takes the signature out of a sign reply, where its type fits the hash that was asked for.
 use crate::Reach;
-use client::Refusal;
-use client::Wrote;
 use wire::msg;
 use wire::read::Cursor;
 use wire::read::Number;
@@ -9,6 +7,8 @@ use wire::read::Octet;
 use wire::read::Part;
 use wire::read::cut;
 use wire::read::is_same;
+use wire::refusal::Refusal;
+use wire::refusal::Wrote;
 use wire::write::put_string;
 ghost use mathlib.Core.Path.{_≡_};
 ghost use Prim.Native.Nat.{_<_, _^_};

@@ -13,7 +13,7 @@ use Rattle.wire.specs.declared.frame.Split.{Split}
 use Rattle.wire.specs.declared.frame.Split.the-variants.{MoreNeeded, TooLong, Frame}
 use Rattle.wire.specs.declared.read.Number.{Number}
 use Rattle.wire.specs.Numbers.{be32, beAt}
-use Rattle.wire.specs.Read.{cutOf, numberAt}
+use Rattle.wire.specs.Read.{numberAt}
 use Rattle.wire.specs.Steps.{so, number}
 use Rattle.wire.specs.Values.{Span}
 use Rattle.wire.specs.Write.{string}

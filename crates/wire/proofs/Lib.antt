@@ -10,4 +10,6 @@ pub mod Mpint
 pub mod Writing
 pub mod ByteLaws
 pub mod Laws
+pub mod Strings
 pub mod FrameLaws
+pub mod RefusalLaws

@@ -7,6 +7,8 @@ use mathlib.Core.Logic.{_↔_, _⊎_}
 use lib.ListN.{length, getD, take, drop}
 use Rattle.wire.specs.Limits.{payloadLimit}
 use Rattle.wire.specs.declared.frame.Split.{Split}
+use Rattle.wire.specs.declared.refusal.Refusal.{Refusal}
+use Rattle.wire.specs.declared.refusal.Wrote.{Wrote}
 use Rattle.wire.specs.declared.read.Octet.{Octet}
 use Rattle.wire.specs.declared.read.Number.{Number}
 use Rattle.wire.specs.declared.read.Part.{Part}
@@ -14,10 +16,11 @@ use Rattle.wire.specs.Values.{Reading, read, fault, Span, octetReads, nu
 use Rattle.wire.specs.Numbers.{Bytes, be32}
 use Rattle.wire.specs.Utf8.{utf8, utf8End}
 use Rattle.wire.specs.Abnf.{Octets}
-use Rattle.wire.specs.Mpint.{mpint, Shortest}
+use Rattle.wire.specs.Mpint.{mpint, Shortest, Positive}
 use Rattle.wire.specs.Read.{cutOf, cutFrom, same, byteAt, numberAt, stringAt, textAt, mpintAt}
 use Rattle.wire.specs.Write.{string, write}
 use Rattle.wire.specs.Frames.{splitOf, splitNumber, splitSpan, framePayload, payloadFrom}
+use Rattle.wire.specs.Refusals.{refusalNumber, refusalPlace, Says, wroteSays}
 
 -- ## Answers
 
@@ -63,11 +66,13 @@ StringRule =
     × (cutOf s (at + 4) (at + 4 + length v) ≡ v)
     × (drop (at + 4 + length v) s ≡ rest))
 
+-- no string stands at the front of the bytes
+abbrev pub NoString : List ℕ → Type 0
+NoString s = (v rest : List ℕ) → length v < 2 ^ 32 → s ≡ string v ++ rest → ⊥
+
 -- where no string stands, the fault is at the start of its length
 abbrev pub StringCut : Type 0
-StringCut =
-    (s : List ℕ) (at : ℕ) → Bytes s
-    → (partReads (stringAt s at) ≡ fault at) ↔ ((v rest : List ℕ) → length v < 2 ^ 32 → drop at s ≡ string v ++ rest → ⊥)
+StringCut = (s : List ℕ) (at : ℕ) → Bytes s → (partReads (stringAt s at) ≡ fault at) ↔ NoString (drop at s)
 
 -- ## Parts
 
@@ -113,7 +118,7 @@ TextFault = (s : List ℕ) (at : ℕ) → TextFaults s at
 
 -- accepted are exactly the shortest forms of the numbers above zero
 abbrev pub MpintRule : Type 0
-MpintRule = (v : List ℕ) → Bytes v → (mpint v ≡ true) ↔ ((n : ℕ) × (0 < n) × Shortest v n)
+MpintRule = (v : List ℕ) → Bytes v → (mpint v ≡ true) ↔ Positive v
 
 -- and each number has one
 abbrev pub MpintOne : Type 0
@@ -175,3 +180,12 @@ pub record SplitSays (s : List ℕ) : Type 0 where
 
 abbrev pub SplitTable : Type 0
 SplitTable = (s : List ℕ) → SplitSays s
+
+-- ## Refusals
+
+-- the number and the place of a refusal tell it from every other, and a writer's values its answer
+abbrev pub RefusalsApart : Type 0
+RefusalsApart = (a b : Refusal) → refusalNumber a ≡ refusalNumber b → refusalPlace a ≡ refusalPlace b → a ≡ b
+
+abbrev pub WroteApart : Type 0
+WroteApart = OneToOne Wrote (Says ℕ) wroteSays

@@ -3,6 +3,7 @@ pub mod frame;
 pub mod limits;
 pub mod msg;
 pub mod read;
+pub mod refusal;
 pub mod utf8;
 pub mod write;
 
