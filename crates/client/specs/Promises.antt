@@ -1,21 +1,19 @@
 -- What writers promise, as statements; the proofs are in proofs/.
 use Prim.Native.Nat.{ℕ, _+_, _^_, _≤_, _<_}
 use mathlib.Core.Path.{_≡_}
-use mathlib.Core.List.{List, [], _++_}
+use mathlib.Core.List.{List, [], _∷_, _++_}
 use lib.ListN.{length, take, drop}
 use Rattle.wire.specs.Limits.{payloadLimit}
 use Rattle.wire.specs.declared.Constraint.{Constraint}
 use Rattle.wire.specs.Numbers.{Bytes, be32}
 use Rattle.wire.specs.Abnf.{Octets}
-use Rattle.wire.specs.Read.{cutOf, numberAt, stringAt}
-use Rattle.wire.specs.Values.{read, numberReads, partReads}
+use Rattle.wire.specs.Read.{cutOf, byteAt, stringAt}
+use Rattle.wire.specs.Values.{read, octetReads, partReads}
 use Rattle.wire.specs.Write.{string}
 use Rattle.wire.specs.Promises.{Longest, Holds}
 use Rattle.wire.specs.Constraints.{constraintForms}
 use Rattle.wire.specs.declared.refusal.Wrote.{Wrote}
 use Rattle.wire.specs.Refusals.{Where, no-place, at-place, grants, refuses, wroteSays}
-use Rattle.rule.specs.Order.{Begins, Carries}
-use Rattle.rule.specs.Content.{SignRequest}
 use Rattle.client.specs.Requests.{requestIdentities, signRequest, lockRequest, unlockRequest, plainSmartcard, constrainedSmartcard, removeSmartcard, addSmartcard, answered, filled, removeSmartcardAnswer, removeSmartcardLeft, addSmartcardAnswer, addSmartcardLeft}
 
 -- ## Writers
@@ -74,53 +72,40 @@ pub record CardAdded (id pin : List ℕ) (cs : List Constraint) (count : ℕ) (o
 abbrev pub AddSmartcardTable : Type 0
 AddSmartcardTable = (id pin : List ℕ) (cs : List Constraint) (count : ℕ) (out : List ℕ) → CardAdded id pin cs count out
 
--- ## What the gateway's rule reads from a request is what was given
+-- ## What any reader finds in a request
 
-abbrev pub ListRead : Type 0
-ListRead = Begins 11 requestIdentities
+-- strings are read one behind the other, from one place up to another
+pub data Strings (s : List ℕ) : ℕ → List (List ℕ) → ℕ → Type 0 where
+  none : (at : ℕ) → Strings s at [] at
+  one : (at from to next end : ℕ) (v : List ℕ) (vs : List (List ℕ)) → partReads (stringAt s at) ≡ read (record { from = from; to = to }) next
+      → cutOf s from to ≡ v → Strings s next vs end → Strings s at (v ∷ vs) end
 
-abbrev pub LockRead : Type 0
-LockRead = (v : List ℕ) → Bytes v → length v < 2 ^ 32 → Begins 22 (lockRequest v) × Carries v (lockRequest v)
-
-abbrev pub UnlockRead : Type 0
-UnlockRead = (v : List ℕ) → Bytes v → length v < 2 ^ 32 → Begins 23 (unlockRequest v) × Carries v (unlockRequest v)
-
--- behind the blob stand the data and the flags
-pub record SignReads (payload blob bytes : List ℕ) (flags : ℕ) : Type 0 where
-  pub byte : Begins 13 payload
-  pub key : Carries blob payload
-  pub from : ℕ
-  pub to : ℕ
-  pub next : ℕ
+-- the number, behind it the strings, and behind them `rest`
+pub record RequestReads (byte : ℕ) (payload : List ℕ) (vs : List (List ℕ)) (rest : List ℕ) : Type 0 where
+  pub first : octetReads (byteAt payload 0) ≡ read byte 1
   pub end : ℕ
-  pub data-read : partReads (stringAt payload (key .next .at)) ≡ read (record { from = from; to = to }) next
-  pub data-is : cutOf payload from to ≡ bytes
-  pub flags-read : numberReads (numberAt payload next) ≡ read flags end
-  pub form : SignRequest payload blob bytes flags
+  pub strings : Strings payload 1 vs end
+  pub behind : drop end payload ≡ rest
 
-abbrev pub SignRead : Type 0
-SignRead =
-    (blob bytes : List ℕ) (flags : ℕ) → Bytes blob → Bytes bytes → length blob < 2 ^ 32 → length bytes < 2 ^ 32 → flags < 2 ^ 32
-    → SignReads (signRequest blob bytes flags) blob bytes flags
+abbrev pub ListFound : Type 0
+ListFound = RequestReads 11 requestIdentities [] []
 
--- ## Smartcards: what any reader of strings finds in a request
+abbrev pub LockFound : Type 0
+LockFound = (v : List ℕ) → Bytes v → length v < 2 ^ 32 → RequestReads 22 (lockRequest v) (v ∷ []) []
 
--- the number, behind it the id and the PIN as strings, and behind them `rest`
-pub record CardReads (byte : ℕ) (payload id pin rest : List ℕ) : Type 0 where
-  pub first : Begins byte payload
-  pub id-read : Carries id payload
-  pub from : ℕ
-  pub to : ℕ
-  pub next : ℕ
-  pub pin-read : partReads (stringAt payload (id-read .next .at)) ≡ read (record { from = from; to = to }) next
-  pub pin-is : cutOf payload from to ≡ pin
-  pub behind : drop next payload ≡ rest
+abbrev pub UnlockFound : Type 0
+UnlockFound = (v : List ℕ) → Bytes v → length v < 2 ^ 32 → RequestReads 23 (unlockRequest v) (v ∷ []) []
+
+abbrev pub SignFound : Type 0
+SignFound =
+    (blob bytes : List ℕ) (flags : ℕ) → Bytes blob → Bytes bytes → length blob < 2 ^ 32 → length bytes < 2 ^ 32
+    → RequestReads 13 (signRequest blob bytes flags) (blob ∷ bytes ∷ []) (be32 flags)
 
 -- "20 and 26 (id, PIN), 21"; "26 with a u32 count before them"
 pub record CardsRead (id pin : List ℕ) : Type 0 where
-  pub add : CardReads 20 (plainSmartcard id pin) id pin []
-  pub remove : CardReads 21 (removeSmartcard id pin) id pin []
-  pub constrained : (cs : List Constraint) → CardReads 26 (constrainedSmartcard id pin cs) id pin (be32 (length cs) ++ constraintForms cs)
+  pub add : RequestReads 20 (plainSmartcard id pin) (id ∷ pin ∷ []) []
+  pub remove : RequestReads 21 (removeSmartcard id pin) (id ∷ pin ∷ []) []
+  pub constrained : (cs : List Constraint) → RequestReads 26 (constrainedSmartcard id pin cs) (id ∷ pin ∷ []) (be32 (length cs) ++ constraintForms cs)
 
 abbrev pub SmartcardRead : Type 0
 SmartcardRead = (id pin : List ℕ) → Bytes id → Bytes pin → length id < 2 ^ 32 → length pin < 2 ^ 32 → CardsRead id pin

@@ -25,21 +25,16 @@ use Rattle.wire.proofs.ByteLaws.{bytes-cons, string-bytes}
 use Rattle.wire.proofs.Strings.{Lies, lies-join, lies-cut, lies-split, lies-bytes, behind, found, At, inside, string-stands, string-reads, text-reads, took, lies-to}
 use Rattle.wire.proofs.Cases.{so-cases, part-cases, number-cases, true-not-false, byte-cases}
 use Rattle.wire.proofs.RefusalLaws.{not-granted}
-use Rattle.rule.specs.Rule.{signatureReply}
 use Rattle.readers.specs.declared.Reach.{Reach}
 use Rattle.readers.specs.declared.Reach.the-variants.{End}
 use Rattle.readers.specs.declared.signature.Signature.{Signature}
 use Rattle.readers.specs.declared.signature.Signature.the-variants.{Whole}
 use Rattle.readers.specs.Reaches.{reach}
 use Rattle.readers.specs.Signatures.{wroteOf, fits, startsIn, touchedEnd, signatureEnd, signatureAt, replyAt, signatureAnswer, signatureLeft}
-use Rattle.readers.specs.Promises.{Fitting, any, sha256, sha512, FitRule, SignatureForm, plain, touched, CarriesSignature, WritesSignature, SignatureRule, WrittenRule, SignatureRead, SignatureReplyIs}
+use Rattle.readers.specs.Promises.{Fitting, any, sha256, sha512, FitRule, SignatureForm, plain, touched, CarriesSignature, WritesSignature, SignatureRule, WrittenRule, SignatureRead}
 use Rattle.readers.proofs.ReadSteps.{reach-cases, fault}
 use Rattle.readers.proofs.SignatureLaws.{string-short, string-fits, refused}
 use Rattle.readers.proofs.FormLaws.{starts-rule}
-
-pub signature-reply-is : SignatureReplyIs
-unfolding signatureReply
-signature-reply-is signature = refl
 
 -- ## The hash
 
