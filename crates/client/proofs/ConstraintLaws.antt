@@ -12,8 +12,8 @@ use Rattle.wire.specs.declared.Constraint.{Constraint}
 use Rattle.wire.specs.declared.Constraint.the-variants.{KeyLifetime, Confirm}
 use Rattle.wire.specs.Numbers.{be32}
 use Rattle.wire.specs.Write.{write}
+use Rattle.wire.specs.Constraints.{constraintForm, constraintForms}
 use Rattle.wire.proofs.Writing.{length-write, write-behind}
-use Rattle.keys.specs.Forms.{constraintForm, constraintForms}
 
 forms-append : (a b : List Constraint) → constraintForms (a ++ b) ≡ constraintForms a ++ constraintForms b
 forms-append [] b = refl

@@ -1,8 +1,6 @@
 -- The laws that the proofs of functions cite, and the proofs of what is promised.
-pub mod FrameLaws
 pub mod WriteLaws
 pub mod ConstraintLaws
 pub mod SmartcardLaws
 pub mod WriterTables
-pub mod RoundTrips
-pub mod SplitTables
+pub mod WriterRules

@@ -10,12 +10,12 @@ use Rattle.wire.specs.Limits.{payloadLimit}
 use Rattle.wire.specs.Numbers.{be32}
 use Rattle.wire.specs.Steps.{so}
 use Rattle.wire.specs.Write.{write, string}
+use Rattle.wire.specs.declared.refusal.Refusal.{Refusal}
+use Rattle.wire.specs.declared.refusal.Refusal.the-variants.{OutputTooShort, PayloadTooLong}
+use Rattle.wire.specs.declared.refusal.Wrote.{Wrote}
+use Rattle.wire.specs.declared.refusal.Wrote.the-variants.{Written, Refused}
 use Rattle.wire.proofs.Reading.{le-or-lt}
 use Rattle.wire.proofs.Writing.{length-write, write-behind}
-use Rattle.client.specs.declared.Refusal.{Refusal}
-use Rattle.client.specs.declared.Refusal.the-variants.{OutputTooShort, PayloadTooLong}
-use Rattle.client.specs.declared.Wrote.{Wrote}
-use Rattle.client.specs.declared.Wrote.the-variants.{Written, Refused}
 use Rattle.client.specs.Requests.{headAnswer, headLeft}
 
 -- what a writer ensures of its answer and of the output

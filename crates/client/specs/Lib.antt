@@ -1,5 +1,3 @@
 -- The definitions that contracts cite, and the statements of what is promised.
-pub mod Refusals
-pub mod Values
 pub mod Requests
 pub mod Promises

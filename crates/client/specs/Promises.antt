@@ -1,59 +1,20 @@
--- What frames, writers and refusals promise, as statements; the proofs are in proofs/.
+-- What writers promise, as statements; the proofs are in proofs/.
 use Prim.Native.Nat.{ℕ, _+_, _^_, _≤_, _<_}
 use mathlib.Core.Path.{_≡_}
-use mathlib.Core.List.{List, [], _++_}
+use mathlib.Core.List.{List, [], _∷_, _++_}
 use lib.ListN.{length, take, drop}
 use Rattle.wire.specs.Limits.{payloadLimit}
 use Rattle.wire.specs.declared.Constraint.{Constraint}
-use Rattle.wire.specs.declared.Split.{Split}
 use Rattle.wire.specs.Numbers.{Bytes, be32}
 use Rattle.wire.specs.Abnf.{Octets}
-use Rattle.wire.specs.Read.{cutOf, numberAt, stringAt}
-use Rattle.wire.specs.Values.{read, numberReads, partReads}
+use Rattle.wire.specs.Read.{cutOf, byteAt, stringAt}
+use Rattle.wire.specs.Values.{read, octetReads, partReads}
 use Rattle.wire.specs.Write.{string}
-use Rattle.wire.specs.Frames.{splitOf, framePayload, payloadFrom}
-use Rattle.wire.specs.Promises.{OneToOne, Longest}
-use Rattle.keys.specs.Forms.{constraintForms}
-use Rattle.rule.specs.Order.{Begins, Carries}
-use Rattle.rule.specs.Content.{SignRequest}
-use Rattle.client.specs.declared.Refusal.{Refusal}
-use Rattle.client.specs.declared.Wrote.{Wrote}
-use Rattle.client.specs.Refusals.{Where, no-place, at-place, refusalNumber, refusalPlace}
-use Rattle.client.specs.Values.{splitNumber, Says, grants, refuses, wroteSays}
+use Rattle.wire.specs.Promises.{Longest, Holds}
+use Rattle.wire.specs.Constraints.{constraintForms}
+use Rattle.wire.specs.declared.refusal.Wrote.{Wrote}
+use Rattle.wire.specs.Refusals.{Where, no-place, at-place, grants, refuses, wroteSays}
 use Rattle.client.specs.Requests.{requestIdentities, signRequest, lockRequest, unlockRequest, plainSmartcard, constrainedSmartcard, removeSmartcard, addSmartcard, answered, filled, removeSmartcardAnswer, removeSmartcardLeft, addSmartcardAnswer, addSmartcardLeft}
-
--- ## Frames
-
--- the number of the splitter's answer tells it from the others
-abbrev pub SplitsApart : Type 0
-SplitsApart = OneToOne Split ℕ splitNumber
-
--- the splitter says that a frame is whole, and hands out its payload, the part of the bytes behind their four of length
-pub record Holds (s payload : List ℕ) : Type 0 where
-  pub frame : splitNumber (splitOf s) ≡ 2
-  pub payload-is : framePayload s ≡ payload
-  pub from : payloadFrom s ≡ 4
-
--- a payload's frame alone, and with more bytes behind it
-pub record SplitsBack (payload : List ℕ) : Type 0 where
-  pub alone : Holds (string payload) payload
-  pub followed : (rest : List ℕ) → Holds (string payload ++ rest) payload
-
-abbrev pub Splits : Type 0
-Splits = (payload : List ℕ) → length payload ≤ payloadLimit → SplitsBack payload
-
--- what the splitter says of any bytes: under 4 of them; a length above 262,144, with however many behind it; fewer bytes than the length
--- announces; and all of them. Unless a frame is whole, its payload is empty, and lies at their start
-pub record SplitSays (s : List ℕ) : Type 0 where
-  pub few : length s < 4 → splitNumber (splitOf s) ≡ 0
-  pub long : (n : ℕ) (rest : List ℕ) → s ≡ be32 n ++ rest → n < 2 ^ 32 → payloadLimit < n → splitNumber (splitOf s) ≡ 1
-  pub short : (n : ℕ) (rest : List ℕ) → s ≡ be32 n ++ rest → n ≤ payloadLimit → length rest < n → splitNumber (splitOf s) ≡ 0
-  pub whole : (n : ℕ) (rest : List ℕ) → s ≡ be32 n ++ rest → n ≤ payloadLimit → n ≤ length rest → Holds s (take n rest)
-  pub else-empty : (splitNumber (splitOf s) ≡ 2 → ⊥) → framePayload s ≡ []
-  pub else-start : (splitNumber (splitOf s) ≡ 2 → ⊥) → payloadFrom s ≡ 0
-
-abbrev pub SplitTable : Type 0
-SplitTable = (s : List ℕ) → SplitSays s
 
 -- ## Writers
 
@@ -111,62 +72,40 @@ pub record CardAdded (id pin : List ℕ) (cs : List Constraint) (count : ℕ) (o
 abbrev pub AddSmartcardTable : Type 0
 AddSmartcardTable = (id pin : List ℕ) (cs : List Constraint) (count : ℕ) (out : List ℕ) → CardAdded id pin cs count out
 
--- ## Refusals
+-- ## What any reader finds in a request
 
--- the number and the place of a refusal tell it from every other, and a writer's values its answer
-abbrev pub RefusalsApart : Type 0
-RefusalsApart = (a b : Refusal) → refusalNumber a ≡ refusalNumber b → refusalPlace a ≡ refusalPlace b → a ≡ b
+-- strings are read one behind the other, from one place up to another
+pub data Strings (s : List ℕ) : ℕ → List (List ℕ) → ℕ → Type 0 where
+  none : (at : ℕ) → Strings s at [] at
+  one : (at from to next end : ℕ) (v : List ℕ) (vs : List (List ℕ)) → partReads (stringAt s at) ≡ read (record { from = from; to = to }) next
+      → cutOf s from to ≡ v → Strings s next vs end → Strings s at (v ∷ vs) end
 
-abbrev pub WroteApart : Type 0
-WroteApart = OneToOne Wrote (Says ℕ) wroteSays
-
--- ## What the gateway's rule reads from a request is what was given
-
-abbrev pub ListRead : Type 0
-ListRead = Begins 11 requestIdentities
-
-abbrev pub LockRead : Type 0
-LockRead = (v : List ℕ) → Bytes v → length v < 2 ^ 32 → Begins 22 (lockRequest v) × Carries v (lockRequest v)
-
-abbrev pub UnlockRead : Type 0
-UnlockRead = (v : List ℕ) → Bytes v → length v < 2 ^ 32 → Begins 23 (unlockRequest v) × Carries v (unlockRequest v)
-
--- behind the blob stand the data and the flags
-pub record SignReads (payload blob bytes : List ℕ) (flags : ℕ) : Type 0 where
-  pub byte : Begins 13 payload
-  pub key : Carries blob payload
-  pub from : ℕ
-  pub to : ℕ
-  pub next : ℕ
+-- the number, behind it the strings, and behind them `rest`
+pub record RequestReads (byte : ℕ) (payload : List ℕ) (vs : List (List ℕ)) (rest : List ℕ) : Type 0 where
+  pub first : octetReads (byteAt payload 0) ≡ read byte 1
   pub end : ℕ
-  pub data-read : partReads (stringAt payload (key .next .at)) ≡ read (record { from = from; to = to }) next
-  pub data-is : cutOf payload from to ≡ bytes
-  pub flags-read : numberReads (numberAt payload next) ≡ read flags end
-  pub form : SignRequest payload blob bytes flags
+  pub strings : Strings payload 1 vs end
+  pub behind : drop end payload ≡ rest
 
-abbrev pub SignRead : Type 0
-SignRead =
-    (blob bytes : List ℕ) (flags : ℕ) → Bytes blob → Bytes bytes → length blob < 2 ^ 32 → length bytes < 2 ^ 32 → flags < 2 ^ 32
-    → SignReads (signRequest blob bytes flags) blob bytes flags
+abbrev pub ListFound : Type 0
+ListFound = RequestReads 11 requestIdentities [] []
 
--- ## Smartcards: what any reader of strings finds in a request
+abbrev pub LockFound : Type 0
+LockFound = (v : List ℕ) → Bytes v → length v < 2 ^ 32 → RequestReads 22 (lockRequest v) (v ∷ []) []
 
--- the number, behind it the id and the PIN as strings, and behind them `rest`
-pub record CardReads (byte : ℕ) (payload id pin rest : List ℕ) : Type 0 where
-  pub first : Begins byte payload
-  pub id-read : Carries id payload
-  pub from : ℕ
-  pub to : ℕ
-  pub next : ℕ
-  pub pin-read : partReads (stringAt payload (id-read .next .at)) ≡ read (record { from = from; to = to }) next
-  pub pin-is : cutOf payload from to ≡ pin
-  pub behind : drop next payload ≡ rest
+abbrev pub UnlockFound : Type 0
+UnlockFound = (v : List ℕ) → Bytes v → length v < 2 ^ 32 → RequestReads 23 (unlockRequest v) (v ∷ []) []
+
+abbrev pub SignFound : Type 0
+SignFound =
+    (blob bytes : List ℕ) (flags : ℕ) → Bytes blob → Bytes bytes → length blob < 2 ^ 32 → length bytes < 2 ^ 32
+    → RequestReads 13 (signRequest blob bytes flags) (blob ∷ bytes ∷ []) (be32 flags)
 
 -- "20 and 26 (id, PIN), 21"; "26 with a u32 count before them"
 pub record CardsRead (id pin : List ℕ) : Type 0 where
-  pub add : CardReads 20 (plainSmartcard id pin) id pin []
-  pub remove : CardReads 21 (removeSmartcard id pin) id pin []
-  pub constrained : (cs : List Constraint) → CardReads 26 (constrainedSmartcard id pin cs) id pin (be32 (length cs) ++ constraintForms cs)
+  pub add : RequestReads 20 (plainSmartcard id pin) (id ∷ pin ∷ []) []
+  pub remove : RequestReads 21 (removeSmartcard id pin) (id ∷ pin ∷ []) []
+  pub constrained : (cs : List Constraint) → RequestReads 26 (constrainedSmartcard id pin cs) (id ∷ pin ∷ []) (be32 (length cs) ++ constraintForms cs)
 
 abbrev pub SmartcardRead : Type 0
 SmartcardRead = (id pin : List ℕ) → Bytes id → Bytes pin → length id < 2 ^ 32 → length pin < 2 ^ 32 → CardsRead id pin

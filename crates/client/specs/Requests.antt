@@ -9,10 +9,10 @@ use Rattle.wire.specs.Numbers.{be32}
 use Rattle.wire.specs.Utf8.{utf8End}
 use Rattle.wire.specs.Steps.{so}
 use Rattle.wire.specs.Write.{write, string}
-use Rattle.keys.specs.Forms.{constraintForms}
-use Rattle.client.specs.declared.Refusal.the-variants.{OutputTooShort, Malformed, PayloadTooLong, TooManyConstraints}
-use Rattle.client.specs.declared.Wrote.{Wrote}
-use Rattle.client.specs.declared.Wrote.the-variants.{Written, Refused}
+use Rattle.wire.specs.Constraints.{constraintForms}
+use Rattle.wire.specs.declared.refusal.Refusal.the-variants.{OutputTooShort, Malformed, PayloadTooLong, TooManyConstraints}
+use Rattle.wire.specs.declared.refusal.Wrote.{Wrote}
+use Rattle.wire.specs.declared.refusal.Wrote.the-variants.{Written, Refused}
 
 -- ## The messages
 

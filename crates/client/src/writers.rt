@@ -1,10 +1,10 @@
 // Derived from keys/agent/client.rs of russh 0.65.0 (Apache-2.0), and changed: see NOTICE.
 // Request writers. Each writes its frame to the front of the output, or refuses and leaves the output as it was.
-use crate::Refusal;
-use crate::Wrote;
 use wire::Constraint;
 use wire::limits;
 use wire::msg;
+use wire::refusal::Refusal;
+use wire::refusal::Wrote;
 use wire::utf8::utf8_end;
 use wire::write::put_byte;
 use wire::write::put_number;
@@ -14,7 +14,7 @@ ghost use mathlib.Core.List.{[], _∷_, _++_};
 ghost use Prim.Native.Nat.{_+_, _≤_, _<_, _^_};
 ghost use lib.ListN.{length, take};
 ghost use Rattle.wire.specs.Write.{write, string};
-ghost use Rattle.keys.specs.Forms.{constraintForm, constraintForms};
+ghost use Rattle.wire.specs.Constraints.{constraintForm, constraintForms};
 ghost use Rattle.client.specs.Requests.{headAnswer, headLeft, answered, filled, requestIdentities, signRequest, lockRequest, unlockRequest, constrainedSmartcard, removeSmartcardAnswer, removeSmartcardLeft, addSmartcardAnswer, addSmartcardLeft};
 
 // Tests the room for a payload of n bytes whose first is `kind`, and writes its length and that byte. Each caller counts n from its parts.

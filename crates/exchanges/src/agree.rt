@@ -4,10 +4,6 @@ use crate::parts::Piece;
 use crate::parts::Request;
 use crate::parts::Why;
 use crate::parts::Writing;
-use client::Refusal;
-use client::Wrote;
-use client::frame::frame_payload;
-use client::frame::read_frame;
 use client::writers::add_smartcard_key;
 use client::writers::lock;
 use client::writers::prepare_sign_request;
@@ -21,13 +17,17 @@ use readers::identities::identity;
 use readers::identities::identity_blob;
 use readers::signature::write_signature;
 use wire::Constraint;
-use wire::Split;
+use wire::frame::Split;
+use wire::frame::frame_payload;
+use wire::frame::read_frame;
 use wire::read::cut;
 use wire::read::is_same;
+use wire::refusal::Refusal;
+use wire::refusal::Wrote;
 use wire::write::put_bytes;
 ghost use mathlib.Core.Path.{_≡_};
 ghost use lib.ListN.{length};
-ghost use Rattle.client.specs.Refusals.{refusalNumber};
+ghost use Rattle.wire.specs.Refusals.{refusalNumber};
 
 fn number_of(refusal: Refusal) -> u8
     ensures { λ r. ⌜ r ≡ refusalNumber refusal ⌝ }
@@ -149,7 +149,7 @@ fn kind_of(split: Split) -> u8 {
     match split {
         Split::MoreNeeded => 0,
         Split::TooLong => 1,
-        Split::Frame => 2,
+        Split::Frame { from: _, to: _ } => 2,
     }
 }
 

@@ -1,20 +1,16 @@
--- The flat values say what they stand for: answers and outcomes case by case, the split by its length's tests. Assumes nothing.
-use Prim.Native.Nat.{ℕ, _+_, _≤_, _<_}
+-- The flat values say what they stand for: answers, outcomes and the split case by case. Assumes nothing.
+use Prim.Native.Nat.{ℕ, _≤_, _<_}
 use mathlib.Core.Path.{_≡_, refl, sym, ap, _∙_}
 use mathlib.Core.Bool.{true, false}
-use mathlib.Core.List.{List, []}
-use mathlib.Core.Logic.{_⊎_, inl, inr, ⊎-elim}
+use mathlib.Core.List.{List}
+use mathlib.Core.Logic.{_⊎_, inl, inr}
 use native.Mathlib.Omega.{arith}
-use borrow.Author.Tests.{le-leb, lt-leb}
-use lib.ListN.{length}
-use Rattle.wire.specs.Limits.{payloadLimit}
-use Rattle.wire.specs.declared.Split.the-variants.{MoreNeeded, TooLong, Frame}
-use Rattle.wire.specs.Steps.{so, number}
-use Rattle.wire.specs.Numbers.{beAt}
-use Rattle.wire.specs.Read.{cutOf}
+use Rattle.wire.specs.declared.frame.Split.{Split}
+use Rattle.wire.specs.declared.frame.Split.the-variants.{MoreNeeded, TooLong, Frame}
+use Rattle.wire.specs.Steps.{so}
 use Rattle.wire.specs.Frames.{splitOf, framePayload}
-use Rattle.wire.proofs.Reading.{le-or-lt, number-there, number-cut}
 use Rattle.wire.proofs.Format.{part-length}
+use Rattle.wire.proofs.FrameLaws.{frame-read}
 use Rattle.requests.specs.declared.Said.{Said}
 use Rattle.requests.specs.declared.Said.the-variants as said
 use Rattle.requests.specs.declared.Confirmed.{Confirmed}
@@ -101,75 +97,20 @@ flat-unused Close = record { hash = λ _. refl; number = λ _. refl; part = λ _
 
 -- ## The split
 
-module _ (s : List ℕ) where
-  nothing : cutOf s 0 0 ≡ []
-  unfolding cutOf
-  nothing = rw (le-leb 0 (length s) (omega arith))
-
-  more : splitOf s ≡ MoreNeeded → framePayload s ≡ [] → SplitsAs s
-  unfolding flatSplit splitAs
-  more e p = record {
-    kind = rw e;
-    payload = rw (e, p) nothing;
-    whole = rw e (λ never. absurd (omega (arith, never)));
-    not-whole = rw e (λ _. (refl, refl));
-    within = rw e (omega arith);
-  }
-
-  long : splitOf s ≡ TooLong → framePayload s ≡ [] → SplitsAs s
-  unfolding flatSplit splitAs
-  long e p = record {
-    kind = rw e;
-    payload = rw (e, p) nothing;
-    whole = rw e (λ never. absurd (omega (arith, never)));
-    not-whole = rw e (λ _. (refl, refl));
-    within = rw e (omega arith);
-  }
-
-  framed : (n : ℕ) → splitOf s ≡ Frame → framePayload s ≡ cutOf s 4 (4 + n) → 4 + n ≤ length s → SplitsAs s
-  unfolding flatSplit splitAs
-  framed n e p h =
-      let l : length (framePayload s) ≡ n = ap length p ∙ (let m = part-length s 4 (4 + n) (omega arith) h in omega arith) in
-      record {
-        kind = rw e;
-        payload = rw (e, l) (sym p);
-        whole = rw e (λ _. (refl, refl));
-        not-whole = rw e (λ never. absurd (never refl));
-        within = rw (e, l) h;
-      }
-
-  cut-short : length s < 4 → SplitsAs s
-  unfolding splitOf framePayload number
-  cut-short h = more (rw (← number-cut s 0 h)) (rw (← number-cut s 0 h))
-
-  module _ (h : 4 ≤ length s) where
-    too-long : payloadLimit < beAt s 0 → SplitsAs s
-    unfolding splitOf framePayload number so
-    too-long l = long (rw (← number-there s 0 h, lt-leb (beAt s 0) payloadLimit l)) (rw (← number-there s 0 h, lt-leb (beAt s 0) payloadLimit l))
-
-    module _ (l : beAt s 0 ≤ payloadLimit) where
-      not-all : length s < 4 + beAt s 0 → SplitsAs s
-      unfolding splitOf framePayload number so
-      not-all k =
-          more
-          (rw (← number-there s 0 h, le-leb (beAt s 0) payloadLimit l, lt-leb (4 + beAt s 0) (length s) k))
-          (rw (← number-there s 0 h, le-leb (beAt s 0) payloadLimit l, lt-leb (4 + beAt s 0) (length s) k))
-
-      all : 4 + beAt s 0 ≤ length s → SplitsAs s
-      unfolding splitOf framePayload number so
-      all k =
-          framed (beAt s 0)
-          (rw (← number-there s 0 h, le-leb (beAt s 0) payloadLimit l, le-leb (4 + beAt s 0) (length s) k))
-          (rw (← number-there s 0 h, le-leb (beAt s 0) payloadLimit l, le-leb (4 + beAt s 0) (length s) k))
-          k
+split-cases : (s : List ℕ) (x : Split) → splitOf s ≡ x → SplitsAs s
+unfolding flatSplit splitAs framePayload
+split-cases s MoreNeeded e = record { kind = rw e; payload = rw e; whole = rw e (λ never. absurd (omega (arith, never))); not-whole = rw e (λ _. (refl, refl)); within = rw e (omega arith) }
+split-cases s TooLong e = record { kind = rw e; payload = rw e; whole = rw e (λ never. absurd (omega (arith, never))); not-whole = rw e (λ _. (refl, refl)); within = rw e (omega arith) }
+split-cases s (Frame from to) e =
+    let w = frame-read s from to e in
+    let l = part-length s from to (omega (arith, w .start, w .end)) (w .within) in
+    record {
+      kind = rw e;
+      payload = rw e;
+      whole = rw e (λ _. (w .start, omega (arith, w .start, w .end, l)));
+      not-whole = rw e (λ never. absurd (never refl));
+      within = rw e (w .within);
+    }
 
 pub split-rule : SplitRule
-split-rule s =
-    ⊎-elim
-    (λ (h : 4 ≤ length s).
-    ⊎-elim
-    (λ (l : beAt s 0 ≤ payloadLimit). ⊎-elim (all s h l) (not-all s h l) (le-or-lt (4 + beAt s 0) (length s)))
-    (too-long s h)
-    (le-or-lt (beAt s 0) payloadLimit))
-    (cut-short s)
-    (le-or-lt 4 (length s))
+split-rule s = split-cases s (splitOf s) refl

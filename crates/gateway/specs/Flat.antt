@@ -1,14 +1,13 @@
 -- What the flat values stand for: 01's numbers and values in the place of each enum.
-use Prim.Native.Nat.{ℕ, _+_}
+use Prim.Native.Nat.{ℕ}
 use mathlib.Core.Path.{_≡_}
 use mathlib.Core.Bool.{true, false}
 use mathlib.Core.List.{List}
-use lib.ListN.{length}
 use lib.Dec.{eqb}
-use Rattle.wire.specs.declared.Split.{Split}
-use Rattle.wire.specs.declared.Split.the-variants.{MoreNeeded, TooLong, Frame}
+use Rattle.wire.specs.declared.frame.Split.{Split}
+use Rattle.wire.specs.declared.frame.Split.the-variants.{MoreNeeded, TooLong, Frame}
 use Rattle.wire.specs.Steps.{so}
-use Rattle.wire.specs.Frames.{splitOf, framePayload}
+use Rattle.wire.specs.Frames.{splitOf}
 use Rattle.rule.specs.declared.Millis.{Millis}
 use Rattle.table.specs.declared.State.{State}
 use Rattle.requests.specs.declared.Said.{Said}
@@ -82,10 +81,10 @@ module _ (state : State) (store payload : List ℕ) (reading : Millis) (answers 
 
 -- ## The split: 0 more needed, 1 too long, 2 a whole frame; where its payload lies
 
-unfoldable pub splitAs : Split → ℕ → FlatSplit
-splitAs MoreNeeded n = record { kind = 0; from = 0; to = 0 }
-splitAs TooLong n = record { kind = 1; from = 0; to = 0 }
-splitAs Frame n = record { kind = 2; from = 4; to = 4 + n }
+unfoldable pub splitAs : Split → FlatSplit
+splitAs MoreNeeded = record { kind = 0; from = 0; to = 0 }
+splitAs TooLong = record { kind = 1; from = 0; to = 0 }
+splitAs (Frame from to) = record { kind = 2; from = from; to = to }
 
 unfoldable pub flatSplit : List ℕ → FlatSplit
-flatSplit s = splitAs (splitOf s) (length (framePayload s))
+flatSplit s = splitAs (splitOf s)

@@ -11,7 +11,7 @@ use Rattle.wire.specs.Limits.{passphraseLimit, replyRoom}
 use Rattle.wire.specs.Numbers.{Bytes}
 use Rattle.wire.specs.Steps.{so}
 use Rattle.wire.specs.Read.{cutOf}
-use Rattle.wire.specs.Frames.{splitOf, framePayload}
+use Rattle.wire.specs.Frames.{splitOf, splitNumber, framePayload}
 use Rattle.wire.specs.Promises.{OneToOne}
 use Rattle.rule.specs.declared.Millis.{Millis}
 use Rattle.rule.specs.Examples.{oneKey, signWith}
@@ -28,7 +28,6 @@ use Rattle.requests.specs.declared.Answers.{Answers}
 use Rattle.requests.specs.declared.Outcome.{Outcome}
 use Rattle.requests.specs.Outcomes.{outcomeValues}
 use Rattle.server.specs.Runs.{Step, CodePromises}
-use Rattle.client.specs.Values.{splitNumber}
 use Rattle.gateway.specs.declared.flat.FlatAnswers.{FlatAnswers}
 use Rattle.gateway.specs.declared.flat.FlatOutcome.{FlatOutcome}
 use Rattle.gateway.specs.Flat.{saidOf, confirmedOf, signedOf, answersOf, flatOf, FlatMeets, flatSplit}

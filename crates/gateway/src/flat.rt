@@ -1,13 +1,12 @@
 // What crosses to C and Rust in place of the enums, as 01's numbers and values: answers on the way in, an outcome or a split on the way out.
-use client::frame::frame_payload;
-use client::frame::read_frame;
 use requests::Answers;
 use requests::Confirmed;
 use requests::Outcome;
 use requests::Said;
 use requests::Signed;
 use rule::Hash;
-use wire::Split;
+use wire::frame::Split;
+use wire::frame::read_frame;
 ghost use mathlib.Core.Path.{_≡_};
 ghost use Rattle.requests.specs.Outcomes.{hashBits};
 ghost use Rattle.gateway.specs.Flat.{saidOf, confirmedOf, signedOf, answersOf, flatOf, flatSplit};
@@ -162,13 +161,6 @@ pub(crate) fn split(bytes: &[u8]) -> FlatSplit
             from: 0,
             to: 0,
         },
-        Split::Frame => {
-            let payload = frame_payload(bytes);
-            FlatSplit {
-                kind: 2,
-                from: 4,
-                to: 4 + payload.len(),
-            }
-        }
+        Split::Frame { from, to } => FlatSplit { kind: 2, from, to },
     }
 }

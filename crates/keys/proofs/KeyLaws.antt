@@ -15,16 +15,17 @@ use Rattle.wire.specs.Texts.{bytes}
 use Rattle.wire.specs.Read.{cutOf, same}
 use Rattle.wire.specs.Steps.{so, part}
 use Rattle.wire.specs.Write.{string}
+use Rattle.wire.specs.Values.{read}
 use Rattle.wire.proofs.Reading.{same-true, same-refl}
+use Rattle.wire.proofs.Strings.{Lies, lies-none, lies-join, lies-split, lies-cut, behind, At, Reads, string-stands, string-reads, inside, mpint-reads}
 use Rattle.keys.specs.declared.kinds.Kind.{Kind}
 use Rattle.keys.specs.declared.kinds.Places.{Places}
 use Rattle.keys.specs.declared.kinds.Key.{Key}
 use Rattle.keys.specs.Kinds.{kindOf, ed25519At, ecdsaAt, rsaSecretsAt, rsaAt, behindType, keyAt, blobOf}
 use Rattle.keys.specs.Forms.{Ed25519, ed25519-key, Curve, nistp256, nistp384, nistp521, ecdsaType, Ecdsa, ecdsa-key, Rsa, rsa-key, KeyFields, as-ed25519, as-nistp256, as-nistp384, as-nistp521, as-rsa}
-use Rattle.wire.specs.Values.{read}
 use Rattle.keys.specs.Values.{typeOf, keyReads}
 use Rattle.keys.specs.Promises.{KindRule, KeyRule, OneBlob}
-use Rattle.keys.proofs.FieldLaws.{Lies, lies-none, lies-join, lies-split, lies-cut, behind, At, Reads, string-stands, string-reads, inside, sized-reads, named-reads, mpint-reads, scalar-reads, point-reads}
+use Rattle.keys.proofs.FieldLaws.{sized-reads, named-reads, scalar-reads, point-reads}
 
 -- ## Steps
 

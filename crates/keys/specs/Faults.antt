@@ -4,10 +4,11 @@ use mathlib.Core.Path.{_≡_}
 use mathlib.Core.List.{List, [], _∷_, _++_}
 use mathlib.Core.Option.{some}
 use lib.ListN.{length, drop}
+use Rattle.wire.specs.Mpint.{Positive}
 use Rattle.wire.specs.Write.{string}
 use Rattle.keys.specs.declared.kinds.Kind.{Kind}
 use Rattle.keys.specs.Values.{typeOf}
-use Rattle.keys.specs.Forms.{Positive, Curve, Point, Scalar, nistp256, nistp384, nistp521}
+use Rattle.keys.specs.Forms.{Curve, Point, Scalar, nistp256, nistp384, nistp521}
 
 -- the curve's name, Q that starts with 04, and d
 abbrev pub AskedOn : Curve → List (List ℕ) → List ℕ → Type 0

@@ -8,18 +8,14 @@ use lib.ListN.{length}
 use Rattle.wire.specs.declared.Seconds.{Seconds}
 use Rattle.wire.specs.declared.Constraint.{Constraint}
 use Rattle.wire.specs.declared.Constraint.the-variants.{KeyLifetime, Confirm}
-use Rattle.wire.specs.Numbers.{be32}
 use Rattle.wire.specs.Texts.{bytes}
-use Rattle.wire.specs.Mpint.{Shortest}
+use Rattle.wire.specs.Mpint.{Shortest, Positive}
 use Rattle.wire.specs.Write.{string}
+pub use Rattle.wire.specs.Constraints.{constraintForms}
 use Rattle.keys.specs.declared.constraints.Lifetime.{Lifetime}
 use Rattle.keys.specs.declared.constraints.Lifetime.the-variants.{Forever, For}
 
 -- ## Keys
-
--- the contents of a positive mpint: the shortest form of a number above zero
-abbrev pub Positive : List ℕ → Type 0
-Positive v = (n : ℕ) × (0 < n) × Shortest v n
 
 -- type, A of 32 bytes, and 64 bytes whose last 32 are A
 pub data Ed25519 : List ℕ → List ℕ → Type 0 where
@@ -76,14 +72,6 @@ pub data KeyFields : List ℕ → List ℕ → Type 0 where
   as-rsa : {fields blob : List ℕ} → Rsa fields blob → KeyFields fields blob
 
 -- ## Constraints
-
-abbrev pub constraintForm : Constraint → List ℕ
-constraintForm (KeyLifetime seconds) = 1 ∷ be32 (seconds .count)
-constraintForm Confirm = 2 ∷ []
-
-abbrev pub constraintForms : List Constraint → List ℕ
-constraintForms [] = []
-constraintForms (c ∷ cs) = constraintForm c ++ constraintForms cs
 
 -- constraints take a lifetime and Confirm to others: a lifetime once only, Confirm as often as it comes
 pub data Adds : Lifetime → Bool → List Constraint → Lifetime → Bool → Type 0 where

@@ -6,5 +6,5 @@ pub mod FormLaws
 pub mod ReadRoundTrips
 pub mod SignatureRoundTrips
 pub mod ReadTables
-pub mod AgentLists
+pub mod ListLaws
 pub mod SignatureTables

@@ -12,14 +12,14 @@ use Rattle.wire.specs.Abnf.{Octets}
 use Rattle.wire.specs.Read.{numberAt, stringAt, textAt}
 use Rattle.wire.specs.Steps.{so, number, part}
 use Rattle.wire.specs.Write.{string}
+use Rattle.wire.specs.declared.refusal.Refusal.the-variants.{Malformed}
+use Rattle.wire.specs.Refusals.{grants}
 use Rattle.wire.proofs.Reading.{number-read, number-cut}
 use Rattle.wire.proofs.Format.{be-small, be-shape, number-form}
 use Rattle.wire.proofs.ByteLaws.{bytes-cons}
-use Rattle.keys.proofs.FieldLaws.{Lies, lies-at, lies-none, lies-cut, behind, found, At, inside, string-stands, string-reads}
-use Rattle.rule.proofs.Cases.{part-cases, number-cases}
-use Rattle.client.specs.declared.Refusal.the-variants.{Malformed}
-use Rattle.client.specs.Values.{grants}
-use Rattle.client.proofs.WriterTables.{not-granted}
+use Rattle.wire.proofs.Strings.{Lies, lies-at, lies-none, lies-cut, behind, found, At, inside, string-stands, string-reads, lies-next, text-reads, took, string-missing, text-missing, no-text}
+use Rattle.wire.proofs.Cases.{part-cases, number-cases}
+use Rattle.wire.proofs.RefusalLaws.{not-granted}
 use Rattle.readers.specs.declared.Reach.{Reach}
 use Rattle.readers.specs.declared.Reach.the-variants.{End, Fault}
 use Rattle.readers.specs.declared.identities.Listing.{Listing}
@@ -28,7 +28,7 @@ use Rattle.readers.specs.Values.{listingSays}
 use Rattle.readers.specs.Identities.{itemsAt, countOf, counted, itemAt, itemOf, blobOfItem, certificate, certificateEnd}
 use Rattle.readers.specs.Promises.{ItemForms, item, ListForm, ItemFault, blob-cut, comment-cut, comment-no-text, ListFault, count-cut, item-cut, CountRule, ItemRule, Marked, MarkRule}
 use Rattle.readers.proofs.ReadSteps.{reach-cases, fault}
-use Rattle.readers.proofs.FormLaws.{lies-next, ends-rule, text-reads, took, string-missing, text-missing, no-text}
+use Rattle.readers.proofs.FormLaws.{ends-rule}
 
 -- ## Items
 

@@ -4,12 +4,9 @@ use mathlib.Core.Path.{_≡_, refl}
 use mathlib.Core.List.{List}
 use mathlib.Core.Bool.{Bool}
 use native.Mathlib.Omega.{arith}
-use Rattle.wire.specs.declared.read.Cursor.{Cursor}
-use Rattle.wire.specs.declared.read.Octet.{Octet}
 use Rattle.wire.specs.Read.{same}
-use Rattle.wire.specs.Steps.{byte}
+use Rattle.wire.specs.declared.refusal.Refusal.{Refusal}
 use Rattle.wire.proofs.Steps.{so-yes, so-no, number-fault, number-value, part-fault, part-whole, plain, some-yes, some-no, eqb-yes, eqb-no, all as wire-all}
-use Rattle.client.specs.declared.Refusal.{Refusal}
 use Rattle.readers.specs.declared.Reach.{Reach}
 use Rattle.readers.specs.declared.Reach.the-variants.{End, Fault}
 use Rattle.readers.specs.declared.identities.Listing.{Listing}
@@ -58,17 +55,11 @@ pub ruleset all = (wire-all, reach-end, reach-fault, counted-count, counted-refu
 
 -- ## Cases
 
--- either way on behind a reach and a byte
+-- either way on behind a reach
 pub reach-cases : {A : Type 0} (P : A → Type 0) (r : Reach) {z next : ℕ → A} → ((at : ℕ) → P (z at)) → ((at : ℕ) → r ≡ End at → P (next at)) → P (reach z r next)
 unfolding reach
 reach-cases P (End at) g h = h at refl
 reach-cases P (Fault at) g h = g at
-
-pub byte-cases : {A : Type 0} (P : A → Type 0) (o : Octet) {z : ℕ → A} {next : ℕ → Cursor → A} → ((at : ℕ) → P (z at))
-    → ((b : ℕ) (k : Cursor) → o ≡ Octet.Value b k → P (next b k)) → P (byte z o next)
-unfolding byte
-byte-cases P (Octet.Value b k) g h = h b k refl
-byte-cases P (Octet.Fault at) g h = g at
 
 -- reading that came to an end had no fault
 pub fault : {at end : ℕ} {A : Type 0} → Fault at ≡ End end → A

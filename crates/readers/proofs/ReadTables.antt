@@ -10,14 +10,13 @@ use lib.ListN.{length, getD}
 use Rattle.wire.specs.Numbers.{Bytes, be32}
 use Rattle.wire.specs.Read.{numberAt}
 use Rattle.wire.specs.Steps.{so, part}
+use Rattle.wire.specs.declared.refusal.Refusal.{Refusal}
+use Rattle.wire.specs.Refusals.{Where, no-place, at-place, refusalNumber, refusalPlace, grants, refuses}
 use Rattle.wire.proofs.Reading.{from-there}
 use Rattle.wire.proofs.Format.{number-form}
-use Rattle.keys.proofs.FieldLaws.{lies-cut, behind, inside}
-use Rattle.rule.proofs.Cases.{so-cases, number-cases}
-use Rattle.client.specs.declared.Refusal.{Refusal}
-use Rattle.client.specs.Refusals.{Where, no-place, at-place, refusalNumber, refusalPlace}
-use Rattle.client.specs.Values.{grants, refuses}
-use Rattle.client.proofs.WriterTables.{granted, not-granted, Why, why, refusals-apart}
+use Rattle.wire.proofs.Strings.{lies-cut, behind, inside}
+use Rattle.wire.proofs.Cases.{so-cases, number-cases}
+use Rattle.wire.proofs.RefusalLaws.{granted, not-granted, Why, why, refusals-apart}
 use Rattle.readers.specs.declared.identities.Listing.{Listing}
 use Rattle.readers.specs.declared.identities.Item.{Item}
 use Rattle.readers.specs.Reaches.{reach}

@@ -16,19 +16,19 @@ use Rattle.wire.specs.Texts.{bytes}
 use Rattle.wire.specs.Read.{cutOf, same, byteAt, numberAt, stringAt, textAt}
 use Rattle.wire.specs.Steps.{so, part}
 use Rattle.wire.specs.Write.{write, string}
+use Rattle.wire.specs.declared.refusal.Refusal.{Refusal}
+use Rattle.wire.specs.declared.refusal.Refusal.the-variants.{OutputTooShort, Malformed, UnfitType}
+use Rattle.wire.specs.declared.refusal.Wrote.{Wrote}
 use Rattle.wire.proofs.Reading.{le-or-lt, cut-past, cut-back, string-read, number-read}
 use Rattle.wire.proofs.Format.{be-small, part-length}
-use Rattle.rule.proofs.Cases.{so-cases, part-cases, number-cases}
-use Rattle.client.specs.declared.Refusal.{Refusal}
-use Rattle.client.specs.declared.Refusal.the-variants.{OutputTooShort, Malformed, UnfitType}
-use Rattle.client.specs.declared.Wrote.{Wrote}
+use Rattle.wire.proofs.Cases.{so-cases, part-cases, number-cases, byte-cases}
 use Rattle.readers.specs.declared.Reach.{Reach}
 use Rattle.readers.specs.declared.Reach.the-variants.{End, Fault}
 use Rattle.readers.specs.declared.signature.Signature.{Signature}
 use Rattle.readers.specs.declared.signature.Signature.the-variants.{Whole}
 use Rattle.readers.specs.Reaches.{reach}
-use Rattle.readers.proofs.ReadSteps.{reach-cases, byte-cases, fault}
 use Rattle.readers.specs.Signatures.{fits, startsIn, touchedEnd, signatureEnd, signatureAt, replyAt, stringAnswer, stringLeft}
+use Rattle.readers.proofs.ReadSteps.{reach-cases, fault}
 
 -- ## The hash that was asked for
 

@@ -17,29 +17,24 @@ use Rattle.wire.specs.Read.{cutOf, same, byteAt, numberAt, stringAt, textAt}
 use Rattle.wire.specs.Steps.{so, byte, number, part}
 use Rattle.wire.specs.Write.{write, string}
 use Rattle.wire.specs.Values.{read, octetReads}
+use Rattle.wire.specs.Refusals.{grants, wroteSays}
 use Rattle.wire.proofs.Reading.{le-or-lt, byte-there, byte-cut, number-read, same-true}
 use Rattle.wire.proofs.Format.{be-small, be-shape, number-form}
 use Rattle.wire.proofs.Laws.{byte-rule, answers-apart}
 use Rattle.wire.proofs.ByteLaws.{bytes-cons, string-bytes}
-use Rattle.keys.proofs.FieldLaws.{Lies, lies-join, lies-cut, lies-split, lies-bytes, behind, found, At, inside, string-stands, string-reads}
-use Rattle.rule.specs.Rule.{signatureReply}
-use Rattle.rule.proofs.Cases.{so-cases, part-cases, number-cases, true-not-false}
-use Rattle.client.specs.Values.{grants, wroteSays}
-use Rattle.client.proofs.WriterTables.{not-granted}
+use Rattle.wire.proofs.Strings.{Lies, lies-join, lies-cut, lies-split, lies-bytes, behind, found, At, inside, string-stands, string-reads, text-reads, took, lies-to}
+use Rattle.wire.proofs.Cases.{so-cases, part-cases, number-cases, true-not-false, byte-cases}
+use Rattle.wire.proofs.RefusalLaws.{not-granted}
 use Rattle.readers.specs.declared.Reach.{Reach}
 use Rattle.readers.specs.declared.Reach.the-variants.{End}
 use Rattle.readers.specs.declared.signature.Signature.{Signature}
 use Rattle.readers.specs.declared.signature.Signature.the-variants.{Whole}
 use Rattle.readers.specs.Reaches.{reach}
 use Rattle.readers.specs.Signatures.{wroteOf, fits, startsIn, touchedEnd, signatureEnd, signatureAt, replyAt, signatureAnswer, signatureLeft}
-use Rattle.readers.specs.Promises.{Fitting, any, sha256, sha512, FitRule, SignatureForm, plain, touched, CarriesSignature, WritesSignature, SignatureRule, WrittenRule, SignatureRead, SignatureReplyIs}
-use Rattle.readers.proofs.ReadSteps.{reach-cases, byte-cases, fault}
+use Rattle.readers.specs.Promises.{Fitting, any, sha256, sha512, FitRule, SignatureForm, plain, touched, CarriesSignature, WritesSignature, SignatureRule, WrittenRule, SignatureRead}
+use Rattle.readers.proofs.ReadSteps.{reach-cases, fault}
 use Rattle.readers.proofs.SignatureLaws.{string-short, string-fits, refused}
-use Rattle.readers.proofs.FormLaws.{starts-rule, text-reads, took, lies-to}
-
-pub signature-reply-is : SignatureReplyIs
-unfolding signatureReply
-signature-reply-is signature = refl
+use Rattle.readers.proofs.FormLaws.{starts-rule}
 
 -- ## The hash
 

@@ -3,33 +3,31 @@ use Prim.Native.Nat.{ℕ, _+_, _^_, _≤_, _<_}
 use mathlib.Core.Path.{_≡_, refl, sym, ap, _∙_}
 use mathlib.Core.List.{List, [], _∷_, _++_, append-nil}
 use mathlib.Core.Bool.{Bool, true, false}
-use mathlib.Core.Logic.{⊎-elim}
 use native.Mathlib.Omega.{arith}
-use borrow.Author.Tests.{lt-ltb, le-ltb, ne-eqb}
-use lib.ListN.{length, getD, drop, length-append}
+use borrow.Author.Tests.{lt-ltb, ne-eqb}
+use lib.ListN.{length, drop, length-append}
 use Rattle.wire.specs.Numbers.{Bytes}
 use Rattle.wire.specs.Texts.{bytes}
 use Rattle.wire.specs.Abnf.{Octets}
 use Rattle.wire.specs.Read.{cutOf, stringAt, textAt}
 use Rattle.wire.specs.Steps.{so, byte, number, part}
 use Rattle.wire.specs.Write.{string}
-use Rattle.wire.proofs.Reading.{le-or-lt, byte-cut, number-cut}
-use Rattle.keys.proofs.FieldLaws.{Lies, lies-cut, lies-bytes, behind, At, inside, string-stands, string-reads}
-use Rattle.rule.specs.Order.{Begins}
-use Rattle.rule.proofs.Cases.{part-cases}
-use Rattle.client.specs.declared.Refusal.the-variants.{OutputTooShort, Malformed, UnfitType}
-use Rattle.client.specs.declared.Wrote.{Wrote}
-use Rattle.client.specs.Refusals.{Where, no-place, at-place}
-use Rattle.client.specs.Values.{refuses, wroteSays}
-use Rattle.client.proofs.WriterTables.{granted}
+use Rattle.wire.specs.Promises.{NoString}
+use Rattle.wire.specs.declared.refusal.Refusal.the-variants.{OutputTooShort, Malformed, UnfitType}
+use Rattle.wire.specs.declared.refusal.Wrote.{Wrote}
+use Rattle.wire.specs.Refusals.{Where, no-place, at-place, refuses, wroteSays}
+use Rattle.wire.proofs.Reading.{byte-cut, number-cut}
+use Rattle.wire.proofs.Strings.{Lies, lies-cut, lies-bytes, behind, At, inside, string-stands, string-reads, text-reads, took, string-missing, text-missing, no-text}
+use Rattle.wire.proofs.Cases.{part-cases}
+use Rattle.wire.proofs.RefusalLaws.{granted}
 use Rattle.readers.specs.declared.Reach.the-variants.{Fault}
 use Rattle.readers.specs.declared.signature.Signature.{Signature}
 use Rattle.readers.specs.declared.signature.Signature.the-variants.{Whole}
 use Rattle.readers.specs.Reaches.{reach}
 use Rattle.readers.specs.Signatures.{fits, startsIn, touchedEnd, signatureEnd, signatureAt, replyAt, stringAnswer, stringLeft, wroteOf, leftOf, signatureAnswer, signatureLeft}
-use Rattle.readers.specs.Promises.{NoString, Fitting, CarriesSignature, Typed, SignatureFault, string-cut, type-cut, type-no-text, signature-cut, flags-cut, counter-cut, SignatureTable}
+use Rattle.readers.specs.Promises.{Fitting, CarriesSignature, Typed, SignatureFault, string-cut, type-cut, type-no-text, signature-cut, flags-cut, counter-cut, SignatureTable}
 use Rattle.readers.proofs.ReadSteps.{reach-cases}
-use Rattle.readers.proofs.FormLaws.{starts-rule, text-reads, took, string-missing, text-missing, no-text}
+use Rattle.readers.proofs.FormLaws.{starts-rule}
 use Rattle.readers.proofs.SignatureRoundTrips.{fit-rule, octet-at, signature-rule, end-taken}
 
 not-fit : (hash : ℕ) (t : List ℕ) → (Fitting hash t → ⊥) → fits hash t ≡ false
@@ -42,18 +40,15 @@ not-fit hash t never = go (fits hash t) refl
 module _ (hash : ℕ) (out : List ℕ) where
   -- ## The first byte
 
-  failed : (payload : List ℕ) → Begins 5 payload → wroteSays (signatureAnswer payload hash out) ≡ refuses 14 no-place
+  failed : (p : List ℕ) → wroteSays (signatureAnswer (5 ∷ p) hash out) ≡ refuses 14 no-place
   unfolding signatureAnswer replyAt so
-  failed payload b = rw (lt-ltb 0 (length payload) (b .some-byte), b .first)
+  failed p = rw (lt-ltb 0 (length (5 ∷ p)) (omega arith))
 
-  other-reply : (payload : List ℕ) → (Begins 5 payload → ⊥) → (Begins 14 payload → ⊥) → wroteSays (signatureAnswer payload hash out) ≡ refuses 15 no-place
+  other-reply : (payload : List ℕ) → ((p : List ℕ) → payload ≡ 5 ∷ p → ⊥) → ((p : List ℕ) → payload ≡ 14 ∷ p → ⊥) → wroteSays (signatureAnswer payload hash out) ≡ refuses 15 no-place
   unfolding signatureAnswer replyAt so
-  other-reply payload p q =
-      ⊎-elim
-      (λ (h : length payload ≤ 0). rw (le-ltb 0 (length payload) h))
-      (λ (h : 0 < length payload).
-      rw (lt-ltb 0 (length payload) h, ne-eqb (getD payload 0 0) 5 (λ e. p (record { some-byte = h; first = e })), ne-eqb (getD payload 0 0) 14 (λ e. q (record { some-byte = h; first = e }))))
-      (le-or-lt (length payload) 0)
+  other-reply [] f g = refl
+  other-reply (b ∷ p) f g =
+      rw (lt-ltb 0 (length (b ∷ p)) (omega arith), ne-eqb b 5 (λ e. f p (ap (λ (x : ℕ). x ∷ p) e)), ne-eqb b 14 (λ e. g p (ap (λ (x : ℕ). x ∷ p) e)))
 
   -- ## The type
 
@@ -86,12 +81,6 @@ module _ (hash : ℕ) (out : List ℕ) where
       let is : payload ≡ 14 ∷ (string (y .v) ++ drop u payload) = ap (λ (l : List ℕ). 14 ∷ l) (y .lies .shape) in
       let front : Lies payload 0 (14 ∷ string (y .v)) u = record { end = omega (arith, y .lies .end); within = y .lies .within; shape = is } in
       no-text-there payload (y .v) (drop u payload) (cutOf payload 0 u) g (lies-cut front) (y .from) (lies-bytes front small) (y .small) is never)
-
-  no-type-there : (payload : List ℕ) → Bytes payload → Begins 14 payload → ((t : List ℕ) → Typed payload t → ⊥) → (place : ℕ) × (wroteSays (signatureAnswer payload hash out) ≡ refuses 12 (at-place place))
-  no-type-there [] small b never = absurd (omega (arith, b .some-byte))
-  no-type-there (b ∷ p) small begins never =
-      let is : b ≡ 14 = begins .first in
-      rw is (fourteen p (rw is at small) (rw is at never))
 
 -- ## Behind the type
 
@@ -251,9 +240,9 @@ fault-answered hash out p place small f = rw (fault-there hash p place small f)
 
 pub signature-table : SignatureTable
 signature-table payload hash out small = record {
-  failure = failed hash out payload;
+  failure = λ p e. rw e (failed hash out p);
   other = other-reply hash out payload;
-  no-type = no-type-there hash out payload small;
+  no-type = λ p e never. rw e (fourteen hash out p (rw e at small) (rw e at never));
   unfit = unfit-there payload hash out small;
   no-signature = none-there payload hash out small;
   fault-at = λ p place e f. rw e (fault-answered hash out p place (rw e at small) f);

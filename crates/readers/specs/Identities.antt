@@ -7,7 +7,7 @@ use lib.Dec.{leb, ltb, eqb}
 use Rattle.wire.specs.Texts.{bytes}
 use Rattle.wire.specs.Read.{cutOf, cutFrom, same, numberAt, stringAt, textAt}
 use Rattle.wire.specs.Steps.{so, number, part}
-use Rattle.client.specs.declared.Refusal.the-variants.{Malformed, NoSuchItem}
+use Rattle.wire.specs.declared.refusal.Refusal.the-variants.{Malformed, NoSuchItem}
 use Rattle.readers.specs.declared.Reach.{Reach}
 use Rattle.readers.specs.declared.Reach.the-variants.{End, Fault}
 use Rattle.readers.specs.declared.identities.Listing.{Listing}

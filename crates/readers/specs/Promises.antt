@@ -3,23 +3,14 @@ use Prim.Native.Nat.{ℕ, _+_, _^_, _≤_, _<_}
 use mathlib.Core.Path.{_≡_}
 use mathlib.Core.List.{List, [], _∷_, _++_, map}
 use mathlib.Core.Bool.{true}
-use mathlib.Core.Logic.{_↔_, _≢_}
+use mathlib.Core.Logic.{_↔_}
 use lib.ListN.{length, getD, take}
 use Rattle.wire.specs.Numbers.{Bytes, be32}
 use Rattle.wire.specs.Texts.{bytes}
 use Rattle.wire.specs.Abnf.{Octets}
 use Rattle.wire.specs.Write.{write, string}
-use Rattle.wire.specs.Promises.{OneToOne, Longest}
-use Rattle.rule.specs.Gateway.{Entry, Gateway, fresh}
-use Rattle.rule.specs.Rule.{reply, FAILURE, signatureReply}
-use Rattle.rule.specs.Calls.{Call, lands, call}
-use Rattle.rule.specs.Runs.{endOf}
-use Rattle.rule.specs.Order.{Begins}
-use Rattle.rule.specs.Content.{atCall, payloadOf, Lists, itemForms}
-use Rattle.rule.specs.Comments.{TextComments, ByteBlobs, BytesIn}
-use Rattle.client.specs.Refusals.{Where, no-place, at-place}
-use Rattle.client.specs.Values.{Says, grants, refuses, wroteSays}
-use Rattle.client.specs.Promises.{Holds}
+use Rattle.wire.specs.Promises.{OneToOne, NoString, Longest}
+use Rattle.wire.specs.Refusals.{Where, no-place, at-place, Says, grants, refuses, wroteSays}
 use Rattle.readers.specs.declared.identities.Listing.{Listing}
 use Rattle.readers.specs.declared.identities.Item.{Item}
 use Rattle.readers.specs.Values.{listingSays, Identity, itemSays}
@@ -49,10 +40,6 @@ CountRule = (p : List ℕ) (n : ℕ) → Bytes p → (listingSays (countOf (12 �
 -- and each is handed out as its blob
 abbrev pub ItemRule : Type 0
 ItemRule = (p : List ℕ) (blobs : List (List ℕ)) → Bytes p → ListForm p blobs → (i : ℕ) → i < length blobs → blobOfItem (12 ∷ p) i ≡ getD blobs i []
-
--- no string stands at the front of the bytes
-abbrev pub NoString : List ℕ → Type 0
-NoString s = (v rest : List ℕ) → length v < 2 ^ 32 → s ≡ string v ++ rest → ⊥
 
 -- no item stands in bytes that begin at a place, and where the fault is: at a length, or where a comment's longest part of UTF-8 ends
 pub data ItemFault (at : ℕ) : List ℕ → ℕ → Type 0 where
@@ -109,57 +96,46 @@ pub record ListingsApart : Type 0 where
   pub listings : OneToOne Listing (Says ℕ) listingSays
   pub items : OneToOne Item (Says Identity) itemSays
 
--- ## The agent's lists: what it sends, the client reads
+-- ## Lists as they are written
 
--- the payload of the agent's list reply
-abbrev pub listReply : List Entry → List ℕ
-listReply es = 12 ∷ (be32 (length es) ++ itemForms es)
+-- an item: its blob and its comment
+pub record Listed : Type 0 where
+  pub blob : List ℕ
+  pub comment : List ℕ
 
-abbrev pub blobsOf : List Entry → List (List ℕ)
-blobsOf es = map (λ e. e .blob) es
+abbrev pub listedForms : List Listed → List ℕ
+listedForms [] = []
+listedForms (e ∷ es) = string (e .blob) ++ (string (e .comment) ++ listedForms es)
 
--- where in it the blob of entry i begins: behind the 12, the count, the items before it and its own length
-abbrev pub blobPlace : List Entry → ℕ → ℕ
-blobPlace es i = 5 + length (itemForms (take i es)) + 4
+-- the payload of a list reply
+abbrev pub listPayload : List Listed → List ℕ
+listPayload es = 12 ∷ (be32 (length es) ++ listedForms es)
 
--- the entries are counted, and each is handed out as its blob, where it lies
-pub record ReadsEntries (payload : List ℕ) (es : List Entry) : Type 0 where
+abbrev pub listedBlobs : List Listed → List (List ℕ)
+listedBlobs es = map (λ e. e .blob) es
+
+-- where in it the blob of item i begins: behind the 12, the count, the items before it and its own length
+abbrev pub listedPlace : List Listed → ℕ → ℕ
+listedPlace es i = 5 + length (listedForms (take i es)) + 4
+
+-- the items are counted, and each is handed out as its blob, where it lies
+pub record ReadsListed (payload : List ℕ) (es : List Listed) : Type 0 where
   pub count : listingSays (countOf payload) ≡ grants (length es)
-  pub items : (i : ℕ) → i < length es → HandsOut payload i (getD (blobsOf es) i []) (blobPlace es i)
+  pub items : (i : ℕ) → i < length es → HandsOut payload i (getD (listedBlobs es) i []) (listedPlace es i)
 
--- an entry whose item has the draft's form
-pub record Listable (e : Entry) : Type 0 where
+-- an item that has the draft's form
+pub record Listable (e : Listed) : Type 0 where
   pub bytes : Bytes (e .blob)
   pub text : Octets (e .comment)
   pub blob-small : length (e .blob) < 2 ^ 32
   pub comment-small : length (e .comment) < 2 ^ 32
 
-abbrev pub Each : (Entry → Type 0) → List Entry → Type 0
+abbrev pub Each : {A : Type 0} → (A → Type 0) → List A → Type 0
 Each P [] = Unit {0}
 Each P (e ∷ es) = P e × Each P es
 
-abbrev pub ListReplyRead : Type 0
-ListReplyRead = (es : List Entry) → Each Listable es → length es < 2 ^ 32 → ReadsEntries (listReply es) es
-
--- bytes that were sent reach the client: its splitter gives back a payload, and its reader these entries in it
-pub record ReachesClient (sent : List ℕ) (es : List Entry) : Type 0 where
-  pub payload : List ℕ
-  pub splits : Holds sent payload
-  pub reads : ReadsEntries payload es
-
--- a list request that lands, and does not fail, sends the entries of this moment, in place order, to the client
-abbrev pub SendsList : Gateway → Call → Type 0
-SendsList g c =
-    (sent : List ℕ) → Begins 11 (payloadOf c) → call g c .outcome ≡ lands (reply sent) → reply sent ≢ FAILURE
-    → (es : List Entry) × Lists (atCall g c .places) es × ReachesClient sent es
-
--- where every held comment is UTF-8, the client reads every list; a call that lands is of a sound gateway
-abbrev pub AgentListRead : Type 0
-AgentListRead = (g : Gateway) (c : Call) → TextComments g → ByteBlobs g → SendsList g c
-
--- so it does of every list from a fresh gateway on
-abbrev pub FreshListRead : Type 0
-FreshListRead = (cs : List Call) (c : Call) → BytesIn cs → SendsList (endOf fresh cs) c
+abbrev pub WrittenListRead : Type 0
+WrittenListRead = (es : List Listed) → Each Listable es → length es < 2 ^ 32 → ReadsListed (listPayload es) es
 
 -- ## The mark
 
@@ -243,9 +219,10 @@ pub data SignatureFault (hash : ℕ) : List ℕ → ℕ → Type 0 where
 
 -- when each answer comes: "signature 14, 15, 12 (up to t), 13, 12, 11"; and no refusal touches the output
 pub record SignatureSays (payload : List ℕ) (hash : ℕ) (out : List ℕ) : Type 0 where
-  pub failure : Begins 5 payload → wroteSays (signatureAnswer payload hash out) ≡ refuses 14 no-place
-  pub other : (Begins 5 payload → ⊥) → (Begins 14 payload → ⊥) → wroteSays (signatureAnswer payload hash out) ≡ refuses 15 no-place
-  pub no-type : Begins 14 payload → ((t : List ℕ) → Typed payload t → ⊥)
+  pub failure : (p : List ℕ) → payload ≡ 5 ∷ p → wroteSays (signatureAnswer payload hash out) ≡ refuses 14 no-place
+  pub other : ((p : List ℕ) → payload ≡ 5 ∷ p → ⊥) → ((p : List ℕ) → payload ≡ 14 ∷ p → ⊥)
+      → wroteSays (signatureAnswer payload hash out) ≡ refuses 15 no-place
+  pub no-type : (p : List ℕ) → payload ≡ 14 ∷ p → ((t : List ℕ) → Typed payload t → ⊥)
       → (place : ℕ) × (wroteSays (signatureAnswer payload hash out) ≡ refuses 12 (at-place place))
   pub unfit : (t : List ℕ) → Typed payload t → (Fitting hash t → ⊥) → wroteSays (signatureAnswer payload hash out) ≡ refuses 13 no-place
   pub no-signature : (t : List ℕ) → Typed payload t → Fitting hash t → ((signature : List ℕ) → CarriesSignature payload t signature → ⊥)
@@ -261,11 +238,8 @@ pub record SignatureSays (payload : List ℕ) (hash : ℕ) (out : List ℕ) : Ty
 abbrev pub SignatureTable : Type 0
 SignatureTable = (payload : List ℕ) (hash : ℕ) (out : List ℕ) → Bytes payload → SignatureSays payload hash out
 
--- the gateway's sign reply is read whole: all that stands behind the 14 is written
+-- a sign reply is read whole: all that stands behind the 14 is written
 abbrev pub SignatureRead : Type 0
 SignatureRead =
     (hash : ℕ) (t signature out : List ℕ) → Bytes signature → length signature < 2 ^ 32 → Fitting hash t → SignatureForm t signature
     → WritesSignature (14 ∷ string signature) hash signature out
-
-abbrev pub SignatureReplyIs : Type 0
-SignatureReplyIs = (signature : List ℕ) → signatureReply signature ≡ string (14 ∷ string signature)

@@ -8,8 +8,8 @@ use Rattle.wire.specs.Texts.{bytes}
 use Rattle.wire.specs.Read.{cutOf, same, byteAt, numberAt, stringAt, textAt}
 use Rattle.wire.specs.Steps.{so, byte, number, part}
 use Rattle.wire.specs.Write.{write, string}
-use Rattle.client.specs.declared.Refusal.the-variants.{OutputTooShort, Malformed, UnfitType, AgentFailure, OtherReply}
-use Rattle.client.specs.declared.Wrote.{Wrote}
+use Rattle.wire.specs.declared.refusal.Refusal.the-variants.{OutputTooShort, Malformed, UnfitType, AgentFailure, OtherReply}
+use Rattle.wire.specs.declared.refusal.Wrote.{Wrote}
 use Rattle.readers.specs.declared.Reach.{Reach}
 use Rattle.readers.specs.declared.Reach.the-variants.{End, Fault}
 use Rattle.readers.specs.declared.signature.Signature.{Signature}

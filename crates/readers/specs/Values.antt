@@ -1,8 +1,7 @@
 -- Readers' answers in 01's words and numbers.
 use Prim.Native.Nat.{ℕ}
 use mathlib.Core.Bool.{Bool}
-use Rattle.client.specs.Refusals.{refusalNumber, refusalPlace}
-use Rattle.client.specs.Values.{Says, grants, refuses}
+use Rattle.wire.specs.Refusals.{refusalNumber, refusalPlace, Says, grants, refuses}
 use Rattle.readers.specs.declared.identities.Listing.{Listing}
 use Rattle.readers.specs.declared.identities.Item.{Item}
 

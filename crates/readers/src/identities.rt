@@ -1,13 +1,13 @@
 // Derived from keys/agent/client.rs of russh 0.65.0 (Apache-2.0), and changed: see NOTICE.
 // The identities reader: how many items a reply holds, then each item's blob as a part of the payload.
 use crate::Reach;
-use client::Refusal;
 use wire::msg;
 use wire::read::Cursor;
 use wire::read::Number;
 use wire::read::Part;
 use wire::read::cut;
 use wire::read::is_same;
+use wire::refusal::Refusal;
 ghost use mathlib.Core.Path.{_≡_};
 ghost use Rattle.wire.specs.Parts.{PartOf};
 ghost use Rattle.readers.specs.Identities.{itemsAt, countOf, endsIn, certificate, itemAt, itemOf, blobOfItem, blobFrom};

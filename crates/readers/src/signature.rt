@@ -1,8 +1,6 @@
 // Derived from keys/agent/client.rs of russh 0.65.0 (Apache-2.0), and changed: see NOTICE.
 // The signature reader: takes the signature out of a sign reply, where its type fits the hash that was asked for.
 use crate::Reach;
-use client::Refusal;
-use client::Wrote;
 use wire::msg;
 use wire::read::Cursor;
 use wire::read::Number;
@@ -10,6 +8,8 @@ use wire::read::Octet;
 use wire::read::Part;
 use wire::read::cut;
 use wire::read::is_same;
+use wire::refusal::Refusal;
+use wire::refusal::Wrote;
 use wire::write::put_string;
 ghost use mathlib.Core.Path.{_≡_};
 ghost use Prim.Native.Nat.{_<_, _^_};

@@ -31,7 +31,7 @@ use Rattle.keys.specs.Kinds.{keyAt, blobOf}
 use Rattle.keys.specs.Additions.{limitsOf, constraintsAt, commentedAt, key, additionAt}
 use Rattle.keys.specs.Values.{secondsIn, Added, additionReads}
 use Rattle.keys.proofs.KeyLaws.{only-keys, every-key}
-use Rattle.keys.proofs.FieldLaws.{lies-at, lies-cut}
+use Rattle.wire.proofs.Strings.{lies-at, lies-cut}
 use Rattle.keys.proofs.SettleLaws.{walk-rule}
 use Rattle.rule.specs.Gateway.{NewKey}
 use Rattle.rule.specs.Rule.{brought}

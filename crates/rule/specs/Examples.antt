@@ -6,7 +6,7 @@ use mathlib.Core.Option.{none, some}
 use mathlib.Core.List.{List, [], _∷_}
 use lib.ListN.{length, replicate}
 use Rattle.wire.specs.Limits.{storeSize, replyRoom}
-use Rattle.wire.specs.declared.Split.the-variants.{MoreNeeded, TooLong}
+use Rattle.wire.specs.declared.frame.Split.the-variants.{MoreNeeded, TooLong}
 use Rattle.wire.specs.Frames.{splitOf}
 use Rattle.keys.specs.declared.constraints.Lifetime.the-variants.{Forever}
 use Rattle.rule.specs.declared.Hash.{Hash}

@@ -7,6 +7,9 @@ use Rattle.wire.specs.Numbers.{Bytes, be32}
 use Rattle.wire.specs.Abnf.{Char, utf8-1, utf8-2, utf8-3a, utf8-3b, utf8-3c, utf8-3d, utf8-4a, utf8-4b, utf8-4c, Octets, more}
 use Rattle.wire.specs.Write.{string}
 
+pub bytes-none : Bytes []
+bytes-none i = omega arith
+
 pub bytes-cons : (b : ℕ) (l : List ℕ) → b < 256 → Bytes l → Bytes (b ∷ l)
 bytes-cons b l h r zero = h
 bytes-cons b l h r (suc i) = r i
@@ -24,6 +27,9 @@ be32-bytes n (suc (suc (suc (suc i)))) = omega arith
 
 pub string-bytes : (v : List ℕ) → Bytes v → Bytes (string v)
 string-bytes v h = bytes-append (be32 (length v)) v (be32-bytes (length v)) h
+
+pub bytes-string : (v rest : List ℕ) → Bytes v → Bytes rest → Bytes (string v ++ rest)
+bytes-string v rest h k = bytes-append (string v) rest (string-bytes v h) k
 
 pub bytes-split : (l k : List ℕ) → Bytes (l ++ k) → Bytes l × Bytes k
 bytes-split [] k p = ((λ i. omega arith), p)

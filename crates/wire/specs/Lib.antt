@@ -11,4 +11,6 @@ pub mod Parts
 pub mod Values
 pub mod Write
 pub mod Frames
+pub mod Refusals
+pub mod Constraints
 pub mod Promises

@@ -26,3 +26,7 @@ pub record Spells (v : List ℕ) (n : ℕ) : Type 0 where
 pub record Shortest (v : List ℕ) (n : ℕ) : Type 0 where
   pub form : Spells v n
   pub shortest : (w : List ℕ) → Spells w n → length v ≤ length w
+
+-- the contents of a positive mpint: the shortest form of a number above zero
+abbrev pub Positive : List ℕ → Type 0
+Positive v = (n : ℕ) × (0 < n) × Shortest v n

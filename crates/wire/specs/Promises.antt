@@ -5,6 +5,10 @@ use mathlib.Core.List.{List, [], _∷_, _++_}
 use mathlib.Core.Bool.{true}
 use mathlib.Core.Logic.{_↔_, _⊎_}
 use lib.ListN.{length, getD, take, drop}
+use Rattle.wire.specs.Limits.{payloadLimit}
+use Rattle.wire.specs.declared.frame.Split.{Split}
+use Rattle.wire.specs.declared.refusal.Refusal.{Refusal}
+use Rattle.wire.specs.declared.refusal.Wrote.{Wrote}
 use Rattle.wire.specs.declared.read.Octet.{Octet}
 use Rattle.wire.specs.declared.read.Number.{Number}
 use Rattle.wire.specs.declared.read.Part.{Part}
@@ -12,9 +16,11 @@ use Rattle.wire.specs.Values.{Reading, read, fault, Span, octetReads, nu
 use Rattle.wire.specs.Numbers.{Bytes, be32}
 use Rattle.wire.specs.Utf8.{utf8, utf8End}
 use Rattle.wire.specs.Abnf.{Octets}
-use Rattle.wire.specs.Mpint.{mpint, Shortest}
+use Rattle.wire.specs.Mpint.{mpint, Shortest, Positive}
 use Rattle.wire.specs.Read.{cutOf, cutFrom, same, byteAt, numberAt, stringAt, textAt, mpintAt}
 use Rattle.wire.specs.Write.{string, write}
+use Rattle.wire.specs.Frames.{splitOf, splitNumber, splitSpan, framePayload, payloadFrom}
+use Rattle.wire.specs.Refusals.{refusalNumber, refusalPlace, Says, wroteSays}
 
 -- ## Answers
 
@@ -60,11 +66,13 @@ StringRule =
     × (cutOf s (at + 4) (at + 4 + length v) ≡ v)
     × (drop (at + 4 + length v) s ≡ rest))
 
+-- no string stands at the front of the bytes
+abbrev pub NoString : List ℕ → Type 0
+NoString s = (v rest : List ℕ) → length v < 2 ^ 32 → s ≡ string v ++ rest → ⊥
+
 -- where no string stands, the fault is at the start of its length
 abbrev pub StringCut : Type 0
-StringCut =
-    (s : List ℕ) (at : ℕ) → Bytes s
-    → (partReads (stringAt s at) ≡ fault at) ↔ ((v rest : List ℕ) → length v < 2 ^ 32 → drop at s ≡ string v ++ rest → ⊥)
+StringCut = (s : List ℕ) (at : ℕ) → Bytes s → (partReads (stringAt s at) ≡ fault at) ↔ NoString (drop at s)
 
 -- ## Parts
 
@@ -110,7 +118,7 @@ TextFault = (s : List ℕ) (at : ℕ) → TextFaults s at
 
 -- accepted are exactly the shortest forms of the numbers above zero
 abbrev pub MpintRule : Type 0
-MpintRule = (v : List ℕ) → Bytes v → (mpint v ≡ true) ↔ ((n : ℕ) × (0 < n) × Shortest v n)
+MpintRule = (v : List ℕ) → Bytes v → (mpint v ≡ true) ↔ Positive v
 
 -- and each number has one
 abbrev pub MpintOne : Type 0
@@ -138,3 +146,46 @@ pub record WriteLeaves (out : List ℕ) (at : ℕ) (v : List ℕ) : Type 0 where
 
 abbrev pub WriteRule : Type 0
 WriteRule = (out : List ℕ) (at : ℕ) (v : List ℕ) → at + length v ≤ length out → WriteLeaves out at v
+
+-- ## Frames
+
+-- the number of the splitter's answer, and where it says that a payload lies, tell it from the others
+abbrev pub SplitsApart : Type 0
+SplitsApart = (a b : Split) → splitNumber a ≡ splitNumber b → splitSpan a ≡ splitSpan b → a ≡ b
+
+-- the splitter says that a frame is whole, and hands out its payload, the part of the bytes behind their four of length
+pub record Holds (s payload : List ℕ) : Type 0 where
+  pub frame : splitNumber (splitOf s) ≡ 2
+  pub lies : splitSpan (splitOf s) ≡ record { from = 4; to = 4 + length payload }
+  pub payload-is : framePayload s ≡ payload
+  pub from : payloadFrom s ≡ 4
+
+-- a payload's frame alone, and with more bytes behind it
+pub record SplitsBack (payload : List ℕ) : Type 0 where
+  pub alone : Holds (string payload) payload
+  pub followed : (rest : List ℕ) → Holds (string payload ++ rest) payload
+
+abbrev pub Splits : Type 0
+Splits = (payload : List ℕ) → length payload ≤ payloadLimit → SplitsBack payload
+
+-- what the splitter says of any bytes: under 4 of them; a length above 262,144, with however many behind it; fewer bytes than the length
+-- announces; and all of them. Unless a frame is whole, its payload is empty, and lies at their start
+pub record SplitSays (s : List ℕ) : Type 0 where
+  pub few : length s < 4 → splitNumber (splitOf s) ≡ 0
+  pub long : (n : ℕ) (rest : List ℕ) → s ≡ be32 n ++ rest → n < 2 ^ 32 → payloadLimit < n → splitNumber (splitOf s) ≡ 1
+  pub short : (n : ℕ) (rest : List ℕ) → s ≡ be32 n ++ rest → n ≤ payloadLimit → length rest < n → splitNumber (splitOf s) ≡ 0
+  pub whole : (n : ℕ) (rest : List ℕ) → s ≡ be32 n ++ rest → n ≤ payloadLimit → n ≤ length rest → Holds s (take n rest)
+  pub else-empty : (splitNumber (splitOf s) ≡ 2 → ⊥) → framePayload s ≡ []
+  pub else-start : (splitNumber (splitOf s) ≡ 2 → ⊥) → payloadFrom s ≡ 0
+
+abbrev pub SplitTable : Type 0
+SplitTable = (s : List ℕ) → SplitSays s
+
+-- ## Refusals
+
+-- the number and the place of a refusal tell it from every other, and a writer's values its answer
+abbrev pub RefusalsApart : Type 0
+RefusalsApart = (a b : Refusal) → refusalNumber a ≡ refusalNumber b → refusalPlace a ≡ refusalPlace b → a ≡ b
+
+abbrev pub WroteApart : Type 0
+WroteApart = OneToOne Wrote (Says ℕ) wroteSays

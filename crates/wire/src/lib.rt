@@ -1,8 +1,10 @@
 // Derived from keys/agent/mod.rs of russh 0.65.0 (Apache-2.0), and changed: see NOTICE.
 // The wire: what the other crates read and write a message with.
+pub mod frame;
 pub mod limits;
 pub mod msg;
 pub mod read;
+pub mod refusal;
 pub mod utf8;
 pub mod write;
 
@@ -16,11 +18,4 @@ pub struct Seconds {
 pub enum Constraint {
     KeyLifetime { seconds: Seconds },
     Confirm,
-}
-
-// What the first bytes of a connection hold.
-pub enum Split {
-    MoreNeeded,
-    TooLong,
-    Frame,
 }

@@ -6,7 +6,7 @@ use native.Mathlib.Omega.{arith}
 use borrow.Author.Needs.{needs}
 use lib.ListN.{length, take}
 use Rattle.wire.specs.declared.Constraint.the-variants.{KeyLifetime}
-use Rattle.keys.specs.Forms.{constraintForms}
+use Rattle.wire.specs.Constraints.{constraintForms}
 use Rattle.client.proofs.ConstraintLaws.{five-at-most, length-more}
 use Rattle.client.proofs.writers.constraints_len.Statement.{statement}
 use Rattle.client.proofs.writers.constraints_len.Tie as tie

@@ -1,4 +1,4 @@
--- By the cases of the split; a part's length is its list's. Assumes nothing.
+-- By the cases of the split. Assumes nothing.
 use borrow.Author.Needs.{needs}
 use Rattle.gateway.specs.Flat.{flatSplit, splitAs}
 use Rattle.gateway.proofs.flat.split.Statement.{statement}
@@ -14,7 +14,7 @@ returns-2 c = rw (← c .before .before .read-frame .ensures, c .enum-told2 .giv
 
 returns-3 : tie.Need-returns-3
 unfolding flatSplit splitAs
-returns-3 c = rw (← c .before .before .before .read-frame .ensures, c .before .enum-told3 .given .1, c .frame-payload .ensures .bytes)
+returns-3 c = rw (← c .before .before .before .read-frame .ensures, c .before .from .given .1)
 
 pub split-spec : {M : Type 1} → statement M
-split-spec = tie.close (tie.spec (λ c κs. search needs) (λ c. search needs) (λ c. search needs) (λ c. search needs) (λ c κs. search needs) (λ c. search needs) returns returns-2 returns-3)
+split-spec = tie.close (tie.spec (λ c κs. search needs) (λ c. search needs) (λ c. search needs) (λ c. search needs) returns returns-2 returns-3)

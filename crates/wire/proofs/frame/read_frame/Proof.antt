@@ -1,11 +1,11 @@
 -- The definition goes by the same number and the same tests. Assumes nothing.
 use mathlib.Core.Path.{sym, _∙_}
 use native.Mathlib.Omega.{arith}
 use Rattle.wire.specs.Frames.{splitOf}
 use Rattle.wire.proofs.Reading.{number-read}
 use Rattle.wire.proofs.Steps.{all}
-use Rattle.client.proofs.frame.read_frame.Statement.{statement}
-use Rattle.client.proofs.frame.read_frame.Tie as tie
+use Rattle.wire.proofs.frame.read_frame.Statement.{statement}
+use Rattle.wire.proofs.frame.read_frame.Tie as tie
 
 returns : tie.Need-returns
 unfolding splitOf

@@ -1,7 +1,8 @@
--- 01's number for each refusal of a reader or writer ("When; output untouched"), and its place.
+-- 01's number for each refusal of a reader or writer ("When; output untouched"), its place, and what an answer then says.
 use Prim.Native.Nat.{ℕ}
-use Rattle.client.specs.declared.Refusal.{Refusal}
-use Rattle.client.specs.declared.Refusal.the-variants.{OutputTooShort, Malformed, UnfitType, AgentFailure, OtherReply, NoSuchItem, PayloadTooLong, TooManyConstraints}
+use Rattle.wire.specs.declared.refusal.Refusal.{Refusal}
+use Rattle.wire.specs.declared.refusal.Refusal.the-variants.{OutputTooShort, Malformed, UnfitType, AgentFailure, OtherReply, NoSuchItem, PayloadTooLong, TooManyConstraints}
+use Rattle.wire.specs.declared.refusal.Wrote.{Wrote}
 
 abbrev pub refusalNumber : Refusal → ℕ
 refusalNumber OutputTooShort = 11
@@ -27,3 +28,13 @@ refusalPlace OtherReply = no-place
 refusalPlace NoSuchItem = no-place
 refusalPlace PayloadTooLong = no-place
 refusalPlace TooManyConstraints = no-place
+
+-- what is granted, or a refusal
+pub data Says (A : Type 0) : Type 0 where
+  grants : A → Says A
+  refuses : ℕ → Where → Says A  -- 01's number of the refusal, and the place of the fault
+
+-- the length of what was written
+abbrev pub wroteSays : Wrote → Says ℕ
+wroteSays (Wrote.Written n) = grants n
+wroteSays (Wrote.Refused r) = refuses (refusalNumber r) (refusalPlace r)

@@ -1,0 +1,3 @@
+-- The proofs of what is promised.
+pub mod Requests
+pub mod Replies

@@ -1,0 +1,2 @@
+-- The statements of what is promised.
+pub mod Promises

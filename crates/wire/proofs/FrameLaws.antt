@@ -1,0 +1,135 @@
+-- The splitter's answers told apart, and when each comes: four bytes are there or not, and their number is what stands in front. Nothing is assumed of the bytes.
+use Prim.Native.Nat.{ℕ, _+_, _^_, _≤_, _<_}
+use mathlib.Core.Path.{_≡_, refl, sym, ap, ap₂, _∙_}
+use mathlib.Core.List.{List, [], _++_, append-nil}
+use native.Mathlib.Omega.{arith}
+use native.Mathlib.Nat.{add-sub-cancel-left}
+use borrow.Author.Tests.{le-leb, lt-leb, leb-true}
+use lib.Dec.{leb, eqb}
+use lib.ListN.{length, take, length-append}
+use lib.Seq.{take-at, length-take-le}
+use Rattle.wire.specs.Limits.{payloadLimit}
+use Rattle.wire.specs.declared.frame.Split.{Split}
+use Rattle.wire.specs.declared.frame.Split.the-variants.{MoreNeeded, TooLong, Frame}
+use Rattle.wire.specs.declared.read.Number.{Number}
+use Rattle.wire.specs.Numbers.{be32, beAt}
+use Rattle.wire.specs.Read.{numberAt}
+use Rattle.wire.specs.Steps.{so, number}
+use Rattle.wire.specs.Values.{Span}
+use Rattle.wire.specs.Write.{string}
+use Rattle.wire.specs.Frames.{splitOf, splitNumber, splitSpan, framePayload, payloadFrom}
+use Rattle.wire.specs.Promises.{SplitsApart, Holds, Splits, SplitTable}
+use Rattle.wire.proofs.Cases.{so-cases, number-cases}
+use Rattle.wire.proofs.Reading.{number-there, number-cut, number-read, cut-there, cut-none, from-there, from-none}
+use Rattle.wire.proofs.Format.{be-written}
+
+-- ## Values
+
+splitFor : ℕ → Span → Split
+splitFor n v = so (so MoreNeeded (eqb n 1) TooLong) (eqb n 2) (Frame (v .from) (v .to))
+
+split-for : (x : Split) → splitFor (splitNumber x) (splitSpan x) ≡ x
+unfolding splitFor so
+split-for MoreNeeded = refl
+split-for TooLong = refl
+split-for (Frame from to) = refl
+
+pub splits-apart : SplitsApart
+splits-apart a b e f = sym (split-for a) ∙ ap₂ splitFor e f ∙ split-for b
+
+-- ## Where the payload lies
+
+-- what it says that a frame is whole
+pub record IsFrame (s : List ℕ) (f t : ℕ) : Type 0 where
+  pub start : f ≡ 4
+  pub end : t ≡ 4 + beAt s 0
+  pub within : t ≤ length s
+
+module _ (s : List ℕ) (f t : ℕ) where
+  abbrev IfWhole : Split → Type 0
+  IfWhole x = x ≡ Frame f t → IsFrame s f t
+
+  other : (x : Split) → (splitNumber x ≡ 2 → ⊥) → IfWhole x
+  other x never e = absurd (never (ap splitNumber e))
+
+  pub frame-read : splitOf s ≡ Frame f t → IsFrame s f t
+  unfolding splitOf
+  frame-read =
+      number-cases IfWhole (numberAt s 0) (λ _ _. other MoreNeeded (λ z. omega arith)) λ n k read.
+      let is = number-read s 0 n k read in
+      so-cases IfWhole (leb n payloadLimit)
+      (λ _. so-cases IfWhole (leb (k .at + n) (length s))
+      (λ h e.
+      let q : k .at ≡ f = cc in
+      let r : k .at + n ≡ t = cc in
+      let l = leb-true (k .at + n) (length s) h in
+      record { start = omega (arith, is .place); end = omega (arith, is .place, is .number); within = omega arith })
+      (λ _. other MoreNeeded (λ z. omega arith)))
+      (λ _. other TooLong (λ z. omega arith))
+
+-- unless a frame is whole, nothing is named
+else-none : (x : Split) → (splitNumber x ≡ 2 → ⊥) → splitSpan x ≡ record { from = 0; to = 0 }
+else-none MoreNeeded never = refl
+else-none TooLong never = refl
+else-none (Frame from to) never = absurd (never refl)
+
+-- ## The table
+
+-- a length and what stands behind it
+module _ (n : ℕ) (rest : List ℕ) (small : n < 2 ^ 32) where
+  length-read : numberAt (be32 n ++ rest) 0 ≡ Number.Value n (record { at = 4 })
+  length-read = sym (number-there (be32 n ++ rest) 0 (omega arith)) ∙ ap (λ (i : ℕ). Number.Value i (record { at = 4 })) (be-written (be32 n ++ rest) 0 n rest small refl)
+
+  split-long : payloadLimit < n → splitNumber (splitOf (be32 n ++ rest)) ≡ 1
+  unfolding splitOf number so
+  split-long h = rw (length-read, lt-leb n payloadLimit h)
+
+  module _ (h : n ≤ payloadLimit) where
+    split-short : length rest < n → splitNumber (splitOf (be32 n ++ rest)) ≡ 0
+    unfolding splitOf number so
+    split-short l = rw (length-read, le-leb n payloadLimit h, lt-leb (4 + n) (length (be32 n ++ rest)) (omega arith))
+
+    module _ (l : n ≤ length rest) where
+      split-is : splitOf (be32 n ++ rest) ≡ Frame 4 (4 + n)
+      unfolding splitOf number so
+      split-is = rw (length-read, le-leb n payloadLimit h, le-leb (4 + n) (length (be32 n ++ rest)) (omega arith))
+
+      split-whole : Holds (be32 n ++ rest) (take n rest)
+      unfolding framePayload payloadFrom
+      split-whole = record {
+        frame = rw split-is;
+        lies = rw (split-is, length-take-le n rest l);
+        payload-is = rw split-is (sym (cut-there (be32 n ++ rest) 4 (4 + n) (omega arith) (omega arith)) ∙ rw (add-sub-cancel-left 4 n));
+        from = rw split-is (from-there (be32 n ++ rest) 4 (4 + n) (omega arith) (omega arith));
+      }
+
+module _ (s : List ℕ) where
+  split-few : length s < 4 → splitNumber (splitOf s) ≡ 0
+  unfolding splitOf number
+  split-few h = rw (← number-cut s 0 h)
+
+  split-empty : (splitNumber (splitOf s) ≡ 2 → ⊥) → framePayload s ≡ []
+  unfolding framePayload
+  split-empty never = rw (else-none (splitOf s) never) (sym (cut-none s))
+
+  split-start : (splitNumber (splitOf s) ≡ 2 → ⊥) → payloadFrom s ≡ 0
+  unfolding payloadFrom
+  split-start never = rw (else-none (splitOf s) never) (from-none s)
+
+pub split-table : SplitTable
+split-table s = record {
+  few = split-few s;
+  long = λ n rest e small h. rw e (split-long n rest small h);
+  short = λ n rest e h l. rw e (split-short n rest (omega arith) h l);
+  whole = λ n rest e h l. rw e (split-whole n rest (omega arith) h l);
+  else-empty = split-empty s;
+  else-start = split-start s;
+}
+
+-- ## What was written
+
+found : (p rest : List ℕ) → length p ≤ payloadLimit → Holds (string p ++ rest) p
+found p rest h = rw (take-at p rest (length p) refl) at (split-table (string p ++ rest) .whole (length p) (p ++ rest) refl h (simp length-append (omega arith)))
+
+pub splits : Splits
+splits p h = record { alone = rw (append-nil (string p)) at (found p [] h); followed = λ rest. found p rest h }
