@@ -16,7 +16,7 @@ use Rattle.wire.specs.Write.{write, string}
 use Rattle.wire.proofs.Format.{number-form, string-form}
 use Rattle.wire.proofs.ByteLaws.{bytes-cons, bytes-append, be32-bytes, string-bytes}
 use Rattle.keys.specs.Forms.{constraintForm, constraintForms}
-use Rattle.rule.specs.Order.{Begins, Carries}
+use Rattle.rule.specs.Words.{Begins, Carries}
 use Rattle.client.specs.declared.Refusal.{Refusal}
 use Rattle.client.specs.declared.Wrote.{Wrote}
 use Rattle.client.specs.declared.Wrote.the-variants.{Refused}

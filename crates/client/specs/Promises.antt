@@ -14,8 +14,8 @@ use Rattle.wire.specs.Write.{string}
 use Rattle.wire.specs.Frames.{splitOf, framePayload, payloadFrom}
 use Rattle.wire.specs.Promises.{OneToOne, Longest}
 use Rattle.keys.specs.Forms.{constraintForms}
-use Rattle.rule.specs.Order.{Begins, Carries}
-use Rattle.rule.specs.Content.{SignRequest}
+use Rattle.rule.specs.Words.{Begins, Carries}
+use Rattle.rule.specs.Signing.{SignRequest}
 use Rattle.client.specs.declared.Refusal.{Refusal}
 use Rattle.client.specs.declared.Wrote.{Wrote}
 use Rattle.client.specs.Refusals.{Where, no-place, at-place, refusalNumber, refusalPlace}

@@ -12,7 +12,7 @@ use Rattle.rule.specs.Gateway.{Entry as Key, Gateway}
 use Rattle.rule.specs.Rule.{gate, check, confirmation, signature, reply, close}
 use Rattle.rule.specs.Calls as rule
 use Rattle.rule.specs.Calls.{Call, refused, asks, lands, call}
-use Rattle.rule.specs.Content.{HeldAt, atCall}
+use Rattle.rule.specs.Words.{HeldAt, atCall}
 use Rattle.rule.proofs.Leavings.{question-leaves}
 use Rattle.rule.proofs.SignLaws.{signature-asks, confirmation-asks}
 use Rattle.table.specs.declared.State.{State}

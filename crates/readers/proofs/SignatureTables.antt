@@ -15,7 +15,7 @@ use Rattle.wire.specs.Steps.{so, byte, number, part}
 use Rattle.wire.specs.Write.{string}
 use Rattle.wire.proofs.Reading.{le-or-lt, byte-cut, number-cut}
 use Rattle.keys.proofs.FieldLaws.{Lies, lies-cut, lies-bytes, behind, At, inside, string-stands, string-reads}
-use Rattle.rule.specs.Order.{Begins}
+use Rattle.rule.specs.Words.{Begins}
 use Rattle.rule.proofs.Cases.{part-cases}
 use Rattle.client.specs.declared.Refusal.the-variants.{OutputTooShort, Malformed, UnfitType}
 use Rattle.client.specs.declared.Wrote.{Wrote}

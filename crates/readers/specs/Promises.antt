@@ -14,8 +14,8 @@ use Rattle.rule.specs.Gateway.{Entry, Gateway, fresh}
 use Rattle.rule.specs.Rule.{reply, FAILURE, signatureReply}
 use Rattle.rule.specs.Calls.{Call, lands, call}
 use Rattle.rule.specs.Runs.{endOf}
-use Rattle.rule.specs.Order.{Begins}
-use Rattle.rule.specs.Content.{atCall, payloadOf, Lists, itemForms}
+use Rattle.rule.specs.Words.{Begins, atCall, payloadOf}
+use Rattle.rule.specs.Listing.{Lists, itemForms}
 use Rattle.rule.specs.Comments.{TextComments, ByteBlobs, BytesIn}
 use Rattle.client.specs.Refusals.{Where, no-place, at-place}
 use Rattle.client.specs.Values.{Says, grants, refuses, wroteSays}

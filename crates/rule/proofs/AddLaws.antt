@@ -22,8 +22,9 @@ use Rattle.rule.specs.Gateway.{Entry, Place, Gateway, locked, atClock, a
 use Rattle.rule.specs.Soundness.{fit}
 use Rattle.rule.specs.Rule.{Question, gate, check, Answer, SUCCESS, added, brought, entryOf, storing, adding}
 use Rattle.rule.specs.Calls.{lent, Call, Outcome, asks, lands, Result, follow, call}
-use Rattle.rule.specs.Order.{Begins}
-use Rattle.rule.specs.Content.{HeldAt, FreeAt, atCall, payloadOf, PastGate, add, add-constrained, addByte, AddRequest, madeBy, Put, MayStore, AddedOnly, AddedAlways, CheckAsks}
+use Rattle.rule.specs.Words.{Begins, HeldAt, FreeAt, atCall, payloadOf, PastGate}
+use Rattle.rule.specs.Rows.{add, add-constrained}
+use Rattle.rule.specs.Adding.{addByte, AddRequest, madeBy, Put, MayStore, AddedOnly, AddedAlways, CheckAsks}
 use Rattle.rule.proofs.Cases.{true-not-false}
 use Rattle.rule.proofs.PlaceLaws.{every-at, seek-first, seek-none, found-at, absent-differs, Placed, replacing, anew, placed, no-place, place-inside}
 use Rattle.rule.proofs.Effects.{Storable}

@@ -12,8 +12,9 @@ use Rattle.wire.specs.Steps.{so, part}
 use Rattle.rule.specs.Gateway.{Gateway, locked, found}
 use Rattle.rule.specs.Rule.{gate, reply, close, FAILURE, SUCCESS, Plan, listing, removingAll, signatureReply, signed, signingData, confirming, signing}
 use Rattle.rule.specs.Calls.{lent, Call, lands, Result, follow, call}
-use Rattle.rule.specs.Order.{Begins}
-use Rattle.rule.specs.Content.{atCall, payloadOf, PastGate, Row, list, add, add-constrained, remove, remove-all, sign, lock, unlock, SuccessOrFailure, Closes, no-blob, no-data, no-signature, CloseRule, SignFails, absent, denied, SignFailRule}
+use Rattle.rule.specs.Words.{Begins, atCall, payloadOf, PastGate}
+use Rattle.rule.specs.Rows.{Row, list, add, add-constrained, remove, remove-all, sign, lock, unlock, SuccessOrFailure}
+use Rattle.rule.specs.Signing.{Closes, no-blob, no-data, no-signature, CloseRule, SignFails, absent, denied, SignFailRule}
 use Rattle.rule.proofs.Cases.{part-cases, number-cases}
 use Rattle.rule.proofs.Plans.{asks-not-lands, refused-not-lands}
 use Rattle.rule.proofs.PlaceLaws.{every-at, every-of, absent-differs, differs-absent}

@@ -13,7 +13,8 @@ use Rattle.rule.specs.Gateway.{Gateway, locked, opened, advance}
 use Rattle.rule.specs.Rule.{Question, gate, Answer, Landing, FAILURE, SUCCESS, Plan, land, ask, fails, unlocking, gated, row, table, rule}
 use Rattle.rule.specs.Calls.{Call, asks, Result, call}
 use Rattle.rule.specs.Runs.{Event, events, endOf, Every, isAccepted, heard, heardIn, greatest, turn, turnsFrom, someAccepted, Landed, alone}
-use Rattle.rule.specs.Order.{settled, ownAnswers, Begins, NoUnlocking, EveryQuestion, WhileLocked, BetweenLockAndUnlock, Needs, here, behind}
+use Rattle.rule.specs.Order.{settled, ownAnswers, NoUnlocking, EveryQuestion, WhileLocked, BetweenLockAndUnlock, Needs, here, behind}
+use Rattle.rule.specs.Words.{Begins}
 use Rattle.rule.proofs.Cases.{so-cases, part-cases}
 use Rattle.rule.proofs.Clock.{advance-lock}
 use Rattle.rule.proofs.Plans.{EveryLanding, alone-has, refused-not-asks}

@@ -10,8 +10,9 @@ use Rattle.wire.specs.Read.{cutOf, stringAt}
 use Rattle.rule.specs.Gateway.{Entry, Gateway, seek, holds, without}
 use Rattle.rule.specs.Rule.{SUCCESS, Plan, removing, removingAll}
 use Rattle.rule.specs.Calls.{lent, Call, lands, follow}
-use Rattle.rule.specs.Order.{Carries}
-use Rattle.rule.specs.Content.{HeldAt, atCall, payloadOf, remove, remove-all, Gone, RemoveRule, RemoveTakes, RemoveAllRule}
+use Rattle.rule.specs.Words.{Carries, HeldAt, atCall, payloadOf}
+use Rattle.rule.specs.Rows.{remove, remove-all}
+use Rattle.rule.specs.Removing.{Gone, RemoveRule, RemoveTakes, RemoveAllRule}
 use Rattle.rule.proofs.Cases.{part-cases, found-cases}
 use Rattle.rule.proofs.PlaceLaws.{every-at, set-none-free, vacated-free, absent-differs, found-at}
 use Rattle.rule.proofs.RowLaws.{past-gate, OnSuccess, failure-shows, success-shows}

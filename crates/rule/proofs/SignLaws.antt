@@ -15,8 +15,9 @@ use Rattle.wire.specs.Write.{string}
 use Rattle.rule.specs.Gateway.{Entry, Gateway, locked, found}
 use Rattle.rule.specs.Rule.{Question, gate, confirmation, signature, Answer, reply, hashOf, signatureReply, signed, signingData, confirming, signing}
 use Rattle.rule.specs.Calls.{Numbered, forNumber, lent, Call, asks, lands, Result, follow, call}
-use Rattle.rule.specs.Order.{Begins, Carries}
-use Rattle.rule.specs.Content.{HeldAt, atCall, payloadOf, PastGate, sign, SignRequest, HashTable, Confirmed, SignatureAsks, ConfirmationAsks, SignsOnly, SignsAlways}
+use Rattle.rule.specs.Words.{Begins, Carries, HeldAt, atCall, payloadOf, PastGate}
+use Rattle.rule.specs.Rows.{sign}
+use Rattle.rule.specs.Signing.{SignRequest, HashTable, Confirmed, SignatureAsks, ConfirmationAsks, SignsOnly, SignsAlways}
 use Rattle.rule.proofs.Cases.{so-cases}
 use Rattle.rule.proofs.PlaceLaws.{some-not-none, held-found}
 use Rattle.rule.proofs.RefusalLaws.{accepted}

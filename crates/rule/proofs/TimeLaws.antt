@@ -17,7 +17,8 @@ use Rattle.rule.specs.Soundness.{EveryEntry}
 use Rattle.rule.specs.Rule.{Landing}
 use Rattle.rule.specs.Calls.{Call, refusal, call}
 use Rattle.rule.specs.Order.{ownAnswers}
-use Rattle.rule.specs.Content.{atCall, payloadOf, OnTime, GoneOnTime, ClockRaised}
+use Rattle.rule.specs.Words.{atCall, payloadOf}
+use Rattle.rule.specs.Times.{OnTime, GoneOnTime, ClockRaised}
 use Rattle.rule.proofs.Cases.{so-cases}
 use Rattle.rule.proofs.Clock.{advance-clock}
 use Rattle.rule.proofs.Plans.{alone-has}

@@ -18,8 +18,10 @@ use Rattle.keys.specs.Kinds.{blobOf}
 use Rattle.rule.specs.Gateway.{Entry, Place, Gateway, millisOf, dueAt, lasting, atClock, advance, isFree}
 use Rattle.rule.specs.Rule.{listing, removingAll}
 use Rattle.rule.specs.Calls.{lent, Call, Outcome, Result, follow, call}
-use Rattle.rule.specs.Order.{Begins, Carries}
-use Rattle.rule.specs.Content.{addByte, HeldAt, atCall, payloadOf, Row, list, add, add-constrained, remove, remove-all, sign, lock, unlock, Leaves, expired, removed, cleared, replaced, UsableUntil}
+use Rattle.rule.specs.Words.{Begins, Carries, HeldAt, atCall, payloadOf}
+use Rattle.rule.specs.Rows.{Row, list, add, add-constrained, remove, remove-all, sign, lock, unlock}
+use Rattle.rule.specs.Adding.{addByte}
+use Rattle.rule.specs.Times.{Leaves, expired, removed, cleared, replaced, UsableUntil}
 use Rattle.rule.proofs.Cases.{true-not-false}
 use Rattle.rule.proofs.PlaceLaws.{Holds, same-entry, getD-map, seek-first, found-at, Placed, replacing, anew, placed}
 use Rattle.rule.proofs.RowLaws.{bodyResult, rows-cases}

@@ -6,7 +6,7 @@ use Rattle.rule.specs.Gateway.{Gateway, fresh}
 use Rattle.rule.specs.Soundness.{EveryEntry}
 use Rattle.rule.specs.Calls.{Call, call}
 use Rattle.rule.specs.Runs.{endOf, Every}
-use Rattle.rule.specs.Content.{payloadOf}
+use Rattle.rule.specs.Words.{payloadOf}
 
 -- every held entry's comment is UTF-8
 abbrev pub TextComments : Gateway → Type 0

@@ -7,14 +7,12 @@ use mathlib.Core.Option.{Option, none, some}
 use mathlib.Core.List.{List, [], _∷_}
 use lib.ListN.{length, getD}
 use Rattle.wire.specs.Limits.{replyRoom}
-use Rattle.wire.specs.declared.read.Cursor.{Cursor}
-use Rattle.wire.specs.declared.read.Part.the-variants.{Whole}
-use Rattle.wire.specs.Read.{cutOf, stringAt}
 use Rattle.rule.specs.Gateway.{Entry, Gateway, fresh, locked, advance}
 use Rattle.rule.specs.Soundness.{Sound, sound}
 use Rattle.rule.specs.Rule.{Question, gate, check, confirmation, signature, Answer, Landing, reply, FAILURE, SUCCESS, Plan, land, ask, rule}
 use Rattle.rule.specs.Calls.{given, lent, Frame, Call, refusal, refused, asks, lands, call}
 use Rattle.rule.specs.Runs.{Event, events, endOf, RunsTo, Every, isAccepted, acceptedIn, heard, greatest, Turn, turns, landings, askedIn, someAccepted, Oracle, oneAtATime, oneAtATimeEnd}
+use Rattle.rule.specs.Words.{Begins, Carries}
 
 -- ## Demand 3
 
@@ -107,19 +105,6 @@ abbrev pub OwnReadings : Type 0
 OwnReadings = (es : List Event) → NeverFall 0 es → Every (λ t. t .reading ≡ t .by .reading) (turns es)
 
 -- ## Between a non-empty lock's success and the next unlock's success
-
--- the first byte of a payload that has one
-pub record Begins (byte : ℕ) (payload : List ℕ) : Type 0 where
-  pub some-byte : 0 < length payload
-  pub first : getD payload 0 0 ≡ byte
-
--- the string behind the first byte is v
-pub record Carries (v payload : List ℕ) : Type 0 where
-  pub from : ℕ
-  pub to : ℕ
-  pub next : Cursor
-  pub read : stringAt payload 1 ≡ Whole from to next
-  pub is : cutOf payload from to ≡ v
 
 -- no landing is an unlock's success
 abbrev pub NoUnlocking : List Turn → Type 0

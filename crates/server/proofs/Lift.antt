@@ -19,7 +19,8 @@ use Rattle.rule.specs.Rule.{gate}
 use Rattle.rule.specs.Calls as calls
 use Rattle.rule.specs.Calls.{refusalOf, Frame, Call, refused, asks, refusal, call}
 use Rattle.rule.specs.Runs.{Event, events, endOf, callsOf, Every, isAccepted, acceptedIn, turns, Oracle}
-use Rattle.rule.specs.Order.{EveryAccepted, Keeps, AsOneAtATime, ownFrame, ownAnswers, Begins, NoUnlocking, EveryQuestion, OnlyExpiry}
+use Rattle.rule.specs.Order.{EveryAccepted, Keeps, AsOneAtATime, ownFrame, ownAnswers, NoUnlocking, EveryQuestion, OnlyExpiry}
+use Rattle.rule.specs.Words.{Begins}
 use Rattle.rule.specs.Comments.{TextComments, BytesIn}
 use Rattle.rule.proofs.Cases.{so-cases, true-not-false}
 use Rattle.rule.proofs.PlaceLaws.{some-not-none}

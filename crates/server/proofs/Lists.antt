@@ -3,7 +3,7 @@ use mathlib.Core.Path.{sym, ap, _∙_}
 use Rattle.rule.specs.Calls as calls
 use Rattle.rule.specs.Calls.{call}
 use Rattle.rule.specs.Runs.{isAccepted}
-use Rattle.rule.specs.Content.{PastGate}
+use Rattle.rule.specs.Words.{PastGate}
 use Rattle.rule.proofs.Crossing.{accepted-rule}
 use Rattle.rule.proofs.ListLaws.{list-rule}
 use Rattle.table.specs.Meaning.{gatewayOf}

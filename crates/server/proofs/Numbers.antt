@@ -12,7 +12,7 @@ use Rattle.rule.specs.Calls as rule
 use Rattle.rule.specs.Calls.{lent, asks, call}
 use Rattle.rule.specs.Runs.{isAccepted}
 use Rattle.rule.specs.Order.{Needs, here}
-use Rattle.rule.specs.Content.{HashTable}
+use Rattle.rule.specs.Signing.{HashTable}
 use Rattle.rule.proofs.Crossing.{accepted-rule}
 use Rattle.rule.proofs.QuestionLaws.{question-rule}
 use Rattle.rule.proofs.RowLaws.{row-rule}

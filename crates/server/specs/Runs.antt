@@ -15,8 +15,11 @@ use Rattle.rule.specs.Gateway.{Entry, Gateway, fresh, advance, locked}
 use Rattle.rule.specs.Calls as rule
 use Rattle.rule.specs.Calls.{Frame, Call, call}
 use Rattle.rule.specs.Runs.{Event, RunsTo, Every, isAccepted, acceptedIn, turns, Oracle}
-use Rattle.rule.specs.Order.{EveryAccepted, Keeps, AsOneAtATime, ownFrame, ownAnswers, Begins, Carries, NoUnlocking, OnlyExpiry}
-use Rattle.rule.specs.Content.{Row, Lists, itemForms, SignRequest}
+use Rattle.rule.specs.Order.{EveryAccepted, Keeps, AsOneAtATime, ownFrame, ownAnswers, NoUnlocking, OnlyExpiry}
+use Rattle.rule.specs.Words.{Begins, Carries}
+use Rattle.rule.specs.Rows.{Row}
+use Rattle.rule.specs.Listing.{Lists, itemForms}
+use Rattle.rule.specs.Signing.{SignRequest}
 use Rattle.rule.specs.Comments.{TextComments}
 use Rattle.table.specs.declared.State.{State}
 use Rattle.table.specs.Meaning.{gatewayOf, stateOf}
