@@ -20,7 +20,7 @@ use Rattle.keys.specs.Forms.{KeyFields, constraintForms, Adds}
 use Rattle.rule.specs.Gateway.{Entry, Gateway, locked, NewKey, newEntry}
 use Rattle.rule.specs.Rule.{check, SUCCESS}
 use Rattle.rule.specs.Calls.{Call, asks, lands, call}
-use Rattle.rule.specs.Words.{Begins, HeldAt, FreeAt, atCall, payloadOf, PastGate}
+use Rattle.rule.specs.Words.{Begins, HeldAt, Held, FreeAt, atCall, payloadOf, PastGate}
 
 -- ## The request
 
@@ -70,7 +70,7 @@ pub record Put (before after : Gateway) (i : ℕ) (e : Entry) : Type 0 where
   pub clock : after .clock ≡ before .clock
   pub next : after .next ≡ before .next + 1
   pub place : ((old : Entry) × HeldAt before i old × (old .blob ≡ e .blob))
-      ⊎ (FreeAt before i × ((j : ℕ) → j < i → FreeAt before j → ⊥) × ((j : ℕ) (old : Entry) → HeldAt before j old → old .blob ≢ e .blob))
+      ⊎ (FreeAt before i × ((j : ℕ) → j < i → FreeAt before j → ⊥) × ((old : Entry) → Held before old → old .blob ≢ e .blob))
 
 -- what is decided before the key check is asked: the limits, the numbers that are left, and a place
 pub record MayStore (before : Gateway) (k : NewKey) : Type 0 where
@@ -78,7 +78,7 @@ pub record MayStore (before : Gateway) (k : NewKey) : Type 0 where
   pub fields-fit : length (k .fields) ≤ fieldsLimit
   pub comment-fits : length (k .comment) ≤ commentLimit
   pub numbers-left : before .next < 2 ^ 64 - 1
-  pub room : ((i : ℕ) × (old : Entry) × HeldAt before i old × (old .blob ≡ k .blob)) ⊎ ((i : ℕ) × FreeAt before i)
+  pub room : ((old : Entry) × Held before old × (old .blob ≡ k .blob)) ⊎ ((i : ℕ) × FreeAt before i)
 
 -- what an add's SUCCESS did, and that the key check said yes
 abbrev pub AddedOnly : Type 0

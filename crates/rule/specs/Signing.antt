@@ -13,7 +13,7 @@ use Rattle.rule.specs.declared.Hash.the-variants.{Plain, Sha256, Sha512}
 use Rattle.rule.specs.Gateway.{Entry, Gateway, locked}
 use Rattle.rule.specs.Rule.{confirmation, signature, reply, close, FAILURE}
 use Rattle.rule.specs.Calls.{Call, asks, lands, call}
-use Rattle.rule.specs.Words.{Begins, Carries, HeldAt, atCall, payloadOf, PastGate}
+use Rattle.rule.specs.Words.{Begins, Carries, Held, atCall, payloadOf, PastGate}
 
 -- a sign request as the draft writes it; bytes behind the flags are ignored
 pub record SignRequest (payload blob bytes : List ℕ) (flags : ℕ) : Type 0 where
@@ -36,7 +36,7 @@ Confirmed c e = e .confirm ≡ true → c .answers .confirmation ≡ some (recor
 abbrev pub SignatureAsks : Type 0
 SignatureAsks =
     (g : Gateway) (c : Call) (n from to : ℕ) (hash : Hash) → Bytes (payloadOf c) → call g c .outcome ≡ asks (signature n from to hash)
-    → PastGate g c × (locked g ≡ false) × (i : ℕ) × (e : Entry) × (bytes : List ℕ) × (flags : ℕ) × HeldAt (atCall g c) i e × (e .number ≡ n)
+    → PastGate g c × (locked g ≡ false) × (e : Entry) × (bytes : List ℕ) × (flags : ℕ) × Held (atCall g c) e × (e .number ≡ n)
     × SignRequest (payloadOf c) (e .blob) bytes flags × (from ≡ 1 + length (string (e .blob)) + 4) × (to ≡ from + length bytes)
     × HashTable flags hash × Confirmed c e
 
@@ -45,29 +45,29 @@ abbrev pub ConfirmationAsks : Type 0
 ConfirmationAsks =
     (g : Gateway) (c : Call) (n : ℕ) → call g c .outcome ≡ asks (confirmation n)
     → PastGate g c × (locked g ≡ false) × Begins 13 (payloadOf c)
-    × (i : ℕ) × (e : Entry) × HeldAt (atCall g c) i e × (e .number ≡ n) × (e .confirm ≡ true) × Carries (e .blob) (payloadOf c)
+    × (e : Entry) × Held (atCall g c) e × (e .number ≡ n) × (e .confirm ≡ true) × Carries (e .blob) (payloadOf c)
 
 -- a signature goes out only for a held key, with the signer's own bytes for that key's number, and only after a Confirm key's yes
 abbrev pub SignsOnly : Type 0
 SignsOnly =
     (g : Gateway) (c : Call) (bytes : List ℕ) → Begins 13 (payloadOf c) → call g c .outcome ≡ lands (reply bytes) → reply bytes ≢ FAILURE
-    → (i : ℕ) × (e : Entry) × (blob : List ℕ) × HeldAt (atCall g c) i e × Carries (e .blob) (payloadOf c)
+    → (e : Entry) × (blob : List ℕ) × Held (atCall g c) e × Carries (e .blob) (payloadOf c)
     × (c .answers .signature ≡ some (record { number = e .number; answer = some blob })) × (bytes ≡ string (14 ∷ string blob)) × Confirmed c e
 
 -- an open gateway answers a well-formed sign request for a held key when gate, confirmation and signer say yes
 abbrev pub SignsAlways : Type 0
 SignsAlways =
-    (g : Gateway) (c : Call) (i : ℕ) (e : Entry) (bytes blob : List ℕ) (flags : ℕ) → Bytes (payloadOf c) → PastGate g c → locked g ≡ false
-    → HeldAt (atCall g c) i e → SignRequest (payloadOf c) (e .blob) bytes flags → Confirmed c e
+    (g : Gateway) (c : Call) (e : Entry) (bytes blob : List ℕ) (flags : ℕ) → Bytes (payloadOf c) → PastGate g c → locked g ≡ false
+    → Held (atCall g c) e → SignRequest (payloadOf c) (e .blob) bytes flags → Confirmed c e
     → c .answers .signature ≡ some (record { number = e .number; answer = some blob })
     → call g c .outcome ≡ lands (reply (string (14 ∷ string blob)))
 
 -- why a sign request past the gate closes: its blob is malformed; its data or flags are, once a Confirm key has its yes; the signer gave none
 pub data Closes (g : Gateway) (c : Call) : Type 0 where
   no-blob : ((v : List ℕ) → Carries v (payloadOf c) → ⊥) → Closes g c
-  no-data : (i : ℕ) (e : Entry) → HeldAt (atCall g c) i e → Carries (e .blob) (payloadOf c) → Confirmed c e
+  no-data : (e : Entry) → Held (atCall g c) e → Carries (e .blob) (payloadOf c) → Confirmed c e
       → ((bytes : List ℕ) (flags : ℕ) → SignRequest (payloadOf c) (e .blob) bytes flags → ⊥) → Closes g c
-  no-signature : (i : ℕ) (e : Entry) (bytes : List ℕ) (flags : ℕ) → HeldAt (atCall g c) i e → SignRequest (payloadOf c) (e .blob) bytes flags → Confirmed c e
+  no-signature : (e : Entry) (bytes : List ℕ) (flags : ℕ) → Held (atCall g c) e → SignRequest (payloadOf c) (e .blob) bytes flags → Confirmed c e
       → c .answers .signature ≡ some (record { number = e .number; answer = none }) → Closes g c
 
 -- a call closes exactly so
@@ -78,8 +78,8 @@ CloseRule =
 
 -- why a sign request past the gate fails: its key is absent, or its Confirm key got a no that carries its number
 pub data SignFails (g : Gateway) (c : Call) : Type 0 where
-  absent : (v : List ℕ) → Carries v (payloadOf c) → ((i : ℕ) (e : Entry) → HeldAt (atCall g c) i e → e .blob ≢ v) → SignFails g c
-  denied : (i : ℕ) (e : Entry) → HeldAt (atCall g c) i e → Carries (e .blob) (payloadOf c) → e .confirm ≡ true
+  absent : (v : List ℕ) → Carries v (payloadOf c) → ((e : Entry) → Held (atCall g c) e → e .blob ≢ v) → SignFails g c
+  denied : (e : Entry) → Held (atCall g c) e → Carries (e .blob) (payloadOf c) → e .confirm ≡ true
       → c .answers .confirmation ≡ some (record { number = e .number; answer = false }) → SignFails g c
 
 abbrev pub SignFailRule : Type 0

@@ -9,7 +9,7 @@ use Rattle.keys.specs.declared.constraints.Lifetime.the-variants.{For}
 use Rattle.rule.specs.Gateway.{Entry, Gateway, NewKey}
 use Rattle.rule.specs.Rule.{SUCCESS}
 use Rattle.rule.specs.Calls.{Call, refusal, lands, call}
-use Rattle.rule.specs.Words.{Begins, Carries, HeldAt, payloadOf}
+use Rattle.rule.specs.Words.{Begins, Carries, HeldAt, Held, payloadOf}
 use Rattle.rule.specs.Adding.{AddRequest}
 
 abbrev pub OnTime : ℕ → Entry → Type 0
@@ -18,7 +18,7 @@ OnTime clock e = (seconds : Seconds) → e .lifetime ≡ For seconds → clock -
 -- an accepted call leaves no entry whose time is up, locked or not; only what it has itself just added with lifetime 0 still stands
 abbrev pub GoneOnTime : Type 0
 GoneOnTime =
-    (g : Gateway) (c : Call) (i : ℕ) (e : Entry) → refusal g c ≡ none → HeldAt (call g c .gateway) i e
+    (g : Gateway) (c : Call) (e : Entry) → refusal g c ≡ none → Held (call g c .gateway) e
     → OnTime (max (g .clock) (c .reading)) e ⊎ ((e .number ≡ g .next) × (e .lifetime ≡ For (record { count = 0 })))
 
 abbrev pub ClockRaised : Type 0
@@ -33,5 +33,9 @@ pub data Leaves (g : Gateway) (c : Call) (e : Entry) : Type 0 where
 
 abbrev pub UsableUntil : Type 0
 UsableUntil =
-    (g : Gateway) (c : Call) (i : ℕ) (e : Entry) → Bytes (payloadOf c) → HeldAt g i e
-    → HeldAt (call g c .gateway) i e ⊎ Leaves g c e
+    (g : Gateway) (c : Call) (e : Entry) → Bytes (payloadOf c) → Held g e
+    → Held (call g c .gateway) e ⊎ Leaves g c e
+
+-- and in its place
+abbrev pub PlacesStay : Type 0
+PlacesStay = (g : Gateway) (c : Call) (i : ℕ) (e : Entry) → HeldAt g i e → Held (call g c .gateway) e → HeldAt (call g c .gateway) i e

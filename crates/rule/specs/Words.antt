@@ -28,6 +28,10 @@ pub record Carries (v payload : List ℕ) : Type 0 where
 abbrev pub HeldAt : Gateway → ℕ → Entry → Type 0
 HeldAt g i e = getD (g .places) i none ≡ some e
 
+-- e is held
+abbrev pub Held : Gateway → Entry → Type 0
+Held g e = (i : ℕ) × HeldAt g i e
+
 -- place i is free
 abbrev pub FreeAt : Gateway → ℕ → Type 0
 FreeAt g i = (i < length (g .places)) × (getD (g .places) i none ≡ none)

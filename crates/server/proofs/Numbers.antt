@@ -59,5 +59,5 @@ code-hashes state store k n from to bits S m bytes v =
     let ends = step-ends state store S k m in
     let asked : call g (asCall k) .outcome ≡ asks (signature n from to (hashIn bits)) = sym (ended-is k _ ends) ∙ ap (λ (vs : List ℕ). outcomeIn vs (k .gave .reply)) v in
     let values = sym v ∙ ends .ended ∙ ap (λ (o : rule.Outcome). outcomeValues (code o)) asked in
-    let (past, opened, i, e, message, flags, held, number, request, at, end, table, confirmed) = signature-asks g (asCall k) n from to (hashIn bits) bytes asked in
+    let (past, opened, e, message, flags, held, number, request, at, end, table, confirmed) = signature-asks g (asCall k) n from to (hashIn bits) bytes asked in
     (e .blob, message, flags, request, bits-table flags bits (hashIn bits) (ap (λ (vs : List ℕ). getD vs 4 0) values) table)
