@@ -12,7 +12,7 @@ use Rattle.rule.specs.Gateway.{Entry as Key, Gateway}
 use Rattle.rule.specs.Rule.{gate, check, confirmation, signature, reply, close}
 use Rattle.rule.specs.Calls as rule
 use Rattle.rule.specs.Calls.{Call, refused, asks, lands, call}
-use Rattle.rule.specs.Content.{HeldAt, atCall}
+use Rattle.rule.specs.Words.{HeldAt, atCall}
 use Rattle.rule.proofs.Leavings.{question-leaves}
 use Rattle.rule.proofs.SignLaws.{signature-asks, confirmation-asks}
 use Rattle.table.specs.declared.State.{State}
@@ -51,12 +51,12 @@ AnyKey k = Unit {0}
 module _ (g : Gateway) (c : Call) where
   confirmation-held : (n : ℕ) → call g c .outcome ≡ asks (confirmation n) → HeldAs (call g c .gateway) n WithConfirm
   confirmation-held n e =
-      let (_, _, _, i, k, there, number, confirm, _) = confirmation-asks g c n e in
+      let (_, _, _, k, (i, there), number, confirm, _) = confirmation-asks g c n e in
       record { place = i; key = k; there = rw (question-leaves g c (confirmation n) e) there; number = number; confirm = confirm }
 
   signature-held : (n from to : ℕ) (hash : Hash) → Bytes (c .frame .payload) → call g c .outcome ≡ asks (signature n from to hash) → HeldAs (call g c .gateway) n AnyKey
   signature-held n from to hash bytes e =
-      let (_, _, i, k, _, _, there, number, _, _, _, _, _) = signature-asks g c n from to hash bytes e in
+      let (_, _, k, _, _, (i, there), number, _, _, _, _, _) = signature-asks g c n from to hash bytes e in
       record { place = i; key = k; there = rw (question-leaves g c (signature n from to hash) e) there; number = number; confirm = tt }
 
 module _ (s : State) (x : List ℕ) (g : Gateway) (means : Means s x g) (n : ℕ) (P : Key → Type 0) (h : HeldAs g n P) where

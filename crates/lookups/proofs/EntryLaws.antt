@@ -10,7 +10,7 @@ use Rattle.wire.specs.Steps.{so}
 use Rattle.keys.specs.declared.constraints.Lifetime.{Lifetime}
 use Rattle.keys.specs.declared.constraints.Lifetime.the-variants.{Forever, For}
 use Rattle.rule.specs.Gateway.{Entry as Key}
-use Rattle.rule.specs.Content.{HeldAt}
+use Rattle.rule.specs.Words.{HeldAt}
 use Rattle.rule.proofs.PlaceLaws.{some-not-none, same-entry}
 use Rattle.table.specs.declared.Entry.{Entry}
 use Rattle.table.specs.declared.State.{State}

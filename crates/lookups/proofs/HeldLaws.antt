@@ -23,7 +23,7 @@ use Rattle.rule.specs.declared.Found.the-variants.{At, Nothing}
 use Rattle.rule.specs.Gateway.{Entry as Key, Place, Gateway, millisOf, dueAt, lasting, atClock, advance, seek, found}
 use Rattle.rule.specs.Soundness as rule
 use Rattle.rule.specs.Soundness.{Distinct, SoundEntry}
-use Rattle.rule.specs.Content.{HeldAt}
+use Rattle.rule.specs.Words.{HeldAt}
 use Rattle.rule.proofs.Cases.{true-not-false, so-cases}
 use Rattle.rule.proofs.PlaceLaws.{some-not-none, same-entry, Holds, every-at, distinct-at, getD-map, First, seek-first, seek-none}
 use Rattle.table.specs.declared.Comment.{Comment}

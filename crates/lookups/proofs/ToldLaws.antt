@@ -12,7 +12,7 @@ use Rattle.wire.specs.Steps.{so}
 use Rattle.rule.specs.declared.Found.{Found}
 use Rattle.rule.specs.declared.Found.the-variants.{At, Nothing}
 use Rattle.rule.specs.Gateway.{Entry as Key, Place, seek, found}
-use Rattle.rule.specs.Content.{HeldAt}
+use Rattle.rule.specs.Words.{HeldAt}
 use Rattle.rule.proofs.Cases.{true-not-false}
 use Rattle.rule.proofs.PlaceLaws.{Holds, First, seek-first}
 use Rattle.table.specs.declared.State.{State}

@@ -11,7 +11,7 @@ use Rattle.wire.specs.Limits.{commentLimit, passphraseLimit}
 use Rattle.wire.specs.Read.{cutOf}
 use Rattle.keys.specs.declared.constraints.Lifetime.the-variants.{Forever, For}
 use Rattle.rule.specs.Gateway.{Entry as Key, Gateway, advance}
-use Rattle.rule.specs.Content.{HeldAt}
+use Rattle.rule.specs.Words.{HeldAt}
 use Rattle.table.specs.declared.Comment.{Comment}
 use Rattle.table.specs.declared.State.{State}
 use Rattle.table.specs.Meaning.{gatewayOf}

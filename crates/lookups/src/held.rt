@@ -14,7 +14,7 @@ ghost use mathlib.Core.Path.{_≡_};
 ghost use mathlib.Core.List.{List};
 ghost use Prim.Native.Nat.{ℕ, _≤_, _<_};
 ghost use Rattle.rule.specs.Gateway.{Entry as Key, seek};
-ghost use Rattle.rule.specs.Content.{HeldAt};
+ghost use Rattle.rule.specs.Words.{HeldAt};
 ghost use Rattle.table.specs.Meaning.{lifetimeOf, placeOf, gatewayOf};
 ghost use Rattle.table.specs.Soundness.{Sound};
 ghost use Rattle.lookups.specs.Told.{hasNumber, leftAt, nothing, toldOf, keyTold};

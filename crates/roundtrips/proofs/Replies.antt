@@ -15,7 +15,9 @@ use Rattle.rule.specs.Soundness.{EveryEntry, SoundEntry}
 use Rattle.rule.specs.Rule.{reply, signatureReply}
 use Rattle.rule.specs.Calls.{lands}
 use Rattle.rule.specs.Runs.{endOf}
-use Rattle.rule.specs.Content.{atCall, list, Lists, none-left, free, taken, itemForms}
+use Rattle.rule.specs.Words.{atCall}
+use Rattle.rule.specs.Rows.{list}
+use Rattle.rule.specs.Listing.{Lists, none-left, free, taken, itemForms}
 use Rattle.rule.proofs.PlaceLaws.{every-at, every-of}
 use Rattle.rule.proofs.RefusalLaws.{accepted}
 use Rattle.rule.proofs.SoundLaws.{sound-rule, sound-advance}

@@ -10,7 +10,7 @@ use Rattle.wire.specs.Values.{read, octetReads}
 use Rattle.wire.specs.Write.{string}
 use Rattle.wire.proofs.Laws.{byte-rule, number-rule, whole-of}
 use Rattle.wire.proofs.ByteLaws.{bytes-cons, be32-bytes, bytes-string}
-use Rattle.rule.specs.Order.{Begins, Carries}
+use Rattle.rule.specs.Words.{Begins, Carries}
 use Rattle.client.specs.Requests.{signRequest}
 use Rattle.client.specs.Promises.{Strings, none, one}
 use Rattle.client.proofs.WriterRules.{list-found, lock-found, unlock-found, sign-found}

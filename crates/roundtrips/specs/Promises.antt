@@ -14,8 +14,9 @@ use Rattle.rule.specs.Gateway.{Entry, Gateway, fresh}
 use Rattle.rule.specs.Rule.{reply, FAILURE, signatureReply}
 use Rattle.rule.specs.Calls.{Call, lands, call}
 use Rattle.rule.specs.Runs.{endOf}
-use Rattle.rule.specs.Order.{Begins, Carries}
-use Rattle.rule.specs.Content.{atCall, payloadOf, Lists, itemForms, SignRequest}
+use Rattle.rule.specs.Words.{Begins, Carries, atCall, payloadOf}
+use Rattle.rule.specs.Listing.{Lists, itemForms}
+use Rattle.rule.specs.Signing.{SignRequest}
 use Rattle.rule.specs.Comments.{TextComments, ByteBlobs, BytesIn}
 use Rattle.client.specs.Requests.{requestIdentities, signRequest, lockRequest, unlockRequest}
 use Rattle.readers.specs.Values.{listingSays}

@@ -22,8 +22,9 @@ use Rattle.rule.specs.Gateway.{Entry, Place, Gateway, locked, atClock, a
 use Rattle.rule.specs.Soundness.{fit}
 use Rattle.rule.specs.Rule.{Question, gate, check, Answer, SUCCESS, added, brought, entryOf, storing, adding}
 use Rattle.rule.specs.Calls.{lent, Call, Outcome, asks, lands, Result, follow, call}
-use Rattle.rule.specs.Order.{Begins}
-use Rattle.rule.specs.Content.{HeldAt, FreeAt, atCall, payloadOf, PastGate, add, add-constrained, addByte, AddRequest, madeBy, Put, MayStore, AddedOnly, AddedAlways, CheckAsks}
+use Rattle.rule.specs.Words.{Begins, HeldAt, Held, FreeAt, atCall, payloadOf, PastGate}
+use Rattle.rule.specs.Rows.{add, add-constrained}
+use Rattle.rule.specs.Adding.{addByte, AddRequest, madeBy, Put, MayStore, AddedOnly, AddedAlways, CheckAsks}
 use Rattle.rule.proofs.Cases.{true-not-false}
 use Rattle.rule.proofs.PlaceLaws.{every-at, seek-first, seek-none, found-at, absent-differs, Placed, replacing, anew, placed, no-place, place-inside}
 use Rattle.rule.proofs.Effects.{Storable}
@@ -67,14 +68,14 @@ free-place (some e) t = absurd (true-not-false (sym t))
 module _ (g : Gateway) (e : Entry) (i : ℕ) where
   where-put : Placed (e .blob) (g .places) i
       → ((old : Entry) × HeldAt g i old × (old .blob ≡ e .blob))
-      ⊎ (FreeAt g i × ((j : ℕ) → j < i → FreeAt g j → ⊥) × ((j : ℕ) (old : Entry) → HeldAt g j old → old .blob ≢ e .blob))
+      ⊎ (FreeAt g i × ((j : ℕ) → j < i → FreeAt g j → ⊥) × ((old : Entry) → Held g old → old .blob ≢ e .blob))
   where-put (replacing at) = let held = found-at (e .blob) (g .places) i at in inl (held .entry, held .there, held .is)
   where-put (anew absent at) =
       let first = seek-first isFree (g .places) i at in
       inr (
         (first .inside, free-place _ (first .passes)),
         (λ j before free. true-not-false (sym (ap isFree (free .1)) ∙ first .earlier j before)),
-        every-at (λ x. x .blob ≢ e .blob) (g .places) (absent-differs (e .blob) (g .places) absent),
+        (λ old (j, there). every-at (λ x. x .blob ≢ e .blob) (g .places) (absent-differs (e .blob) (g .places) absent) j old there),
       )
 
   put : Storable g e i → Put g (withEntry i e g) i e
@@ -89,12 +90,12 @@ module _ (g : Gateway) (e : Entry) (i : ℕ) where
         place = where-put p;
       }
 
--- a place that holds the blob, or a free one
+-- the blob is held, or a place is free
 abbrev Room : Gateway → List ℕ → Type 0
-Room g blob = ((i : ℕ) × (old : Entry) × HeldAt g i old × (old .blob ≡ blob)) ⊎ ((i : ℕ) × FreeAt g i)
+Room g blob = ((old : Entry) × Held g old × (old .blob ≡ blob)) ⊎ ((i : ℕ) × FreeAt g i)
 
 room-of : (g : Gateway) (blob : List ℕ) (i : ℕ) → Placed blob (g .places) i → Room g blob
-room-of g blob i (replacing at) = let held = found-at blob (g .places) i at in inl (i, held .entry, held .there, held .is)
+room-of g blob i (replacing at) = let held = found-at blob (g .places) i at in inl (held .entry, (i, held .there), held .is)
 room-of g blob i (anew absent at) = let first = seek-first isFree (g .places) i at in inr (i, (first .inside, free-place _ (first .passes)))
 
 may-store : (g : Gateway) (number reading : ℕ) (k : NewKey) (i : ℕ) → Storable g (newEntry number reading k) i → MayStore g k
@@ -154,7 +155,7 @@ room-place : (g : Gateway) (blob : List ℕ) → Room g blob → (i : ℕ) × (p
 room-place g blob room = by-place (placeFor blob (g .places)) refl
   where
     full : seek (holds blob) 0 (g .places) ≡ Nothing → seek isFree 0 (g .places) ≡ Nothing → Room g blob → ⊥
-    full absent none-free (inl (i, old, held, is)) = every-at (λ x. x .blob ≢ blob) (g .places) (absent-differs blob (g .places) absent) i old held is
+    full absent none-free (inl (old, (i, held), is)) = every-at (λ x. x .blob ≢ blob) (g .places) (absent-differs blob (g .places) absent) i old held is
     full absent none-free (inr (i, free)) = true-not-false (sym (ap isFree (free .1)) ∙ seek-none isFree 0 (g .places) none-free i (free .0))
 
     by-place : (f : Found) → placeFor blob (g .places) ≡ f → (i : ℕ) × (placeFor blob (g .places) ≡ At i)

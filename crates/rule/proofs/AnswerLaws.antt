@@ -5,7 +5,7 @@ use mathlib.Core.Option.{Option}
 use borrow.Author.Tests.{eq-eqb, ne-eqb}
 use Rattle.wire.specs.Steps.{so}
 use Rattle.rule.specs.Calls.{Numbered, forNumber, lent}
-use Rattle.rule.specs.Content.{CountsFor, NumberedAnswers}
+use Rattle.rule.specs.Refusals.{CountsFor, NumberedAnswers}
 
 counts-for : {A : Type 0} (given : Option (Numbered A)) (n : ℕ) → CountsFor given n (forNumber n given)
 unfolding forNumber so

@@ -23,8 +23,9 @@ use Rattle.rule.specs.Gateway.{Entry, Gateway, locked, seek, holds, plac
 use Rattle.rule.specs.Soundness.{fit}
 use Rattle.rule.specs.Rule.{Question, gate, check, confirmation, signature, Answer, Landing, reply, close, FAILURE, SUCCESS, Plan, land, fails, closes, listing, removing, removingAll, locking, unlocking, hashOf, signatureReply, signed, signingData, confirming, signing, entryOf, storing, adding}
 use Rattle.rule.specs.Calls.{lent, Call, asks, lands, Result, follow, call}
-use Rattle.rule.specs.Order.{Begins, Carries}
-use Rattle.rule.specs.Content.{addByte, HeldAt, atCall, payloadOf, PastGate, Row, list, add, add-constrained, remove, remove-all, sign, lock, unlock}
+use Rattle.rule.specs.Words.{Begins, Carries, HeldAt, atCall, payloadOf, PastGate}
+use Rattle.rule.specs.Rows.{Row, list, add, add-constrained, remove, remove-all, sign, lock, unlock}
+use Rattle.rule.specs.Adding.{addByte}
 use Rattle.rule.proofs.Cases.{so-cases, part-cases, number-cases, found-cases, added-cases, true-not-false}
 use Rattle.rule.proofs.PlaceLaws.{found-at}
 use Rattle.rule.proofs.Effects.{Storable}

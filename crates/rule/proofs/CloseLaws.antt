@@ -12,8 +12,9 @@ use Rattle.wire.specs.Steps.{so, part}
 use Rattle.rule.specs.Gateway.{Gateway, locked, found}
 use Rattle.rule.specs.Rule.{gate, reply, close, FAILURE, SUCCESS, Plan, listing, removingAll, signatureReply, signed, signingData, confirming, signing}
 use Rattle.rule.specs.Calls.{lent, Call, lands, Result, follow, call}
-use Rattle.rule.specs.Order.{Begins}
-use Rattle.rule.specs.Content.{atCall, payloadOf, PastGate, Row, list, add, add-constrained, remove, remove-all, sign, lock, unlock, SuccessOrFailure, Closes, no-blob, no-data, no-signature, CloseRule, SignFails, absent, denied, SignFailRule}
+use Rattle.rule.specs.Words.{Begins, atCall, payloadOf, PastGate}
+use Rattle.rule.specs.Rows.{Row, list, add, add-constrained, remove, remove-all, sign, lock, unlock, SuccessOrFailure}
+use Rattle.rule.specs.Signing.{Closes, no-blob, no-data, no-signature, CloseRule, SignFails, absent, denied, SignFailRule}
 use Rattle.rule.proofs.Cases.{part-cases, number-cases}
 use Rattle.rule.proofs.Plans.{asks-not-lands, refused-not-lands}
 use Rattle.rule.proofs.PlaceLaws.{every-at, every-of, absent-differs, differs-absent}
@@ -95,12 +96,12 @@ module _ (g : Gateway) (c : Call) (past : PastGate g c) (begins : Begins 13 (pay
   unfolding lent
   closing-closes is-bytes (no-key cut) = no-blob cut
   closing-closes is-bytes (no-order i e k allowed cut) =
-      no-data i e (k .there) (k .carries) (allowed-confirmed c e allowed) λ bytes flags request.
+      no-data e (i, k .there) (k .carries) (allowed-confirmed c e allowed) λ bytes flags request.
       let fits = accepted g c (past .accepted) .payload in
       let r = sign-out is-bytes (omega arith) request in
       cut (r .from) (r .to) flags (rw (one-carried (k .carries) (r .carries) .1) (r .order))
   closing-closes is-bytes (none-given i e from to flags k order allowed says) =
-      no-signature i e (cutOf (payloadOf c) from to) flags (k .there) (sign-in is-bytes begins (k .carries) order)
+      no-signature e (cutOf (payloadOf c) from to) flags (i, k .there) (sign-in is-bytes begins (k .carries) order)
       (allowed-confirmed c e allowed)
       (own-number (e .number) (c .answers .signature) none says)
 
@@ -113,12 +114,12 @@ module _ (g : Gateway) (c : Call) (past : PastGate g c) (begins : Begins 13 (pay
       rw (past-gate sign g c past state begins)
       (part-cases Close (stringAt (payloadOf c) 1) (λ _ _. refl) λ f t k read.
       absurd (cut (cutOf (payloadOf c) f t) (record { from = f; to = t; next = k; read = read; is = refl })))
-  closes-close is-bytes state (no-data i e held s confirmed cut) =
+  closes-close is-bytes state (no-data e (i, held) s confirmed cut) =
       rw (comes-to-data g c past state i e held begins s confirmed)
       (part-cases Close (stringAt (payloadOf c) (s .next .at)) (λ _ _. refl) λ f t k message.
       number-cases Close (numberAt (payloadOf c) (k .at)) (λ _ _. refl) λ flags end choice.
       absurd (cut (cutOf (payloadOf c) f t) flags (sign-in is-bytes begins s (record { next = k; end = end; message = message; choice = choice }))))
-  closes-close is-bytes state (no-signature i e bytes flags held request confirmed says) =
+  closes-close is-bytes state (no-signature e bytes flags (i, held) request confirmed says) =
       rw (comes-to-signer g c past state i e held none is-bytes request confirmed says)
 
 pub close-rule : CloseRule
@@ -150,16 +151,16 @@ module _ (g : Gateway) (c : Call) where
   failing-fails : Failing (lent (c .answers)) (atCall g c) (payloadOf c) → SignFails g c
   unfolding lent
   failing-fails (not-found v s nothing) =
-      absent v s (every-at (λ x. x .blob ≢ v) (atCall g c .places) (absent-differs v (atCall g c .places) nothing))
+      absent v s (λ e (i, held). every-at (λ x. x .blob ≢ v) (atCall g c .places) (absent-differs v (atCall g c .places) nothing) i e held)
   failing-fails (said-no i e k confirm says) =
-      denied i e (k .there) (k .carries) confirm (own-number (e .number) (c .answers .confirmation) false says)
+      denied e (i, k .there) (k .carries) confirm (own-number (e .number) (c .answers .confirmation) false says)
 
   fails-fail : PastGate g c → locked g ≡ false → Begins 13 (payloadOf c) → SignFails g c → call g c .outcome ≡ lands FAILURE
   unfolding signing confirming part found so follow
   fails-fail past state begins (absent v s others) =
-      let nothing = differs-absent v (atCall g c .places) (every-of (λ x. x .blob ≢ v) (atCall g c .places) others) in
+      let nothing = differs-absent v (atCall g c .places) (every-of (λ x. x .blob ≢ v) (atCall g c .places) (λ i e held. others e (i, held))) in
       rw (past-gate sign g c past state begins, s .read, s .is, nothing)
-  fails-fail past state begins (denied i e held s confirm says) =
+  fails-fail past state begins (denied e (i, held) s confirm says) =
       let no = numbered-answers (c .answers) .confirmations (e .number) .own false says in
       rw (comes-to-key g c past state i e held begins s, confirm, no)
 

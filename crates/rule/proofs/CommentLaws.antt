@@ -16,8 +16,9 @@ use Rattle.rule.specs.Soundness.{EveryEntry}
 use Rattle.rule.specs.Rule.{listing, removingAll}
 use Rattle.rule.specs.Calls.{lent, Call, Result, follow, call}
 use Rattle.rule.specs.Runs.{endOf}
-use Rattle.rule.specs.Order.{Begins}
-use Rattle.rule.specs.Content.{addByte, atCall, payloadOf, Row, list, add, add-constrained, remove, remove-all, sign, lock, unlock, AddRequest, madeBy}
+use Rattle.rule.specs.Words.{Begins, atCall, payloadOf}
+use Rattle.rule.specs.Rows.{Row, list, add, add-constrained, remove, remove-all, sign, lock, unlock}
+use Rattle.rule.specs.Adding.{addByte, AddRequest, madeBy}
 use Rattle.rule.specs.Comments.{CallsKeepText, CallsKeepBytes, BytesIn, TextFromFresh, BytesFromFresh}
 use Rattle.rule.proofs.PlaceLaws.{fewer-every, freed-fewer, lasting-frees, vacate-frees, set-every, set-none-fewer}
 use Rattle.rule.proofs.RowLaws.{bodyResult, rows-cases}

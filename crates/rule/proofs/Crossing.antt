@@ -4,14 +4,16 @@ use native.Mathlib.Omega.{arith}
 use mathlib.Core.Path.{_≡_, refl, sym, ap, _∙_, subst}
 use mathlib.Core.Bool.{Bool, true, false}
 use mathlib.Core.Option.{Option, none, some}
-use mathlib.Core.List.{List, [], _∷_, _++_}
+use mathlib.Core.List.{List, [], _∷_}
+use Rattle.wire.specs.Steps.{so}
 use Rattle.rule.specs.Gateway.{Gateway, advance}
 use Rattle.rule.specs.Rule.{Question, Answer, Plan, land, ask, rule}
 use Rattle.rule.specs.Calls.{given, lent, Frame, Call, refusal, refused, asks, lands, Result, follow, served, call}
-use Rattle.rule.specs.Runs.{heard, heardIn, greatest, Turn, turn, turnsFrom, endOf, landings, Oracle, Landed, alone, servedAlone, oneAtATime, oneAtATimeEnd}
-use Rattle.rule.specs.Order.{EveryAccepted, Agrees, asked, askedIn, settled, Keeps, AsOneAtATime, lentOr, ownAnswers, Needs, here, behind}
-use Rattle.rule.proofs.Cases.{given-cases}
+use Rattle.rule.specs.Runs.{Event, events, endOf, isAccepted, heard, heardIn, greatest, Turn, turn, turnsFrom, landings, asked, askedIn, Oracle, Landed, alone, servedAlone, oneAtATime, oneAtATimeEnd}
+use Rattle.rule.specs.Order.{EveryAccepted, Agrees, settled, Keeps, AsOneAtATime, lentOr, ownAnswers, AcceptedRule, Needs, here, behind}
+use Rattle.rule.proofs.Cases.{given-cases, true-not-false}
 use Rattle.rule.proofs.Clock.{advance-clock, advance-advance, advance-again, advance-heard}
+use Rattle.rule.proofs.PlaceLaws.{some-not-none}
 use Rattle.rule.proofs.Plans.{alone-has}
 use Rattle.rule.proofs.Effects.{Effect, rule-effect, effect-clock}
 
@@ -35,9 +37,9 @@ pub own-agrees : (c : Call) → Agrees (lent (c .answers)) (ownAnswers c)
 unfolding lentOr
 own-agrees c q a e = rw e
 
--- the greatest reading after a call, by its refusal
-abbrev pub heardBy : ℕ → Call → Option ℕ → ℕ
-heardBy m c o = given o (max m (c .reading)) λ n. m
+-- the event of a call, by what it gives
+abbrev pub eventBy : Call → Result → Event
+eventBy c r = record { by = c; outcome = r .outcome }
 
 module _ (g : Gateway) (c : Call) where
   abbrev pub planOf : Plan
@@ -62,6 +64,13 @@ module _ (g : Gateway) (c : Call) where
       → P none (landingResult (alone (ownAnswers c) planOf))
       → P (refusal g c) (call g c)
   own-cases P refuse asking landing = call-cases (ownAnswers c) P (λ _. own-agrees c) refuse asking (λ _. landing)
+
+pub accepted-rule : AcceptedRule
+unfolding isAccepted
+accepted-rule g c = (
+  own-cases g c (λ o r. isAccepted (r .outcome) ≡ true → o ≡ none) (λ n never. absurd (true-not-false (sym never))) (λ q _ _. refl) (λ _. refl),
+  own-cases g c (λ o r. o ≡ none → isAccepted (r .outcome) ≡ true) (λ n never. absurd (some-not-none never)) (λ q _ _. refl) (λ _. refl),
+)
 
 -- ## The relation
 
@@ -104,20 +113,19 @@ module _ (frameOf : Call → Frame) (oracleOf : Call → Oracle) where
   unfolding oneAtATime oneAtATimeEnd
   one-more g t ts b reading end x s e h = record { replies = rw s (λ i. e i ∷ h .replies i); end-state = rw s (h .end-state) }
 
-  abbrev Kept : Gateway → List Call → Type 0
+  abbrev Kept : List Event → Type 0
   Kept = EveryAccepted (Keeps frameOf oracleOf)
 
-  abbrev Crosses : List Call → Bool → ℕ → Gateway → Gateway → Type 0
-  Crosses cs b m g h = Kept g cs → AsAlone h (turnsFrom m g cs) (askedIn b g cs) (heardIn m g cs) (endOf g cs)
+  -- events that start here, where other is that gateway in the one-at-a-time rule
+  abbrev Crosses : Bool → ℕ → Gateway → List Event → Gateway → Type 0
+  Crosses b m other es end = AsAlone other (turnsFrom m es) (askedIn b es) (heardIn m es) end
 
   -- the run from a call on, by what the call gives
   From : List Call → Bool → ℕ → Gateway → Call → Option ℕ → Result → Type 0
-  From cs b m h c o r =
-      Kept (r .gateway) cs → AsAlone h (turn (heardBy m c o) c (r .outcome) ++ turnsFrom (heardBy m c o) (r .gateway) cs)
-      (askedIn (asked b (r .outcome)) (r .gateway) cs) (heardIn (heardBy m c o) (r .gateway) cs) (endOf (r .gateway) cs)
+  From cs b m h c o r = Kept (events (r .gateway) cs) → Crosses b m h (eventBy c r ∷ events (r .gateway) cs) (endOf (r .gateway) cs)
 
-  crossing : (cs : List Call) (b : Bool) (m : ℕ) (g h : Gateway) → Together b m g h → Crosses cs b m g h
-  unfolding turnsFrom heardIn endOf askedIn oneAtATime oneAtATimeEnd servedAlone heard turn asked From
+  crossing : (cs : List Call) (b : Bool) (m : ℕ) (g h : Gateway) → Together b m g h → Kept (events g cs) → Crosses b m h (events g cs) (endOf g cs)
+  unfolding events turnsFrom heardIn endOf askedIn oneAtATime oneAtATimeEnd servedAlone heard isAccepted so turn asked From
   crossing [] b m g h t = λ _. record { replies = refl; end-state = t .same }
   crossing (c ∷ cs) b m g h t = λ keeps.
       let now : ℕ = max m (c .reading) in
@@ -125,23 +133,24 @@ module _ (frameOf : Call → Frame) (oracleOf : Call → Oracle) where
       let clock : lone .gateway .clock ≡ advance (c .reading) g .clock
       = effect-clock (alone-has (Effect (advance (c .reading) g)) (oracleOf c) (planOf g c) (rule-effect (advance (c .reading) g) (c .frame .payload))) in
       let landed : now ≤ lone .gateway .clock = rw clock (together-clock b m (c .reading) g h t) in
+      let kept : refusal g c ≡ none → Keeps frameOf oracleOf c = λ e. keeps .0 (accepted-rule g c .1 e) in
       call-cases g c (oracleOf c) (From cs b m h c)
-      (λ e. keeps .0 e .one-answer)
+      (λ e. kept e .one-answer)
       (λ n. crossing cs b m g h t)
       (λ q _. crossing cs true now (advance (c .reading) g) h (together-asked b m (c .reading) g h t))
       (λ e rest.
       one-more h (record { by = c; reading = now; landing = lone .landing }) _ _ _ _ lone
-      (λ i. alone (oracleOf c) (rule (sym (together-advanced b m (c .reading) g h t) i) (sym (keeps .0 e .frame) i .payload)))
+      (λ i. alone (oracleOf c) (rule (sym (together-advanced b m (c .reading) g h t) i) (sym (kept e .frame) i .payload)))
       refl
       (crossing cs false now (lone .gateway) (lone .gateway) (together now (lone .gateway) landed) rest))
       (keeps .1)
 
   -- whatever oracle the answers of each call agree with
-  pub any-order : (g : Gateway) (cs : List Call) → EveryAccepted (Keeps frameOf oracleOf) g cs → AsOneAtATime frameOf oracleOf g cs
+  pub any-order : (g : Gateway) (cs : List Call) → EveryAccepted (Keeps frameOf oracleOf) (events g cs) → AsOneAtATime frameOf oracleOf g (events g cs) (endOf g cs)
   any-order g cs keeps =
       let h = crossing cs false 0 g g (together 0 g zero-le) keeps in
       record {
         replies = h .replies;
-        end-states = rw (h .end-state) (advance-settled (askedIn false g cs) (greatest g cs) _);
+        end-states = rw (h .end-state) (advance-settled (askedIn false (events g cs)) (greatest (events g cs)) _);
         exactly = h .end-state;
       }

@@ -1,23 +1,24 @@
 -- Demand 3 in its forms: as lent, by request, without refused calls, at the calls' own readings.
 use Prim.Native.Nat.{ℕ, _≤_, max}
 use native.Mathlib.Omega.{arith}
-use mathlib.Core.Path.{_≡_, refl, ap}
-use mathlib.Core.Option.{none, some}
+use mathlib.Core.Path.{_≡_, refl, ap, subst}
+use mathlib.Core.Bool.{true, false}
 use mathlib.Core.List.{List, [], _∷_, _++_}
+use Rattle.wire.specs.Steps.{so}
 use Rattle.rule.specs.Gateway.{Gateway, advance}
 use Rattle.rule.specs.Rule.{Landing}
-use Rattle.rule.specs.Calls.{Call, refusal, lands, call}
-use Rattle.rule.specs.Runs.{heard, heardIn, Turn, turn, turnsFrom, endOf, alone, servedAlone, oneAtATime}
-use Rattle.rule.specs.Order.{EveryAccepted, EveryTurn, Keeps, ownFrame, ownAnswers, AsLent, AloneFinds, Demand3, acceptedOf, RefusedDropOut, NeverFall, OwnReadings}
-use Rattle.rule.proofs.Cases.{given-cases}
+use Rattle.rule.specs.Calls.{Call, Outcome, refused, asks, lands, call}
+use Rattle.rule.specs.Runs.{Event, events, endOf, callsOf, RunsTo, Every, isAccepted, acceptedIn, heard, heardIn, Turn, turn, turnsFrom, alone, servedAlone, oneAtATime}
+use Rattle.rule.specs.Order.{EveryAccepted, Keeps, ownFrame, ownAnswers, AsLent, AloneFinds, Demand3, RefusedUnread, RefusedDropOut, NeverFall, OwnReadings}
+use Rattle.rule.proofs.Cases.{so-cases, true-not-false}
 use Rattle.rule.proofs.Plans.{asks-not-lands, refused-not-lands}
-use Rattle.rule.proofs.Crossing.{heardBy, planOf, own-cases, own-agrees, any-order}
-use Rattle.rule.proofs.Leavings.{refusal-leaves}
+use Rattle.rule.proofs.Crossing.{eventBy, planOf, own-cases, own-agrees, any-order}
 use Rattle.rule.proofs.RowLaws.{same-landing}
 
 -- ## The run as the one-at-a-time rule
 
-own-kept : (g : Gateway) (cs : List Call) → EveryAccepted (Keeps ownFrame ownAnswers) g cs
+own-kept : (g : Gateway) (cs : List Call) → EveryAccepted (Keeps ownFrame ownAnswers) (events g cs)
+unfolding events
 own-kept g [] = tt
 own-kept g (c ∷ cs) = (λ _. record { frame = refl; one-answer = own-agrees c }, own-kept (call g c .gateway) cs)
 
@@ -27,55 +28,69 @@ as-lent g cs = any-order ownFrame ownAnswers g cs (own-kept g cs)
 pub demand-3 : Demand3
 demand-3 frames oracles g cs keeps = any-order (λ c. frames (c .request)) (λ c. oracles (c .request)) g cs keeps
 
+-- ## Events that are those of a run have what the run has
+
+pub carried : (P : List Event → Gateway → Type 0) (g : Gateway) (es : List Event) (end : Gateway) → RunsTo g es end
+    → P (events g (callsOf es)) (endOf g (callsOf es)) → P es end
+carried P g es end runs h = subst (λ (es : List Event). P es end) (runs .events-are) (subst (P (events g (callsOf es))) (runs .end-is) h)
+
 -- ## Refused calls drop out
 
--- two runs come to the same
-record Alike (m : ℕ) (g : Gateway) (xs cs : List Call) : Type 0 where
-  same-turns : turnsFrom m g xs ≡ turnsFrom m g cs
-  same-end : endOf g xs ≡ endOf g cs
-  same-heard : heardIn m g xs ≡ heardIn m g cs
+-- a refused call is not read
+record Unread (m : ℕ) (few es : List Event) : Type 0 where
+  same-turns : turnsFrom m few ≡ turnsFrom m es
+  same-heard : heardIn m few ≡ heardIn m es
 
-alike-by-call : (m : ℕ) (g : Gateway) (c : Call) (xs cs : List Call) → Alike (heard m g c) (call g c .gateway) xs cs → Alike m g (c ∷ xs) (c ∷ cs)
-unfolding turnsFrom endOf heardIn
-alike-by-call m g c xs cs a = record { same-turns = rw (a .same-turns); same-end = a .same-end; same-heard = a .same-heard }
+unread : (es : List Event) (m : ℕ) → Unread m (acceptedIn es) es
+unfolding acceptedIn isAccepted turnsFrom turn heardIn heard so
+unread [] m = record { same-turns = refl; same-heard = refl }
+unread (e ∷ es) m =
+    so-cases (λ few. Unread m few (e ∷ es)) (isAccepted (e .outcome))
+    (λ _. let rest = unread es (heard m e) in record { same-turns = ap (λ ts. turn (heard m e) (e .by) (e .outcome) ++ ts) (rest .same-turns); same-heard = rest .same-heard })
+    (λ not-accepted. without (e .outcome) not-accepted (unread es m))
+  where
+    without : (o : Outcome) → isAccepted o ≡ false → Unread m (acceptedIn es) es → Unread m (acceptedIn es) (record { by = e .by; outcome = o } ∷ es)
+    without (refused n) _ rest = record { same-turns = rest .same-turns; same-heard = rest .same-heard }
+    without (asks q) never rest = absurd (true-not-false never)
+    without (lands l) never rest = absurd (true-not-false never)
 
-alike-without : (m : ℕ) (g : Gateway) (c : Call) (n : ℕ) (xs cs : List Call) → refusal g c ≡ some n → Alike m g xs cs → Alike m g xs (c ∷ cs)
-unfolding turnsFrom endOf heardIn heard turn
-alike-without m g c n xs cs e a =
-    let same = refusal-leaves g c n e in
-    record { same-turns = rw (same, e) (a .same-turns); same-end = rw same (a .same-end); same-heard = rw (same, e) (a .same-heard) }
+pub refused-unread : RefusedUnread
+refused-unread es = let u = unread es 0 in record { landings-stay = u .same-turns; greatest-stays = u .same-heard }
 
-drop-out : (m : ℕ) (g : Gateway) (cs : List Call) → Alike m g (acceptedOf g cs) cs
-unfolding acceptedOf
-drop-out m g [] = record { same-turns = refl; same-end = refl; same-heard = refl }
-drop-out m g (c ∷ cs) =
-    given-cases (λ xs. Alike m g xs (c ∷ cs)) (refusal g c)
-    (λ _. alike-by-call m g c _ cs (drop-out (heard m g c) (call g c .gateway) cs))
-    (λ n e. rw (refusal-leaves g c n e) (alike-without m g c n _ cs e (drop-out m g cs)))
+refused-stays : (g : Gateway) (c : Call) → isAccepted (call g c .outcome) ≡ false → call g c .gateway ≡ g
+unfolding isAccepted
+refused-stays g c =
+    own-cases g c (λ o r. isAccepted (r .outcome) ≡ false → r .gateway ≡ g)
+    (λ n _. refl)
+    (λ q _ never. absurd (true-not-false never))
+    (λ never. absurd (true-not-false never))
 
 pub refused-drop-out : RefusedDropOut
-refused-drop-out g cs = let a = drop-out 0 g cs in record { landings-stay = a .same-turns; end-stays = a .same-end; greatest-stays = a .same-heard }
+unfolding events endOf acceptedIn
+refused-drop-out g [] = record { events-are = refl; end-is = refl }
+refused-drop-out g (c ∷ cs) =
+    so-cases (λ few. RunsTo g few (endOf (call g c .gateway) cs)) (isAccepted (call g c .outcome))
+    (λ _. let rest = refused-drop-out (call g c .gateway) cs in record { events-are = ap (λ es. eventBy c (call g c) ∷ es) (rest .events-are); end-is = rest .end-is })
+    (λ not-accepted. rw (refused-stays g c not-accepted) (refused-drop-out g cs))
 
 -- ## Readings that never fall
 
 abbrev Own : Turn → Type 0
 Own t = t .reading ≡ t .by .reading
 
-own-from : (cs : List Call) (m : ℕ) (g : Gateway) → NeverFall m g cs → EveryTurn Own (turnsFrom m g cs)
-unfolding turnsFrom heard turn NeverFall
-own-from [] m g _ = tt
-own-from (c ∷ cs) m g (low, rest) =
-    own-cases g c
-    (λ o r.
-    (o ≡ none → m ≤ c .reading) → NeverFall (heardBy m c o) (r .gateway) cs
-    → EveryTurn Own (turn (heardBy m c o) c (r .outcome) ++ turnsFrom (heardBy m c o) (r .gateway) cs))
-    (λ n _. own-from cs m g)
-    (λ q _ _. own-from cs (max m (c .reading)) (advance (c .reading) g))
-    (λ low rest. let l : m ≤ c .reading = low refl in (omega arith, own-from cs (max m (c .reading)) _ rest))
-    low rest
+own-from : (es : List Event) (m : ℕ) → NeverFall m es → Every Own (turnsFrom m es)
+unfolding isAccepted turnsFrom turn heard so NeverFall
+own-from [] m _ = tt
+own-from (e ∷ es) m (low, rest) = by (e .outcome) low (own-from es (heard m e) rest)
+  where
+    by : (o : Outcome) → (isAccepted o ≡ true → m ≤ e .by .reading) → Every Own (turnsFrom (heard m (record { by = e .by; outcome = o })) es)
+        → Every Own (turnsFrom m (record { by = e .by; outcome = o } ∷ es))
+    by (refused n) low rest = rest
+    by (asks q) low rest = rest
+    by (lands l) low rest = let h : m ≤ e .by .reading = low refl in (omega arith, rest)
 
 pub own-readings : OwnReadings
-own-readings g cs = own-from cs 0 g
+own-readings es = own-from es 0
 
 pub alone-finds : AloneFinds
 unfolding oneAtATime servedAlone

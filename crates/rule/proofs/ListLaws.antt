@@ -7,7 +7,8 @@ use Rattle.wire.specs.Write.{string}
 use Rattle.rule.specs.Gateway.{Entry, Place}
 use Rattle.rule.specs.Rule.{item, live, items, listed, listing}
 use Rattle.rule.specs.Calls.{follow}
-use Rattle.rule.specs.Content.{list, Lists, none-left, free, taken, itemForms, ListRule}
+use Rattle.rule.specs.Rows.{list}
+use Rattle.rule.specs.Listing.{Lists, none-left, free, taken, itemForms, ListRule}
 use Rattle.rule.proofs.RowLaws.{past-gate}
 
 lists-live : {ps : List Place} {es : List Entry} → Lists ps es → live ps ≡ es

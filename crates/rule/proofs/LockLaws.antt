@@ -14,8 +14,9 @@ use Rattle.wire.proofs.Format.{part-length}
 use Rattle.rule.specs.Gateway.{Gateway, advance, atClock, withLock}
 use Rattle.rule.specs.Rule.{SUCCESS, Plan, locking, unlocking}
 use Rattle.rule.specs.Calls.{lent, Call, lands, follow, call}
-use Rattle.rule.specs.Order.{Begins, Carries}
-use Rattle.rule.specs.Content.{atCall, payloadOf, lock, unlock, LockRule, LockHolds, UnlockRule, UnlockOpens}
+use Rattle.rule.specs.Words.{Begins, Carries, atCall, payloadOf}
+use Rattle.rule.specs.Rows.{lock, unlock}
+use Rattle.rule.specs.Locking.{LockRule, LockHolds, UnlockRule, UnlockOpens}
 use Rattle.rule.proofs.Cases.{so-cases, part-cases}
 use Rattle.rule.proofs.RequestLaws.{one-carried}
 use Rattle.rule.proofs.RowLaws.{past-gate, OnSuccess, failure-shows, success-shows}

@@ -3,7 +3,7 @@ use Prim.Native.Nat.{ℕ, max, zero-le}
 use mathlib.Core.Path.{_≡_, refl, ap}
 use mathlib.Core.Bool.{Bool, true, false}
 use mathlib.Core.Option.{Option, none}
-use mathlib.Core.List.{List, [], _∷_, _++_}
+use mathlib.Core.List.{List, [], _∷_}
 use borrow.Author.Tests.{ltb-true, lt-ltb, eqb-true}
 use lib.ListN.{length}
 use lib.Dec.{ltb, eqb}
@@ -11,13 +11,14 @@ use Rattle.wire.specs.Steps.{so}
 use Rattle.wire.specs.Read.{cutOf, same, stringAt}
 use Rattle.rule.specs.Gateway.{Gateway, locked, opened, advance}
 use Rattle.rule.specs.Rule.{Question, gate, Answer, Landing, FAILURE, SUCCESS, Plan, land, ask, fails, unlocking, gated, row, table, rule}
-use Rattle.rule.specs.Calls.{given, Call, asks, Result, call}
-use Rattle.rule.specs.Runs.{heard, heardIn, greatest, Turn, turn, turnsFrom, endOf, Landed, alone}
-use Rattle.rule.specs.Order.{EveryTurn, settled, ownAnswers, Begins, NoUnlocking, EveryQuestion, someAccepted, WhileLocked, BetweenLockAndUnlock, Needs, here, behind}
+use Rattle.rule.specs.Calls.{Call, asks, Result, call}
+use Rattle.rule.specs.Runs.{Event, events, endOf, Every, isAccepted, heard, heardIn, greatest, turn, turnsFrom, someAccepted, Landed, alone}
+use Rattle.rule.specs.Order.{settled, ownAnswers, NoUnlocking, EveryQuestion, WhileLocked, BetweenLockAndUnlock, Needs, here, behind}
+use Rattle.rule.specs.Words.{Begins}
 use Rattle.rule.proofs.Cases.{so-cases, part-cases}
 use Rattle.rule.proofs.Clock.{advance-lock}
 use Rattle.rule.proofs.Plans.{EveryLanding, alone-has, refused-not-asks}
-use Rattle.rule.proofs.Crossing.{landingResult, heardBy, planOf, own-cases, Together, together, together-asked, advance-settled}
+use Rattle.rule.proofs.Crossing.{landingResult, eventBy, planOf, own-cases, Together, together, together-asked, advance-settled}
 use Rattle.rule.proofs.Leavings.{lands-not-asks}
 use Rattle.rule.proofs.LockLaws.{lock-holds}
 
@@ -99,30 +100,23 @@ module _ (g : Gateway) (h : locked g ≡ true) where
 locked-advance : (r : ℕ) (g : Gateway) → locked g ≡ true → locked (advance r g) ≡ true
 locked-advance r g h = rw (advance-lock r g) h
 
-record Shut (before : Gateway) (ts : List Turn) (b : Bool) (reading : ℕ) (end : Gateway) (questions : Type 0) : Type 0 where
-  all-fail : EveryTurn (λ t. t .landing ≡ FAILURE) ts
-  exactly : end ≡ settled b reading before
-  only-gate-7 : questions
+record Shut (b : Bool) (m : ℕ) (before : Gateway) (es : List Event) (end : Gateway) : Type 0 where
+  all-fail : Every (λ t. t .landing ≡ FAILURE) (turnsFrom m es)
+  exactly : end ≡ settled (someAccepted b es) (heardIn m es) before
+  only-gate-7 : EveryQuestion (λ c. Gate7 (c .frame .payload)) es
 
-abbrev Questions : Gateway → List Call → Type 0
-Questions = EveryQuestion (λ c. Gate7 (c .frame .payload))
+-- the run from a gateway on, and from a call on by what the call gives
+abbrev Run : List Call → Bool → ℕ → Gateway → Gateway → Type 0
+Run cs b m g before = NoUnlocking (turnsFrom m (events g cs)) → Shut b m before (events g cs) (endOf g cs)
 
--- the run from a call on, by what the call gives
 From : List Call → Bool → ℕ → Gateway → Call → Option ℕ → Result → Type 0
 From cs b m before c o r =
-    NoUnlocking (turn (heardBy m c o) c (r .outcome) ++ turnsFrom (heardBy m c o) (r .gateway) cs)
-    → Shut before (turn (heardBy m c o) c (r .outcome) ++ turnsFrom (heardBy m c o) (r .gateway) cs)
-    (someAccepted (given o true λ n. b) (r .gateway) cs) (heardIn (heardBy m c o) (r .gateway) cs) (endOf (r .gateway) cs)
-    (((q : Question) → r .outcome ≡ asks q → Gate7 (c .frame .payload) q) × Questions (r .gateway) cs)
-
-abbrev Run : List Call → Bool → ℕ → Gateway → Gateway → Type 0
-Run cs b m g before =
-    NoUnlocking (turnsFrom m g cs) → Shut before (turnsFrom m g cs) (someAccepted b g cs) (heardIn m g cs) (endOf g cs) (Questions g cs)
+    NoUnlocking (turnsFrom m (eventBy c r ∷ events (r .gateway) cs)) → Shut b m before (eventBy c r ∷ events (r .gateway) cs) (endOf (r .gateway) cs)
 
 asked-while-locked : (cs : List Call) (b : Bool) (m : ℕ) (g before : Gateway) (c : Call) (q : Question) → Gate7 (c .frame .payload) q
     → Run cs true (max m (c .reading)) g before
     → From cs b m before c none (record { outcome = asks q; gateway = g })
-unfolding From turn
+unfolding From turnsFrom heardIn someAccepted heard isAccepted so turn
 asked-while-locked cs b m g before c q gated run no-unlocking =
     let after = run no-unlocking in
     record { all-fail = after .all-fail; exactly = after .exactly; only-gate-7 = (λ p e. let same : q ≡ p = cc in rw same at gated, after .only-gate-7) }
@@ -130,7 +124,7 @@ asked-while-locked cs b m g before c q gated run no-unlocking =
 landed-while-locked : (cs : List Call) (b : Bool) (m : ℕ) (g before : Gateway) (c : Call) (x : Landed) → LockedLanding g (c .frame .payload) (x .landing) (x .gateway)
     → Run cs true (max m (c .reading)) g before
     → From cs b m before c none (landingResult x)
-unfolding From turn
+unfolding From turnsFrom heardIn someAccepted heard isAccepted so turn
 landed-while-locked cs b m g before c x (unlocks begins s) run no-unlocking = absurd (no-unlocking .0 (begins, s))
 landed-while-locked cs b m g before c x (stays f e) run no-unlocking =
     rw e
@@ -138,7 +132,7 @@ landed-while-locked cs b m g before c x (stays f e) run no-unlocking =
     record { all-fail = (f, after .all-fail); exactly = after .exactly; only-gate-7 = (λ q never. absurd (lands-not-asks _ q never), after .only-gate-7) })
 
 stays-locked : (cs : List Call) (b : Bool) (m : ℕ) (g before : Gateway) → Together b m g before → locked g ≡ true → Run cs b m g before
-unfolding turnsFrom heardIn endOf someAccepted heard turn From
+unfolding events turnsFrom heardIn endOf someAccepted heard isAccepted so turn From
 stays-locked [] b m g before t h = λ _. record { all-fail = tt; exactly = t .same; only-gate-7 = tt }
 stays-locked (c ∷ cs) b m g before t h =
     let now = advance (c .reading) g in
@@ -157,7 +151,7 @@ while-locked g cs h no-unlocking =
     let run = stays-locked cs false 0 g g (together 0 g zero-le) h no-unlocking in
     record {
       all-fail = run .all-fail;
-      only-expiry = rw (run .exactly) (advance-settled (someAccepted false g cs) (greatest g cs) g);
+      only-expiry = rw (run .exactly) (advance-settled (someAccepted false (events g cs)) (greatest (events g cs)) g);
       exactly = run .exactly;
       only-gate-7 = run .only-gate-7;
     }

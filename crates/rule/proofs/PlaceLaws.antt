@@ -126,7 +126,7 @@ pub data AfterSet (ps : List Place) (i : ℕ) (p : Place) (j : ℕ) (x : Entry) 
   put : j ≡ i → p ≡ some x → AfterSet ps i p j x
   kept : j ≢ i → Holds ps j x → AfterSet ps i p j x
 
-set-holds : (ps : List Place) (i : ℕ) (p : Place) (j : ℕ) (x : Entry) → Holds (set ps i p) j x → AfterSet ps i p j x
+pub set-holds : (ps : List Place) (i : ℕ) (p : Place) (j : ℕ) (x : Entry) → Holds (set ps i p) j x → AfterSet ps i p j x
 set-holds ps i p j x h = by-place (eqb j i) refl
   where
     by-place : (b : Bool) → eqb j i ≡ b → AfterSet ps i p j x
@@ -136,6 +136,14 @@ set-holds ps i p j x h = by-place (eqb j i) refl
         let w : i < length ps = rw (length-set ps i p) at (holds-within (set ps i p) i x k) in
         put e (sym (getD-set-same ps i p none w) ∙ k)
     by-place false t = let n = eqb-false j i t in kept n (sym (getD-set-other ps i j p none n) ∙ h)
+
+-- what another place than the set one holds, it keeps
+pub set-elsewhere : (ps : List Place) (i j : ℕ) (p : Place) (e : Entry) {X : Type 0} → Holds ps i e → (Holds ps j e → X) → Holds (set ps j p) i e ⊎ X
+set-elsewhere ps i j p e {X} held there = by-place (eqb i j) refl
+  where
+    by-place : (b : Bool) → eqb i j ≡ b → Holds (set ps j p) i e ⊎ X
+    by-place true t = let same : i ≡ j = eqb-true i j t in inr (there (rw same at held))
+    by-place false t = inl (getD-set-other ps j i p none (eqb-false i j t) ∙ held)
 
 pub set-every : (P : Entry → Type 0) (ps : List Place) (i : ℕ) (e : Entry) → P e → EveryEntry P ps → EveryEntry P (set ps i (some e))
 set-every P ps i e new all = every-of P (set ps i (some e)) (λ j x h. old-or-new j x (set-holds ps i (some e) j x h))

@@ -12,7 +12,7 @@ use Rattle.wire.specs.Steps.{so}
 use Rattle.rule.specs.Gateway.{Gateway}
 use Rattle.rule.specs.Soundness.{Sound, sound}
 use Rattle.rule.specs.Calls.{Numbered, lentLength, refusalOf, refusal}
-use Rattle.rule.specs.Content.{RefusalRule}
+use Rattle.rule.specs.Refusals.{RefusalRule}
 use Rattle.rule.proofs.SoundLaws.{sound-rule}
 
 not-sound : (g : Gateway) → (Sound g → ⊥) → sound g ≡ false

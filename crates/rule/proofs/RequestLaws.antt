@@ -35,8 +35,9 @@ use Rattle.wire.proofs.Strings.{lies-at, lies-cut}
 use Rattle.keys.proofs.SettleLaws.{walk-rule}
 use Rattle.rule.specs.Gateway.{NewKey}
 use Rattle.rule.specs.Rule.{brought}
-use Rattle.rule.specs.Order.{Begins, Carries}
-use Rattle.rule.specs.Content.{LimitForm, plain, constrained, AddRequest, addByte, commentSpan, addedOf, AdditionRule, SignRequest}
+use Rattle.rule.specs.Words.{Begins, Carries}
+use Rattle.rule.specs.Adding.{LimitForm, plain, constrained, AddRequest, addByte, commentSpan, addedOf, AdditionRule}
+use Rattle.rule.specs.Signing.{SignRequest}
 use Rattle.rule.proofs.Cases.{part-cases}
 
 -- ## A payload and its first byte

@@ -12,8 +12,8 @@ use Rattle.wire.specs.Steps.{so}
 use Rattle.rule.specs.Gateway.{Gateway, locked, opened, advance, atClock}
 use Rattle.rule.specs.Rule.{Question, gate, Landing, FAILURE, SUCCESS, Plan, land, fails, listing, adding, removing, removingAll, signing, locking, unlocking, gated, row, table, rule}
 use Rattle.rule.specs.Calls.{lent, Call, refusal, Outcome, refused, asks, lands, Result, follow, served, call}
-use Rattle.rule.specs.Order.{Begins}
-use Rattle.rule.specs.Content.{atCall, payloadOf, PastGate, Row, list, add, add-constrained, remove, remove-all, sign, lock, unlock, RowRule, NoRow}
+use Rattle.rule.specs.Words.{Begins, atCall, payloadOf, PastGate}
+use Rattle.rule.specs.Rows.{Row, list, add, add-constrained, remove, remove-all, sign, lock, unlock, RowRule, NoRow}
 use Rattle.rule.proofs.Cases.{so-cases, given-cases, not-true}
 use Rattle.rule.proofs.Plans.{asks-not-lands, refused-not-lands, refused-not-asks, EveryLanding, follow-has}
 use Rattle.rule.proofs.Effects.{success-not-failure}

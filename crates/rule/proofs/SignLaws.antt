@@ -15,8 +15,9 @@ use Rattle.wire.specs.Write.{string}
 use Rattle.rule.specs.Gateway.{Entry, Gateway, locked, found}
 use Rattle.rule.specs.Rule.{Question, gate, confirmation, signature, Answer, reply, hashOf, signatureReply, signed, signingData, confirming, signing}
 use Rattle.rule.specs.Calls.{Numbered, forNumber, lent, Call, asks, lands, Result, follow, call}
-use Rattle.rule.specs.Order.{Begins, Carries}
-use Rattle.rule.specs.Content.{HeldAt, atCall, payloadOf, PastGate, sign, SignRequest, HashTable, Confirmed, SignatureAsks, ConfirmationAsks, SignsOnly, SignsAlways}
+use Rattle.rule.specs.Words.{Begins, Carries, HeldAt, Held, atCall, payloadOf, PastGate}
+use Rattle.rule.specs.Rows.{sign}
+use Rattle.rule.specs.Signing.{SignRequest, HashTable, Confirmed, SignatureAsks, ConfirmationAsks, SignsOnly, SignsAlways}
 use Rattle.rule.proofs.Cases.{so-cases}
 use Rattle.rule.proofs.PlaceLaws.{some-not-none, held-found}
 use Rattle.rule.proofs.RefusalLaws.{accepted}
@@ -57,7 +58,7 @@ signature-asks g c n from to hash bytes e = by-row (asks-in g c (signature n fro
   where
     Asked : Type 0
     Asked =
-        PastGate g c × (locked g ≡ false) × (i : ℕ) × (e : Entry) × (bytes : List ℕ) × (flags : ℕ) × HeldAt (atCall g c) i e × (e .number ≡ n)
+        PastGate g c × (locked g ≡ false) × (e : Entry) × (bytes : List ℕ) × (flags : ℕ) × Held (atCall g c) e × (e .number ≡ n)
         × SignRequest (payloadOf c) (e .blob) bytes flags × (from ≡ 1 + length (string (e .blob)) + 4) × (to ≡ from + length bytes)
         × HashTable flags hash × Confirmed c e
 
@@ -83,11 +84,10 @@ signature-asks g c n from to hash bytes e = by-row (asks-in g c (signature n fro
         let places = data-places (key .carries) order in (
           past,
           state,
-          i,
           x,
           cutOf (payloadOf c) f t,
           flags,
-          key .there,
+          (i, key .there),
           (cc),
           sign-in bytes begins (key .carries) order,
           same-from ∙ places .start,
@@ -110,12 +110,12 @@ signs-only g c bytes begins e other =
     (λ i x _ _ never. absurd (asks-not-lands _ _ never))
     (λ i x f t flags _ _ _ never. absurd (asks-not-lands _ _ never))
     (λ i x f t flags blob key order allowed says is.
-    (i, x, blob, key .there, key .carries, own-number (x .number) (c .answers .signature) (some blob) says, same-bytes is, allowed-confirmed c x allowed))
+    (x, blob, (i, key .there), key .carries, own-number (x .number) (c .answers .signature) (some blob) says, same-bytes is, allowed-confirmed c x allowed))
     (rw result at e)
   where
     Out : Result → Type 0
     Out r =
-        r .outcome ≡ lands (reply bytes) → (i : ℕ) × (e : Entry) × (blob : List ℕ) × HeldAt (atCall g c) i e × Carries (e .blob) (payloadOf c)
+        r .outcome ≡ lands (reply bytes) → (e : Entry) × (blob : List ℕ) × Held (atCall g c) e × Carries (e .blob) (payloadOf c)
         × (c .answers .signature ≡ some (record { number = e .number; answer = some blob })) × (bytes ≡ string (14 ∷ string blob)) × Confirmed c e
 
     same-bytes : {sent : List ℕ} → lands (reply sent) ≡ lands (reply bytes) → bytes ≡ sent
@@ -162,7 +162,7 @@ module _ (g : Gateway) (c : Call) (past : PastGate g c) (state : locked g ≡ fa
 
 pub signs-always : SignsAlways
 unfolding signed signatureReply follow
-signs-always g c i e bytes blob flags is-bytes past state held request confirmed says =
+signs-always g c e bytes blob flags is-bytes past state (i, held) request confirmed says =
     rw (comes-to-signer g c past state i e held (some blob) is-bytes request confirmed says)
 
 -- ## What is confirmed
@@ -173,7 +173,7 @@ confirmation-asks g c n e = by-row (asks-in g c (confirmation n) (λ class never
     Asked : Type 0
     Asked =
         PastGate g c × (locked g ≡ false) × Begins 13 (payloadOf c)
-        × (i : ℕ) × (e : Entry) × HeldAt (atCall g c) i e × (e .number ≡ n) × (e .confirm ≡ true) × Carries (e .blob) (payloadOf c)
+        × (e : Entry) × Held (atCall g c) e × (e .number ≡ n) × (e .confirm ≡ true) × Carries (e .blob) (payloadOf c)
 
     confirmation-not-gate : {class : ℕ} → confirmation n ≡ gate class → ⊥
     confirmation-not-gate never = let z : _≡_ {A = ℕ} 0 1 = cc in omega arith
@@ -189,7 +189,7 @@ confirmation-asks g c n e = by-row (asks-in g c (confirmation n) (λ class never
         is
     by-row (in-sign past state begins is) =
         signing-cases (lent (c .answers)) (atCall g c) (payloadOf c) Asks (λ _. silent) (λ _. silent)
-        (λ i x key confirm same. (past, state, begins, i, x, key .there, (cc), confirm, key .carries))
+        (λ i x key confirm same. (past, state, begins, x, (i, key .there), (cc), confirm, key .carries))
         (λ i x f t flags _ _ _ never. let z : _≡_ {A = ℕ} 0 1 = cc in absurd (omega arith))
         (λ i x f t flags blob _ _ _ _. silent)
         is

@@ -16,7 +16,7 @@ use Rattle.rule.specs.Gateway.{Entry, Place, Gateway, lasting, atClock, 
 use Rattle.rule.specs.Soundness.{EveryEntry, Apart, Distinct, Fits, SoundEntry, Sound, everyEntry, apart, distinct, fit, soundEntry, sound}
 use Rattle.rule.specs.Rule.{Question, Answer, Landing, Plan, land, ask, rule}
 use Rattle.rule.specs.Calls.{lent, Call, refusal, refused, Result, follow, served, call}
-use Rattle.rule.specs.Runs.{endOf}
+use Rattle.rule.specs.Runs.{events, endOf}
 use Rattle.rule.specs.Order.{SoundRule, SoundApart, FreshSound, CallsKeepSound, NeverRefused3, NumbersOnlyRise}
 use Rattle.rule.proofs.Cases.{given-cases, true-not-false, and-left, and-right, both-true, not-true}
 use Rattle.rule.proofs.Clock.{advance-next}
@@ -218,7 +218,7 @@ never-3 : (g : Gateway) (c : Call) → Sound g → call g c .outcome ≢ refused
 never-3 g c s e = true-not-false (sym (sound-rule g .1 s) ∙ refusal-3 g c (refused-by g c 3 e))
 
 pub never-refused-3 : NeverRefused3
-unfolding endOf
+unfolding events endOf
 never-refused-3 g [] s = (tt, s)
 never-refused-3 g (c ∷ cs) s = let rest = never-refused-3 (call g c .gateway) cs (calls-keep-sound g c s) in ((never-3 g c s, rest .0), rest .1)
 

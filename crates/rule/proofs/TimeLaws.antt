@@ -17,7 +17,8 @@ use Rattle.rule.specs.Soundness.{EveryEntry}
 use Rattle.rule.specs.Rule.{Landing}
 use Rattle.rule.specs.Calls.{Call, refusal, call}
 use Rattle.rule.specs.Order.{ownAnswers}
-use Rattle.rule.specs.Content.{atCall, payloadOf, OnTime, GoneOnTime, ClockRaised}
+use Rattle.rule.specs.Words.{atCall, payloadOf}
+use Rattle.rule.specs.Times.{OnTime, GoneOnTime, ClockRaised}
 use Rattle.rule.proofs.Cases.{so-cases}
 use Rattle.rule.proofs.Clock.{advance-clock}
 use Rattle.rule.proofs.Plans.{alone-has}
@@ -26,7 +27,7 @@ use Rattle.rule.proofs.Crossing.{planOf, own-cases}
 use Rattle.rule.proofs.PlaceLaws.{some-not-none, Fewer, every-at, every-imp, fewer-every, freed-fewer, vacate-frees, set-every, set-none-fewer}
 
 -- what holds once the clock is raised, and after each effect, holds after an accepted call
-accepted-keeps : (P : Gateway → Type 0) (g : Gateway) (c : Call) → P (atCall g c)
+pub accepted-keeps : (P : Gateway → Type 0) (g : Gateway) (c : Call) → P (atCall g c)
     → ((l : Landing) (after : Gateway) → Effect (atCall g c) l after → P after) → refusal g c ≡ none → P (call g c .gateway)
 accepted-keeps P g c now effects =
     own-cases g c (λ o r. o ≡ none → P (r .gateway))
@@ -94,7 +95,7 @@ effect-timely {g} all (stores entry i new _ e) =
 
 pub gone-on-time : GoneOnTime
 unfolding advance atClock
-gone-on-time g c i e accepted held =
+gone-on-time g c e accepted (i, held) =
     let now : Gateway = atCall g c in
     let on-time : EveryEntry (OnTime (now .clock)) (now .places) = lasting-on-time (max (g .clock) (c .reading)) (g .places) in
     every-at (Timely (now .clock) (now .next)) (call g c .gateway .places)

@@ -1,27 +1,34 @@
--- A held entry stays in its place until its time is up, or a request's SUCCESS removes it, clears all, or adds its blob again.
+-- A held entry stays, in its place, until its time is up, or a request's SUCCESS removes it, clears all, or adds its blob again.
 use Prim.Native.Nat.{ℕ, _-_, _≤_, max}
 use native.Mathlib.Omega.{arith}
 use mathlib.Core.Path.{_≡_, refl, sym, ap, _∙_, subst}
 use mathlib.Core.Logic.{_⊎_, inl, inr}
 use mathlib.Core.Bool.{Bool, true, false}
-use mathlib.Core.Option.{none}
+use mathlib.Core.Option.{Option, none, some}
 use mathlib.Core.List.{List}
 use borrow.Author.Tests.{leb-true, eqb-true, eqb-false}
 use lib.Dec.{eqb}
-use lib.ListN.{set}
-use lib.Seq.{getD-set-other}
 use Rattle.wire.specs.Numbers.{Bytes}
 use Rattle.wire.specs.Steps.{so}
 use Rattle.keys.specs.declared.constraints.Lifetime.{Lifetime}
 use Rattle.keys.specs.declared.constraints.Lifetime.the-variants.{Forever, For}
 use Rattle.keys.specs.Kinds.{blobOf}
-use Rattle.rule.specs.Gateway.{Entry, Place, Gateway, millisOf, dueAt, lasting, atClock, advance, isFree}
-use Rattle.rule.specs.Rule.{listing, removingAll}
-use Rattle.rule.specs.Calls.{lent, Call, Outcome, Result, follow, call}
-use Rattle.rule.specs.Order.{Begins, Carries}
-use Rattle.rule.specs.Content.{addByte, HeldAt, atCall, payloadOf, Row, list, add, add-constrained, remove, remove-all, sign, lock, unlock, Leaves, expired, removed, cleared, replaced, UsableUntil}
+use Rattle.rule.specs.Gateway.{Entry, Gateway, millisOf, dueAt, lasting, atClock, advance, isFree, vacate}
+use Rattle.rule.specs.Soundness.{SoundEntry, Sound}
+use Rattle.rule.specs.Rule.{Landing, listing, removingAll}
+use Rattle.rule.specs.Calls.{lent, Call, Outcome, Result, refusal, follow, call}
+use Rattle.rule.specs.Words.{Begins, Carries, HeldAt, Held, atCall, payloadOf}
+use Rattle.rule.specs.Rows.{Row, list, add, add-constrained, remove, remove-all, sign, lock, unlock}
+use Rattle.rule.specs.Adding.{addByte}
+use Rattle.rule.specs.Times.{Leaves, expired, removed, cleared, replaced, UsableUntil, PlacesStay}
 use Rattle.rule.proofs.Cases.{true-not-false}
-use Rattle.rule.proofs.PlaceLaws.{Holds, same-entry, getD-map, seek-first, found-at, Placed, replacing, anew, placed}
+use Rattle.rule.proofs.Clock.{advance-next}
+use Rattle.rule.proofs.Effects.{Effect, leaves, removes, clears, locks, stores}
+use Rattle.rule.proofs.PlaceLaws.{same-entry, every-at, distinct-at, getD-map, freed-fewer, lasting-frees, vacate-frees, AfterSet, put, kept, set-holds, set-elsewhere, set-none-fewer, seek-first, found-at, Placed, replacing, anew, placed}
+use Rattle.rule.proofs.RefusalLaws.{accepted}
+use Rattle.rule.proofs.Leavings.{refusal-leaves}
+use Rattle.rule.proofs.SoundLaws.{sound-rule}
+use Rattle.rule.proofs.TimeLaws.{accepted-keeps}
 use Rattle.rule.proofs.RowLaws.{bodyResult, rows-cases}
 use Rattle.rule.proofs.RequestLaws.{add-in}
 use Rattle.rule.proofs.BodyLaws.{removing-cases, locking-cases, unlocking-cases, adding-cases, signing-cases, addResult}
@@ -41,14 +48,6 @@ unfolding advance atClock lasting so
 still-held g c i e held early = getD-map (lasting (max (g .clock) (c .reading))) refl (g .places) i ∙ rw (held, early)
 
 -- ## Requests
-
--- what another place than the set one holds, it keeps
-set-elsewhere : (ps : List Place) (i j : ℕ) (p : Place) (e : Entry) {X : Type 0} → Holds ps i e → (Holds ps j e → X) → Holds (set ps j p) i e ⊎ X
-set-elsewhere ps i j p e {X} held there = by-place (eqb i j) refl
-  where
-    by-place : (b : Bool) → eqb i j ≡ b → Holds (set ps j p) i e ⊎ X
-    by-place true t = let same : i ≡ j = eqb-true i j t in inr (there (rw same at held))
-    by-place false t = inl (getD-set-other ps j i p none (eqb-false i j t) ∙ held)
 
 module _ (g : Gateway) (c : Call) (bytes : Bytes (payloadOf c)) (i : ℕ) (e : Entry) (held : HeldAt (atCall g c) i e) where
   -- where this is the call's result
@@ -101,8 +100,58 @@ module _ (g : Gateway) (c : Call) (bytes : Bytes (payloadOf c)) (i : ℕ) (e : E
       refl
 
 pub usable-until : UsableUntil
-usable-until g c i e bytes held = by-time (dueAt (max (g .clock) (c .reading)) (e .reading) (e .lifetime)) refl
+usable-until g c e bytes (i, held) = by-time (dueAt (max (g .clock) (c .reading)) (e .reading) (e .lifetime)) refl
   where
-    by-time : (b : Bool) → dueAt (max (g .clock) (c .reading)) (e .reading) (e .lifetime) ≡ b → HeldAt (call g c .gateway) i e ⊎ Leaves g c e
+    somewhere : HeldAt (call g c .gateway) i e ⊎ Leaves g c e → Held (call g c .gateway) e ⊎ Leaves g c e
+    somewhere (inl there) = inl (i, there)
+    somewhere (inr why) = inr why
+
+    by-time : (b : Bool) → dueAt (max (g .clock) (c .reading)) (e .reading) (e .lifetime) ≡ b → Held (call g c .gateway) e ⊎ Leaves g c e
     by-time true due = inr (due-expired g c e due)
-    by-time false early = call-keeps g c bytes i e (still-held g c i e held early) held
+    by-time false early = somewhere (call-keeps g c bytes i e (still-held g c i e held early) held)
+
+-- ## In its place
+
+-- what a place holds after a landing it held before, or it is new
+effect-stood : {before after : Gateway} {l : Landing} → Effect before l after → (j : ℕ) (x : Entry) → HeldAt after j x → HeldAt before j x ⊎ (x .number ≡ before .next)
+effect-stood (leaves e) j x h = inl (rw e at h)
+effect-stood {before} (removes blob i _ _ e) j x h = inl (set-none-fewer (before .places) i j x (rw e at h))
+effect-stood {before} (clears _ e) j x h = inl (freed-fewer vacate vacate-frees (before .places) j x (rw e at h))
+effect-stood (locks passphrase _ _ e) j x h = inl (rw e at h)
+effect-stood {before} (stores entry i new _ e) j x h = by-place (set-holds (before .places) i (some entry) j x (rw e at h))
+  where
+    by-place : AfterSet (before .places) i (some entry) j x → HeldAt before j x ⊎ (x .number ≡ before .next)
+    by-place (put _ is) = inr (ap (λ x. x .number) (sym (same-entry is)) ∙ new .number)
+    by-place (kept _ there) = inl there
+
+module _ (g : Gateway) (c : Call) where
+  Stood : Gateway → Type 0
+  Stood after = (j : ℕ) (x : Entry) → HeldAt after j x → HeldAt g j x ⊎ (x .number ≡ g .next)
+
+  stood-now : Stood (atCall g c)
+  unfolding advance atClock Stood
+  stood-now j x h = let clock = max (g .clock) (c .reading) in inl (freed-fewer (lasting clock) (lasting-frees clock) (g .places) j x h)
+
+  stood-after : (l : Landing) (after : Gateway) → Effect (atCall g c) l after → Stood after
+  unfolding Stood
+  stood-after l after effect j x h = earlier (effect-stood effect j x h)
+    where
+      earlier : HeldAt (atCall g c) j x ⊎ (x .number ≡ atCall g c .next) → HeldAt g j x ⊎ (x .number ≡ g .next)
+      earlier (inl there) = stood-now j x there
+      earlier (inr new) = inr (new ∙ advance-next (c .reading) g)
+
+pub places-stay : PlacesStay
+unfolding Stood
+places-stay g c i e held (j, there) = by-refusal (refusal g c) refl
+  where
+    by-number : Sound g → (b : Bool) → eqb i j ≡ b → HeldAt g j e ⊎ (e .number ≡ g .next) → HeldAt (call g c .gateway) i e
+    by-number sound b t (inr new) =
+        let taken = every-at (SoundEntry (g .clock) (g .next)) (g .places) (sound .entries) i e held .number-taken in
+        absurd (omega arith)
+    by-number sound true t (inl at) = let same : i ≡ j = eqb-true i j t in rw same there
+    by-number sound false t (inl at) = absurd (distinct-at (g .places) (sound .distinct) i j e e (eqb-false i j t) held at .blobs refl)
+
+    by-refusal : (o : Option ℕ) → refusal g c ≡ o → HeldAt (call g c .gateway) i e
+    by-refusal (some n) is = rw (refusal-leaves g c n is) held
+    by-refusal none is =
+        by-number (sound-rule g .0 (accepted g c is .state)) (eqb i j) refl (accepted-keeps (Stood g c) g c (stood-now g c) (stood-after g c) is j e there)

@@ -1,12 +1,12 @@
 -- The promises of what held entries are made of: comments are UTF-8 and blobs are bytes, so that a client can read every list (readers, Promises).
-use mathlib.Core.List.{List, [], _∷_}
+use mathlib.Core.List.{List}
 use Rattle.wire.specs.Numbers.{Bytes}
 use Rattle.wire.specs.Abnf.{Octets}
 use Rattle.rule.specs.Gateway.{Gateway, fresh}
 use Rattle.rule.specs.Soundness.{EveryEntry}
 use Rattle.rule.specs.Calls.{Call, call}
-use Rattle.rule.specs.Runs.{endOf}
-use Rattle.rule.specs.Content.{payloadOf}
+use Rattle.rule.specs.Runs.{endOf, Every}
+use Rattle.rule.specs.Words.{payloadOf}
 
 -- every held entry's comment is UTF-8
 abbrev pub TextComments : Gateway → Type 0
@@ -25,8 +25,7 @@ CallsKeepBytes = (g : Gateway) (c : Call) → Bytes (payloadOf c) → ByteBlobs 
 
 -- the payload of every call of a run is a list of bytes
 abbrev pub BytesIn : List Call → Type 0
-BytesIn [] = Unit {0}
-BytesIn (c ∷ cs) = Bytes (payloadOf c) × BytesIn cs
+BytesIn cs = Every (λ c. Bytes (payloadOf c)) cs
 
 -- from a fresh gateway on, after any run
 abbrev pub TextFromFresh : Type 0

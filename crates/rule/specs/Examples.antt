@@ -15,7 +15,7 @@ use Rattle.rule.specs.Gateway.{Place, Gateway, fresh}
 use Rattle.rule.specs.Soundness.{Sound, sound}
 use Rattle.rule.specs.Rule.{gate, signature, reply, close, FAILURE, SUCCESS}
 use Rattle.rule.specs.Calls.{Answers, nothingLent, refusalOf, Call, Outcome, asks, lands, call}
-use Rattle.rule.specs.Runs.{turns, endOf, landings}
+use Rattle.rule.specs.Runs.{events, endOf, turns, landings}
 
 -- a call of a request at reading 0, with room for every reply
 abbrev pub lending : ℕ → Answers → List ℕ → Call
@@ -86,9 +86,9 @@ pub record StarredExamples : Type 0 where
   pub flags-1 : call oneKey (pastGate (signWith 1)) ≡ record { outcome = asksHash Plain; gateway = oneKey }
   pub first-asks : call fresh (lending 1 nothingLent lockAb) ≡ record { outcome = asks (gate 6); gateway = fresh }
   pub second-asks : call fresh (lending 2 nothingLent lockCd) ≡ record { outcome = asks (gate 6); gateway = fresh }
-  pub ab-then-cd : landings (turns fresh abLandsFirst) ≡ SUCCESS ∷ FAILURE ∷ []
+  pub ab-then-cd : landings (turns (events fresh abLandsFirst)) ≡ SUCCESS ∷ FAILURE ∷ []
   pub ab-holds : endOf fresh abLandsFirst ≡ lockedAb
-  pub cd-then-ab : landings (turns fresh cdLandsFirst) ≡ SUCCESS ∷ FAILURE ∷ []
+  pub cd-then-ab : landings (turns (events fresh cdLandsFirst)) ≡ SUCCESS ∷ FAILURE ∷ []
   pub cd-holds : endOf fresh cdLandsFirst ≡ lockedCd
   pub more-needed : splitOf (0 ∷ 4 ∷ 0 ∷ 0 ∷ []) ≡ MoreNeeded
   pub too-long : splitOf (0 ∷ 4 ∷ 0 ∷ 1 ∷ []) ≡ TooLong

@@ -5,7 +5,15 @@ pub mod Soundness
 pub mod Rule
 pub mod Calls
 pub mod Runs
+pub mod Words
 pub mod Order
-pub mod Content
+pub mod Rows
+pub mod Refusals
+pub mod Listing
+pub mod Adding
+pub mod Removing
+pub mod Signing
+pub mod Locking
+pub mod Times
 pub mod Comments
 pub mod Examples

@@ -7,39 +7,22 @@ use mathlib.Core.Option.{Option, none, some}
 use mathlib.Core.List.{List, [], _∷_}
 use lib.ListN.{length, getD}
 use Rattle.wire.specs.Limits.{replyRoom}
-use Rattle.wire.specs.declared.read.Cursor.{Cursor}
-use Rattle.wire.specs.declared.read.Part.the-variants.{Whole}
-use Rattle.wire.specs.Read.{cutOf, stringAt}
 use Rattle.rule.specs.Gateway.{Entry, Gateway, fresh, locked, advance}
 use Rattle.rule.specs.Soundness.{Sound, sound}
 use Rattle.rule.specs.Rule.{Question, gate, check, confirmation, signature, Answer, Landing, reply, FAILURE, SUCCESS, Plan, land, ask, rule}
-use Rattle.rule.specs.Calls.{given, lent, Frame, Call, refusal, Outcome, refused, asks, lands, call}
-use Rattle.rule.specs.Runs.{heard, greatest, Turn, turns, endOf, landings, Oracle, oneAtATime, oneAtATimeEnd}
+use Rattle.rule.specs.Calls.{given, lent, Frame, Call, refusal, refused, asks, lands, call}
+use Rattle.rule.specs.Runs.{Event, events, endOf, RunsTo, Every, isAccepted, acceptedIn, heard, greatest, Turn, turns, landings, askedIn, someAccepted, Oracle, oneAtATime, oneAtATimeEnd}
+use Rattle.rule.specs.Words.{Begins, Carries}
 
 -- ## Demand 3
 
 -- of every accepted call of a run; refused calls drop out
-abbrev pub EveryAccepted : (Call → Type 0) → Gateway → List Call → Type 0
-EveryAccepted P g [] = Unit {0}
-EveryAccepted P g (c ∷ cs) = (refusal g c ≡ none → P c) × EveryAccepted P (call g c .gateway) cs
-
-abbrev pub EveryTurn : (Turn → Type 0) → List Turn → Type 0
-EveryTurn P [] = Unit {0}
-EveryTurn P (t ∷ ts) = P t × EveryTurn P ts
+abbrev pub EveryAccepted : (Call → Type 0) → List Event → Type 0
+EveryAccepted P es = Every (λ e. isAccepted (e .outcome) ≡ true → P (e .by)) es
 
 -- each answer that is lent is the oracle's
 abbrev pub Agrees : ((q : Question) → Option (Answer q)) → Oracle → Type 0
 Agrees lent oracle = (q : Question) (a : Answer q) → lent q ≡ some a → oracle q ≡ a
-
--- have accepted calls only asked since the last landing?
-unfoldable pub asked : Bool → Outcome → Bool
-asked before (refused n) = before
-asked before (asks q) = true
-asked before (lands l) = false
-
-unfoldable pub askedIn : Bool → Gateway → List Call → Bool
-askedIn before g [] = before
-askedIn before g (c ∷ cs) = askedIn (asked before (call g c .outcome)) (call g c .gateway) cs
 
 unfoldable pub settled : Bool → ℕ → Gateway → Gateway
 settled false reading g = g
@@ -54,10 +37,10 @@ module _ (frameOf : Call → Frame) (oracleOf : Call → Oracle) where
   -- The run's landings are those of the one-at-a-time rule run in landing order, each landing at the greatest reading accepted so far (the
   -- turn's reading). The end states are the same once the greatest reading accepted in the run is applied to both; exactly: the run's is
   -- the other, advanced if accepted calls have only asked since the last landing.
-  pub record AsOneAtATime (g : Gateway) (cs : List Call) : Type 0 where
-    pub replies : landings (turns g cs) ≡ oneAtATime frameOf oracleOf g (turns g cs)
-    pub end-states : advance (greatest g cs) (endOf g cs) ≡ advance (greatest g cs) (oneAtATimeEnd frameOf oracleOf g (turns g cs))
-    pub exactly : endOf g cs ≡ settled (askedIn false g cs) (greatest g cs) (oneAtATimeEnd frameOf oracleOf g (turns g cs))
+  pub record AsOneAtATime (g : Gateway) (es : List Event) (end : Gateway) : Type 0 where
+    pub replies : landings (turns es) ≡ oneAtATime frameOf oracleOf g (turns es)
+    pub end-states : advance (greatest es) end ≡ advance (greatest es) (oneAtATimeEnd frameOf oracleOf g (turns es))
+    pub exactly : end ≡ settled (askedIn false es) (greatest es) (oneAtATimeEnd frameOf oracleOf g (turns es))
 
 -- the oracle that gives what a call is lent, and else says no and gives nothing
 unfoldable pub refusing : Oracle
@@ -77,7 +60,7 @@ ownAnswers c = lentOr (lent (c .answers)) refusing
 
 -- "the one-at-a-time run gets the answers lent at the landing": of any run, with no hypothesis
 abbrev pub AsLent : Type 0
-AsLent = (g : Gateway) (cs : List Call) → AsOneAtATime ownFrame ownAnswers g cs
+AsLent = (g : Gateway) (cs : List Call) → AsOneAtATime ownFrame ownAnswers g (events g cs) (endOf g cs)
 
 -- a call that lands lands as its request does alone, whatever landing its turn is said to have
 abbrev pub AloneFinds : Type 0
@@ -89,74 +72,64 @@ AloneFinds =
 abbrev pub Demand3 : Type 0
 Demand3 =
     (frames : ℕ → Frame) (oracles : ℕ → Oracle) (g : Gateway) (cs : List Call)
-    → EveryAccepted (Keeps (λ c. frames (c .request)) (λ c. oracles (c .request))) g cs
-    → AsOneAtATime (λ c. frames (c .request)) (λ c. oracles (c .request)) g cs
+    → EveryAccepted (Keeps (λ c. frames (c .request)) (λ c. oracles (c .request))) (events g cs)
+    → AsOneAtATime (λ c. frames (c .request)) (λ c. oracles (c .request)) g (events g cs) (endOf g cs)
 
--- the run without its refused calls
-unfoldable pub acceptedOf : Gateway → List Call → List Call
-acceptedOf g [] = []
-acceptedOf g (c ∷ cs) = given (refusal g c) (c ∷ acceptedOf (call g c .gateway) cs) λ n. acceptedOf (call g c .gateway) cs
+-- ## Refused calls drop out
 
-pub record DropsOut (g : Gateway) (cs : List Call) : Type 0 where
-  pub landings-stay : turns g (acceptedOf g cs) ≡ turns g cs
-  pub end-stays : endOf g (acceptedOf g cs) ≡ endOf g cs
-  pub greatest-stays : greatest g (acceptedOf g cs) ≡ greatest g cs
+-- a call is accepted exactly where no refusal applies
+abbrev pub AcceptedRule : Type 0
+AcceptedRule = (g : Gateway) (c : Call) → (isAccepted (call g c .outcome) ≡ true) ↔ (refusal g c ≡ none)
 
+-- of any events: what is read off them is read off the accepted ones
+pub record ReadAlike (few es : List Event) : Type 0 where
+  pub landings-stay : turns few ≡ turns es
+  pub greatest-stays : greatest few ≡ greatest es
+
+abbrev pub RefusedUnread : Type 0
+RefusedUnread = (es : List Event) → ReadAlike (acceptedIn es) es
+
+-- and run without the refused calls it is the same run
 abbrev pub RefusedDropOut : Type 0
-RefusedDropOut = (g : Gateway) (cs : List Call) → DropsOut g cs
+RefusedDropOut = (g : Gateway) (cs : List Call) → RunsTo g (acceptedIn (events g cs)) (endOf g cs)
 
--- where readings never fall, each landing is at its own call's reading
-unfoldable pub NeverFall : ℕ → Gateway → List Call → Type 0
-NeverFall m g [] = Unit {0}
-NeverFall m g (c ∷ cs) = (refusal g c ≡ none → m ≤ c .reading) × NeverFall (heard m g c) (call g c .gateway) cs
+-- ## Readings
 
+-- accepted calls whose readings never fall
+unfoldable pub NeverFall : ℕ → List Event → Type 0
+NeverFall m [] = Unit {0}
+NeverFall m (e ∷ es) = (isAccepted (e .outcome) ≡ true → m ≤ e .by .reading) × NeverFall (heard m e) es
+
+-- of any events: then each landing is at its own call's reading
 abbrev pub OwnReadings : Type 0
-OwnReadings = (g : Gateway) (cs : List Call) → NeverFall 0 g cs → EveryTurn (λ t. t .reading ≡ t .by .reading) (turns g cs)
+OwnReadings = (es : List Event) → NeverFall 0 es → Every (λ t. t .reading ≡ t .by .reading) (turns es)
 
 -- ## Between a non-empty lock's success and the next unlock's success
 
--- the first byte of a payload that has one
-pub record Begins (byte : ℕ) (payload : List ℕ) : Type 0 where
-  pub some-byte : 0 < length payload
-  pub first : getD payload 0 0 ≡ byte
-
--- the string behind the first byte is v
-pub record Carries (v payload : List ℕ) : Type 0 where
-  pub from : ℕ
-  pub to : ℕ
-  pub next : Cursor
-  pub read : stringAt payload 1 ≡ Whole from to next
-  pub is : cutOf payload from to ≡ v
-
 -- no landing is an unlock's success
 abbrev pub NoUnlocking : List Turn → Type 0
-NoUnlocking ts = EveryTurn (λ t. ¬ (Begins 23 (t .by .frame .payload) × (t .landing ≡ SUCCESS))) ts
+NoUnlocking ts = Every (λ t. ¬ (Begins 23 (t .by .frame .payload) × (t .landing ≡ SUCCESS))) ts
 
 -- every question of a run
-abbrev pub EveryQuestion : (Call → Question → Type 0) → Gateway → List Call → Type 0
-EveryQuestion P g [] = Unit {0}
-EveryQuestion P g (c ∷ cs) = ((q : Question) → call g c .outcome ≡ asks q → P c q) × EveryQuestion P (call g c .gateway) cs
-
--- has a call been accepted?
-unfoldable pub someAccepted : Bool → Gateway → List Call → Bool
-someAccepted before g [] = before
-someAccepted before g (c ∷ cs) = someAccepted (given (refusal g c) true λ n. before) (call g c .gateway) cs
+abbrev pub EveryQuestion : (Call → Question → Type 0) → List Event → Type 0
+EveryQuestion P es = Every (λ e. (q : Question) → e .outcome ≡ asks q → P (e .by) q) es
 
 -- every landing is FAILURE; no key arrives, keys leave only by expiry, nothing else changes; nothing is asked but the gate for an unlock
-pub record OnlyExpiry (before : Gateway) (cs : List Call) : Type 0 where
-  pub all-fail : EveryTurn (λ t. t .landing ≡ FAILURE) (turns before cs)
-  pub only-expiry : advance (greatest before cs) (endOf before cs) ≡ advance (greatest before cs) before
-  pub exactly : endOf before cs ≡ settled (someAccepted false before cs) (greatest before cs) before
-  pub only-gate-7 : EveryQuestion (λ c q. (q ≡ gate 7) × Begins 23 (c .frame .payload)) before cs
+pub record OnlyExpiry (before : Gateway) (es : List Event) (end : Gateway) : Type 0 where
+  pub all-fail : Every (λ t. t .landing ≡ FAILURE) (turns es)
+  pub only-expiry : advance (greatest es) end ≡ advance (greatest es) before
+  pub exactly : end ≡ settled (someAccepted false es) (greatest es) before
+  pub only-gate-7 : EveryQuestion (λ c q. (q ≡ gate 7) × Begins 23 (c .frame .payload)) es
 
 abbrev pub WhileLocked : Type 0
-WhileLocked = (g : Gateway) (cs : List Call) → locked g ≡ true → NoUnlocking (turns g cs) → OnlyExpiry g cs
+WhileLocked = (g : Gateway) (cs : List Call) → locked g ≡ true → NoUnlocking (turns (events g cs)) → OnlyExpiry g (events g cs) (endOf g cs)
 
 abbrev pub BetweenLockAndUnlock : Type 0
 BetweenLockAndUnlock =
     (g : Gateway) (c : Call) (passphrase : List ℕ) → Begins 22 (c .frame .payload) → Carries passphrase (c .frame .payload) → 0 < length passphrase
     → call g c .outcome ≡ lands SUCCESS
-    → (cs : List Call) → NoUnlocking (turns (call g c .gateway) cs) → OnlyExpiry (call g c .gateway) cs
+    → (cs : List Call) → NoUnlocking (turns (events (call g c .gateway) cs))
+    → OnlyExpiry (call g c .gateway) (events (call g c .gateway) cs) (endOf (call g c .gateway) cs)
 
 -- ## What each outcome leaves
 
@@ -211,12 +184,8 @@ abbrev pub CallsKeepSound : Type 0
 CallsKeepSound = (g : Gateway) (c : Call) → Sound g → Sound (call g c .gateway)
 
 -- from a sound gateway refusal 3 never occurs
-abbrev pub EveryOutcome : (Outcome → Type 0) → Gateway → List Call → Type 0
-EveryOutcome P g [] = Unit {0}
-EveryOutcome P g (c ∷ cs) = P (call g c .outcome) × EveryOutcome P (call g c .gateway) cs
-
 abbrev pub NeverRefused3 : Type 0
-NeverRefused3 = (g : Gateway) (cs : List Call) → Sound g → EveryOutcome (λ o. o ≢ refused 3) g cs × Sound (endOf g cs)
+NeverRefused3 = (g : Gateway) (cs : List Call) → Sound g → Every (λ e. e .outcome ≢ refused 3) (events g cs) × Sound (endOf g cs)
 
 abbrev pub NumbersOnlyRise : Type 0
 NumbersOnlyRise = (g : Gateway) (c : Call) → g .next ≤ call g c .gateway .next

@@ -1,23 +1,64 @@
--- Runs of calls, and the one-at-a-time rule (demand 3).
+-- Runs of calls, what is read off their events, and the one-at-a-time rule (demand 3).
 use Prim.Native.Nat.{ℕ, max}
-use mathlib.Core.List.{List, [], _∷_, _++_}
+use mathlib.Core.Path.{_≡_}
+use mathlib.Core.Bool.{Bool, true, false}
+use mathlib.Core.List.{List, [], _∷_, _++_, map}
+use Rattle.wire.specs.Steps.{so}
 use Rattle.rule.specs.Gateway.{Gateway, advance}
 use Rattle.rule.specs.Rule.{Question, Answer, Landing, Plan, land, ask, rule}
-use Rattle.rule.specs.Calls.{given, Frame, Call, refusal, Outcome, refused, asks, lands, call}
+use Rattle.rule.specs.Calls.{Frame, Call, Outcome, refused, asks, lands, call}
 
 -- ## Runs: "each call gets the state and store that the call before it returned"
 
--- the greatest reading accepted so far, with this call; a refused one is not heard
-unfoldable pub heard : ℕ → Gateway → Call → ℕ
-heard greatest g c = given (refusal g c) (max greatest (c .reading)) λ n. greatest
+-- a call as it was made, and how it ended
+pub record Event : Type 0 where
+  pub by : Call
+  pub outcome : Outcome
 
-unfoldable pub heardIn : ℕ → Gateway → List Call → ℕ
-heardIn greatest g [] = greatest
-heardIn greatest g (c ∷ cs) = heardIn (heard greatest g c) (call g c .gateway) cs
+-- the events of a run of the rule
+unfoldable pub events : Gateway → List Call → List Event
+events g [] = []
+events g (c ∷ cs) = record { by = c; outcome = call g c .outcome } ∷ events (call g c .gateway) cs
+
+unfoldable pub endOf : Gateway → List Call → Gateway
+endOf g [] = g
+endOf g (c ∷ cs) = endOf (call g c .gateway) cs
+
+abbrev pub callsOf : List Event → List Call
+callsOf es = map (λ e. e .by) es
+
+-- the calls of these events, run from g, give these events and end there
+pub record RunsTo (g : Gateway) (es : List Event) (end : Gateway) : Type 0 where
+  pub events-are : events g (callsOf es) ≡ es
+  pub end-is : endOf g (callsOf es) ≡ end
+
+-- ## Read off events, the rule's or a program's
+
+abbrev pub Every : {A : Type 0} → (A → Type 0) → List A → Type 0
+Every P [] = Unit {0}
+Every P (x ∷ xs) = P x × Every P xs
+
+unfoldable pub isAccepted : Outcome → Bool
+isAccepted (refused n) = false
+isAccepted (asks q) = true
+isAccepted (lands l) = true
+
+-- the run without its refused calls
+unfoldable pub acceptedIn : List Event → List Event
+acceptedIn [] = []
+acceptedIn (e ∷ es) = so (acceptedIn es) (isAccepted (e .outcome)) (e ∷ acceptedIn es)
+
+-- the greatest reading accepted so far, with this call; a refused one is not heard
+unfoldable pub heard : ℕ → Event → ℕ
+heard greatest e = so greatest (isAccepted (e .outcome)) (max greatest (e .by .reading))
+
+unfoldable pub heardIn : ℕ → List Event → ℕ
+heardIn greatest [] = greatest
+heardIn greatest (e ∷ es) = heardIn (heard greatest e) es
 
 -- the greatest reading accepted in a run
-abbrev pub greatest : Gateway → List Call → ℕ
-greatest g cs = heardIn 0 g cs
+abbrev pub greatest : List Event → ℕ
+greatest es = heardIn 0 es
 
 -- a landing of a run: the call that landed, the greatest reading accepted so far, and the landing
 pub record Turn : Type 0 where
@@ -30,21 +71,32 @@ turn reading c (refused n) = []
 turn reading c (asks q) = []
 turn reading c (lands l) = record { by = c; reading = reading; landing = l } ∷ []
 
-unfoldable pub turnsFrom : ℕ → Gateway → List Call → List Turn
-turnsFrom reading g [] = []
-turnsFrom reading g (c ∷ cs) = turn (heard reading g c) c (call g c .outcome) ++ turnsFrom (heard reading g c) (call g c .gateway) cs
+unfoldable pub turnsFrom : ℕ → List Event → List Turn
+turnsFrom reading [] = []
+turnsFrom reading (e ∷ es) = turn (heard reading e) (e .by) (e .outcome) ++ turnsFrom (heard reading e) es
 
 -- the landings of a run, in landing order
-abbrev pub turns : Gateway → List Call → List Turn
-turns g cs = turnsFrom 0 g cs
-
-unfoldable pub endOf : Gateway → List Call → Gateway
-endOf g [] = g
-endOf g (c ∷ cs) = endOf (call g c .gateway) cs
+abbrev pub turns : List Event → List Turn
+turns es = turnsFrom 0 es
 
 abbrev pub landings : List Turn → List Landing
 landings [] = []
 landings (t ∷ ts) = t .landing ∷ landings ts
+
+-- have accepted calls only asked since the last landing?
+unfoldable pub asked : Bool → Outcome → Bool
+asked before (refused n) = before
+asked before (asks q) = true
+asked before (lands l) = false
+
+unfoldable pub askedIn : Bool → List Event → Bool
+askedIn before [] = before
+askedIn before (e ∷ es) = askedIn (asked before (e .outcome)) es
+
+-- has a call been accepted?
+unfoldable pub someAccepted : Bool → List Event → Bool
+someAccepted before [] = before
+someAccepted before (e ∷ es) = someAccepted (so before (isAccepted (e .outcome)) true) es
 
 -- ## The one-at-a-time rule: the same plan, with an answer for every question
 

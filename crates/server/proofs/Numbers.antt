@@ -2,27 +2,25 @@
 -- bits of a hash by the flags. Assumed: a call that meets the contract of `call`, on a sound state and store.
 use Prim.Native.Nat.{ℕ}
 use mathlib.Core.Path.{_≡_, refl, sym, ap, _∙_, subst}
-use mathlib.Core.Bool.{true}
-use mathlib.Core.Option.{Option, none}
 use mathlib.Core.List.{List}
 use lib.ListN.{getD}
 use Rattle.wire.specs.Steps.{so}
 use Rattle.rule.specs.declared.Hash.{Hash}
-use Rattle.rule.specs.Gateway.{Gateway, atClock, advance}
+use Rattle.rule.specs.Gateway.{atClock, advance}
 use Rattle.rule.specs.Rule.{gate, signature, Plan, rule as plan}
 use Rattle.rule.specs.Calls as rule
-use Rattle.rule.specs.Calls.{lent, Call, asks, Result, refusal, call}
+use Rattle.rule.specs.Calls.{lent, asks, call}
+use Rattle.rule.specs.Runs.{isAccepted}
 use Rattle.rule.specs.Order.{Needs, here}
-use Rattle.rule.specs.Content.{HashTable}
-use Rattle.rule.proofs.Cases.{true-not-false}
-use Rattle.rule.proofs.Crossing.{own-cases}
+use Rattle.rule.specs.Signing.{HashTable}
+use Rattle.rule.proofs.Crossing.{accepted-rule}
 use Rattle.rule.proofs.QuestionLaws.{question-rule}
 use Rattle.rule.proofs.RowLaws.{row-rule}
 use Rattle.rule.proofs.SignLaws.{signature-asks}
 use Rattle.table.specs.Meaning.{gatewayOf}
 use Rattle.requests.specs.Outcomes.{grantOf, lentOf, code, hashBits, outcomeValues, InNumbers, hashIn, outcomeFor, outcomeIn}
 use Rattle.requests.proofs.OutcomeLaws.{outcomes-told}
-use Rattle.server.specs.Runs.{ByCall, asCall, isAccepted, BitsTable, CodeNumbers, CodeGateAsks, CodeHashes}
+use Rattle.server.specs.Runs.{ByCall, asCall, BitsTable, CodeNumbers, CodeGateAsks, CodeHashes}
 use Rattle.server.proofs.Leavings.{step-ends, ended-is}
 
 -- ## The outcome
@@ -34,18 +32,13 @@ code-numbers state store k S m =
 
 -- ## The gate
 
-pub not-refused : (g : Gateway) (c : Call) → isAccepted (call g c .outcome) ≡ true → refusal g c ≡ none
-unfolding isAccepted
-not-refused g c =
-    own-cases g c (λ (o : Option ℕ) (r : Result). isAccepted (r .outcome) ≡ true → o ≡ none) (λ n never. absurd (true-not-false (sym never))) (λ q needs _. refl) (λ _. refl)
-
 pub code-gate-asks : CodeGateAsks ByCall
 unfolding lentOf lent advance atClock
 code-gate-asks state store k byte needs class S m accepted row begins fits missing =
     let g = gatewayOf state store in
     let c = asCall k in
     let ends = step-ends state store S k m in
-    let ok = not-refused g c (ap isAccepted (sym (ended-is k (call g c) ends)) ∙ accepted) in
+    let ok = accepted-rule g c .0 (ap isAccepted (sym (ended-is k (call g c) ends)) ∙ accepted) in
     let (onwards, is, no-fails) = row-rule byte needs class row (advance (c .reading) g) (k .payload) begins .fit fits in
     let comes : Needs (lent (c .answers)) (plan (advance (c .reading) g) (k .payload)) (gate class) = subst (λ (p : Plan). Needs (lent (c .answers)) p (gate class)) (sym is) (here (gate class) onwards) in
     code-numbers state store k S m .gate-class class .0 (question-rule g c (gate class) .1 (ok, comes, ap grantOf missing))
@@ -66,5 +59,5 @@ code-hashes state store k n from to bits S m bytes v =
     let ends = step-ends state store S k m in
     let asked : call g (asCall k) .outcome ≡ asks (signature n from to (hashIn bits)) = sym (ended-is k _ ends) ∙ ap (λ (vs : List ℕ). outcomeIn vs (k .gave .reply)) v in
     let values = sym v ∙ ends .ended ∙ ap (λ (o : rule.Outcome). outcomeValues (code o)) asked in
-    let (past, opened, i, e, message, flags, held, number, request, at, end, table, confirmed) = signature-asks g (asCall k) n from to (hashIn bits) bytes asked in
+    let (past, opened, e, message, flags, held, number, request, at, end, table, confirmed) = signature-asks g (asCall k) n from to (hashIn bits) bytes asked in
     (e .blob, message, flags, request, bits-table flags bits (hashIn bits) (ap (λ (vs : List ℕ). getD vs 4 0) values) table)

@@ -1,6 +1,6 @@
 -- What a call gave, in 01's numbers and values, and runs of calls, each on what the one before it gave. What a call leaves, and the promises of
 -- order, said of what was given; `Met` says what kind of call it is: `ByCall`, or in crate gateway `ByExport`.
-use Prim.Native.Nat.{ℕ, max, _≤_, _<_, _%_}
+use Prim.Native.Nat.{ℕ, _≤_, _<_, _%_}
 use mathlib.Core.Path.{_≡_}
 use mathlib.Core.Logic.{_≢_}
 use mathlib.Core.Bool.{Bool, true, false}
@@ -12,12 +12,14 @@ use Rattle.wire.specs.Steps.{so}
 use Rattle.wire.specs.Write.{string, write}
 use Rattle.rule.specs.declared.Millis.{Millis}
 use Rattle.rule.specs.Gateway.{Entry, Gateway, fresh, advance, locked}
-use Rattle.rule.specs.Rule.{FAILURE}
 use Rattle.rule.specs.Calls as rule
-use Rattle.rule.specs.Calls.{Frame, Call, refused, asks, lands, call}
-use Rattle.rule.specs.Runs.{Turn, turn, endOf, landings, Oracle, oneAtATime, oneAtATimeEnd}
-use Rattle.rule.specs.Order.{EveryTurn, Keeps, asked, settled, ownFrame, ownAnswers, Begins, Carries, NoUnlocking}
-use Rattle.rule.specs.Content.{Row, Lists, itemForms, SignRequest}
+use Rattle.rule.specs.Calls.{Frame, Call, call}
+use Rattle.rule.specs.Runs.{Event, RunsTo, Every, isAccepted, acceptedIn, turns, Oracle}
+use Rattle.rule.specs.Order.{EveryAccepted, Keeps, AsOneAtATime, ownFrame, ownAnswers, NoUnlocking, OnlyExpiry}
+use Rattle.rule.specs.Words.{Begins, Carries}
+use Rattle.rule.specs.Rows.{Row}
+use Rattle.rule.specs.Listing.{Lists, itemForms}
+use Rattle.rule.specs.Signing.{SignRequest}
 use Rattle.rule.specs.Comments.{TextComments}
 use Rattle.table.specs.declared.State.{State}
 use Rattle.table.specs.Meaning.{gatewayOf, stateOf}
@@ -80,11 +82,6 @@ successBytes = 0 ∷ 0 ∷ 0 ∷ 1 ∷ 6 ∷ []
 abbrev pub outcomeAfter : Step → rule.Outcome
 outcomeAfter k = outcomeIn (k .gave .ended) (k .gave .reply)
 
-unfoldable pub isAccepted : rule.Outcome → Bool
-isAccepted (refused n) = false
-isAccepted (asks q) = true
-isAccepted (lands l) = true
-
 abbrev pub Accepted : Step → Type 0
 Accepted k = isAccepted (outcomeAfter k) ≡ true
 
@@ -101,6 +98,13 @@ asCall k = record {
 
 -- ## Read off a run
 
+-- its events, off which the rule's words read the rest
+abbrev pub eventOf : Step → Event
+eventOf k = record { by = asCall k; outcome = outcomeAfter k }
+
+abbrev pub eventsOf : List Step → List Event
+eventsOf ks = map eventOf ks
+
 unfoldable pub endState : State → List Step → State
 endState state [] = state
 endState state (k ∷ ks) = endState (k .gave .state) ks
@@ -109,38 +113,14 @@ unfoldable pub endStore : List ℕ → List Step → List ℕ
 endStore store [] = store
 endStore store (k ∷ ks) = endStore (k .gave .store) ks
 
-abbrev pub EveryStep : (Step → Type 0) → List Step → Type 0
-EveryStep P [] = Unit {0}
-EveryStep P (k ∷ ks) = P k × EveryStep P ks
+-- what state and store mean at its end
+abbrev pub meantEnd : State → List ℕ → List Step → Gateway
+meantEnd state store ks = gatewayOf (endState state ks) (endStore store ks)
 
--- the greatest reading accepted so far, with this step
-abbrev pub heardAt : ℕ → Step → ℕ
-heardAt greatest k = so greatest (isAccepted (outcomeAfter k)) (max greatest (k .reading .count))
-
-unfoldable pub heardOver : ℕ → List Step → ℕ
-heardOver greatest [] = greatest
-heardOver greatest (k ∷ ks) = heardOver (heardAt greatest k) ks
-
-unfoldable pub turnsOver : ℕ → List Step → List Turn
-turnsOver reading [] = []
-turnsOver reading (k ∷ ks) = turn (heardAt reading k) (asCall k) (outcomeAfter k) ++ turnsOver (heardAt reading k) ks
-
--- the greatest reading accepted in a run, and its landings, in landing order
-abbrev pub greatestOf : List Step → ℕ
-greatestOf ks = heardOver 0 ks
-
-abbrev pub turnsOf : List Step → List Turn
-turnsOf ks = turnsOver 0 ks
-
--- have accepted steps only asked since the last landing?
-unfoldable pub askedOver : Bool → List Step → Bool
-askedOver before [] = before
-askedOver before (k ∷ ks) = askedOver (asked before (outcomeAfter k)) ks
-
--- has a step been accepted?
-unfoldable pub acceptedOver : Bool → List Step → Bool
-acceptedOver before [] = before
-acceptedOver before (k ∷ ks) = acceptedOver (so before (isAccepted (outcomeAfter k)) true) ks
+-- the run without its refused steps
+unfoldable pub acceptedSteps : List Step → List Step
+acceptedSteps [] = []
+acceptedSteps (k ∷ ks) = so (acceptedSteps ks) (isAccepted (outcomeAfter k)) (k ∷ acceptedSteps ks)
 
 -- ## What one call does, said of a step
 
@@ -206,44 +186,21 @@ abbrev pub RuleRun : Gateway → List Step → Type 0
 RuleRun g [] = Unit {0}
 RuleRun g (k ∷ ks) = EndsAs k (call g (asCall k)) × RuleRun (call g (asCall k) .gateway) ks
 
+-- its events and its end are those of the rule's run, and its end is sound
 pub record IsARun (state : State) (store : List ℕ) (ks : List Step) : Type 0 where
   pub calls : RuleRun (gatewayOf state store) ks
-  pub end : Means (endState state ks) (endStore store ks) (endOf (gatewayOf state store) (map asCall ks))
+  pub runs : RunsTo (gatewayOf state store) (eventsOf ks) (meantEnd state store ks)
+  pub end-sound : Sound (endState state ks) (endStore store ks)
 
-module _ (frameOf : Call → Frame) (oracleOf : Call → Oracle) (state : State) (store : List ℕ) (ks : List Step) where
-  abbrev pub aloneEnd : Gateway
-  aloneEnd = oneAtATimeEnd frameOf oracleOf (gatewayOf state store) (turnsOf ks)
-
-  -- The code's landings are those of the one-at-a-time rule run in landing order. The end states are the same once the greatest reading
-  -- accepted in the run is applied to both; exactly: the code's means the other, advanced if accepted steps have only asked since the
-  -- last landing.
-  pub record CodeAsOneAtATime : Type 0 where
-    pub replies : landings (turnsOf ks) ≡ oneAtATime frameOf oracleOf (gatewayOf state store) (turnsOf ks)
-    pub end-states : advance (greatestOf ks) (gatewayOf (endState state ks) (endStore store ks)) ≡ advance (greatestOf ks) aloneEnd
-    pub exactly : Means (endState state ks) (endStore store ks) (settled (askedOver false ks) (greatestOf ks) aloneEnd)
-
--- the run without its refused steps
-unfoldable pub acceptedSteps : List Step → List Step
-acceptedSteps [] = []
-acceptedSteps (k ∷ ks) = so (acceptedSteps ks) (isAccepted (outcomeAfter k)) (k ∷ acceptedSteps ks)
-
--- where readings never fall, each landing is at its own step's reading
-abbrev pub NeverFallOver : ℕ → List Step → Type 0
-NeverFallOver greatest [] = Unit {0}
-NeverFallOver greatest (k ∷ ks) = (Accepted k → greatest ≤ k .reading .count) × NeverFallOver (heardAt greatest k) ks
-
--- between a lock and an unlock every landing is FAILURE; no key arrives, keys leave only by expiry, nothing else changes; nothing is asked but the
--- gate for an unlock
+-- between a lock and an unlock as in the rule, and in 01's numbers: nothing is asked but the gate for an unlock
 pub record CodeOnlyExpiry (state : State) (store : List ℕ) (ks : List Step) : Type 0 where
-  pub all-fail : EveryTurn (λ t. t .landing ≡ FAILURE) (turnsOf ks)
-  pub only-expiry : advance (greatestOf ks) (gatewayOf (endState state ks) (endStore store ks)) ≡ advance (greatestOf ks) (gatewayOf state store)
-  pub exactly : Means (endState state ks) (endStore store ks) (settled (acceptedOver false ks) (greatestOf ks) (gatewayOf state store))
-  pub only-gate-7 : EveryStep (λ k. Asked k → EndedWith (1 ∷ 7 ∷ []) k × Begins 23 (k .payload)) ks
+  pub as-ruled : OnlyExpiry (gatewayOf state store) (eventsOf ks) (meantEnd state store ks)
+  pub only-gate-7 : Every (λ k. Asked k → EndedWith (1 ∷ 7 ∷ []) k × Begins 23 (k .payload)) ks
 
 -- from a sound state on, it is refused neither for the state nor for the store
 pub record NeverUnsound (state : State) (store : List ℕ) (ks : List Step) : Type 0 where
-  pub never-3 : EveryStep (λ k. ¬ (EndedWith (0 ∷ 3 ∷ []) k)) ks
-  pub never-2 : EveryStep (λ k. ¬ (EndedWith (0 ∷ 2 ∷ []) k)) ks
+  pub never-3 : Every (λ k. ¬ (EndedWith (0 ∷ 3 ∷ []) k)) ks
+  pub never-2 : Every (λ k. ¬ (EndedWith (0 ∷ 2 ∷ []) k)) ks
   pub end-sound : Sound (endState state ks) (endStore store ks)
 
 -- ## The promises
@@ -336,42 +293,36 @@ module _ (Met : State → List ℕ → Step → Type 0) where
   abbrev pub CodeDemand3 : Type 0
   CodeDemand3 =
       (frames : ℕ → Frame) (oracles : ℕ → Oracle) (state : State) (store : List ℕ) (ks : List Step) → Sound state store → CodeRun state store ks
-      → EveryStep (λ k. Accepted k → Keeps (λ c. frames (c .request)) (λ c. oracles (c .request)) (asCall k)) ks
-      → CodeAsOneAtATime (λ c. frames (c .request)) (λ c. oracles (c .request)) state store ks
+      → EveryAccepted (Keeps (λ c. frames (c .request)) (λ c. oracles (c .request))) (eventsOf ks)
+      → AsOneAtATime (λ c. frames (c .request)) (λ c. oracles (c .request)) (gatewayOf state store) (eventsOf ks) (meantEnd state store ks)
 
   -- "the one-at-a-time run gets the answers lent at the landing": of any run, whatever is lent
   abbrev pub CodeAsLent : Type 0
   CodeAsLent =
       (state : State) (store : List ℕ) (ks : List Step) → Sound state store → CodeRun state store ks
-      → CodeAsOneAtATime ownFrame ownAnswers state store ks
+      → AsOneAtATime ownFrame ownAnswers (gatewayOf state store) (eventsOf ks) (meantEnd state store ks)
 
   pub record CodeDropsOut (state : State) (store : List ℕ) (ks : List Step) : Type 0 where
     pub still-a-run : CodeRun state store (acceptedSteps ks)
-    pub landings-stay : turnsOf (acceptedSteps ks) ≡ turnsOf ks
-    pub greatest-stays : greatestOf (acceptedSteps ks) ≡ greatestOf ks
+    pub accepted-events : eventsOf (acceptedSteps ks) ≡ acceptedIn (eventsOf ks)
     pub state-stays : endState state (acceptedSteps ks) ≡ endState state ks
     pub store-stays : endStore store (acceptedSteps ks) ≡ endStore store ks
 
-  -- "refused calls drop out"
+  -- "refused calls drop out"; what is read off events stays (`RefusedUnread` of the rule)
   abbrev pub CodeRefusedDropOut : Type 0
   CodeRefusedDropOut = (state : State) (store : List ℕ) (ks : List Step) → CodeRun state store ks → CodeDropsOut state store ks
-
-  abbrev pub CodeOwnReadings : Type 0
-  CodeOwnReadings =
-      (state : State) (store : List ℕ) (ks : List Step) → Sound state store → CodeRun state store ks → NeverFallOver 0 ks
-      → EveryTurn (λ t. t .reading ≡ t .by .reading) (turnsOf ks)
 
   abbrev pub CodeWhileLocked : Type 0
   CodeWhileLocked =
       (state : State) (store : List ℕ) (ks : List Step) → Sound state store → CodeRun state store ks → locked (gatewayOf state store) ≡ true
-      → NoUnlocking (turnsOf ks) → CodeOnlyExpiry state store ks
+      → NoUnlocking (turns (eventsOf ks)) → CodeOnlyExpiry state store ks
 
   -- at any place of a run: `before`, then a non-empty lock's success, then steps without an unlock's success
   abbrev pub CodeBetweenLockAndUnlock : Type 0
   CodeBetweenLockAndUnlock =
       (state : State) (store : List ℕ) (before : List Step) (lock : Step) (ks : List Step) (passphrase : List ℕ) → Sound state store
       → CodeRun state store (before ++ lock ∷ ks) → Begins 22 (lock .payload) → Carries passphrase (lock .payload) → 0 < length passphrase
-      → Replied successBytes lock → NoUnlocking (turnsOf ks) → CodeOnlyExpiry (lock .gave .state) (lock .gave .store) ks
+      → Replied successBytes lock → NoUnlocking (turns (eventsOf ks)) → CodeOnlyExpiry (lock .gave .state) (lock .gave .store) ks
 
   abbrev pub CodeNeverRefused3 : Type 0
   CodeNeverRefused3 = (state : State) (store : List ℕ) (ks : List Step) → Sound state store → CodeRun state store ks → NeverUnsound state store ks
@@ -379,7 +330,7 @@ module _ (Met : State → List ℕ → Step → Type 0) where
   -- #101: from a fresh state on, every comment that is kept is UTF-8
   abbrev pub CodeTextFromFresh : Type 0
   CodeTextFromFresh =
-      (ks : List Step) → CodeRun (stateOf fresh) (replicate storeSize 0) ks → EveryStep (λ k. Bytes (k .payload)) ks
+      (ks : List Step) → CodeRun (stateOf fresh) (replicate storeSize 0) ks → Every (λ k. Bytes (k .payload)) ks
       → TextComments (gatewayOf (endState (stateOf fresh) ks) (endStore (replicate storeSize 0) ks))
 
   -- ### All of them
@@ -402,7 +353,6 @@ module _ (Met : State → List ℕ → Step → Type 0) where
     pub demand-3 : CodeDemand3
     pub as-lent : CodeAsLent
     pub refused-drop-out : CodeRefusedDropOut
-    pub own-readings : CodeOwnReadings
     pub while-locked : CodeWhileLocked
     pub between-lock-and-unlock : CodeBetweenLockAndUnlock
     pub never-refused-3 : CodeNeverRefused3
