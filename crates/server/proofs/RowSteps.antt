@@ -4,14 +4,12 @@ use mathlib.Core.Path.{_≡_, refl, sym, ap, _∙_, subst}
 use mathlib.Core.Bool.{Bool, true, false, not}
 use mathlib.Core.Option.{Option}
 use mathlib.Core.List.{List}
-use native.Mathlib.Omega.{arith}
-use native.Mathlib.Nat.{pos-of-ne-zero}
 use borrow.Author.Needs.{needs}
 use borrow.Author.Tests.{not-true, not-false}
-use lib.Dec.{eqb}
+use lib.Dec.{eqb, ltb}
 use lib.ListN.{length, getD}
 use Rattle.wire.specs.Steps.{so}
-use Rattle.wire.proofs.Steps.{steps, ltb-yes, ltb-no}
+use Rattle.wire.proofs.Steps.{steps}
 use Rattle.rule.specs.Gateway.{Gateway, locked, opened}
 use Rattle.rule.specs.Rule.{gate, FAILURE, Plan, fails, gated, row, table, rule, listing, adding, removing, removingAll, signing, locking, unlocking}
 use Rattle.rule.specs.Calls as rule
@@ -30,7 +28,7 @@ use Rattle.requests.specs.declared.Called.{Called}
 use Rattle.requests.specs.declared.Outcome.the-variants.{Gate}
 use Rattle.requests.specs.Outcomes.{grantOf, signatureOf, lentOf, code}
 use Rattle.requests.specs.Ends.{Ends}
-use Rattle.server.specs.Rows.{bySaid, gatedRow, rowOf}
+use Rattle.server.specs.Rows.{bySaid, gatedRow, rowOf, rowIn}
 use Rattle.requests.proofs.EndSteps.{asked-ends}
 
 -- ## The code's tests
@@ -116,6 +114,10 @@ module _ (a : rule.Answers) (g : Gateway) (p : List ℕ) where
         (gate-row (opened g) 2 (adding false g p) (rows.Add false) refl))
         (gate-row (opened g) 1 (listing g) rows.List refl)
 
+    rule-row : follow (lent a) g (rule g p) ≡ resultOf (rowIn p (locked g) s)
+    unfolding rule rowIn
+    rule-row = so-row (ltb 0 (length p)) _ _ _ _ none-fits (table-row (getD p 0 0))
+
 -- ## What is served
 
 pub check-lent : (answers : Answers) (bytes : List ℕ) → lentOf answers bytes .check ≡ grantOf (answers .check)
@@ -132,21 +134,17 @@ module _ (s : State) (x p : List ℕ) (answers : Answers) (bytes buffer : List �
   abbrev Serves : Type 0
   Serves = Ends buffer r y out (served g (record { payload = p }) a)
 
-  pub served-empty : length p ≡ 0 → Ends buffer r y out (record { outcome = lands FAILURE; gateway = g }) → Serves
-  unfolding served rule follow so
-  served-empty e h = rw (← ltb-no 0 (length p) (omega arith)) h
-
-  module _ (w : Row) (b : Bool) (some-byte : length p ≡ 0 → ⊥) (known : (z : List ℕ) → b ≡ locked (gatewayOf s z)) (by : w ≡ rowOf (getD p 0 0) b (answers .gate)) where
+  module _ (w : Row) (b : Bool) (known : (z : List ℕ) → b ≡ locked (gatewayOf s z)) (by : w ≡ rowIn p b (answers .gate)) where
     says : a .gate ≡ grantOf (answers .gate)
     unfolding lentOf
     says = refl
 
     pub served-row : (v : Row) → w ≡ v → Ends buffer r y out (resultOf a g p v) → Serves
-    unfolding served rule so
+    unfolding served
     served-row v e h =
-        let q : resultOf a g p v ≡ follow (lent a) g (table g p (getD p 0 0)) =
-        ap (resultOf a g p) (sym e ∙ by ∙ ap (λ (k : Bool). rowOf (getD p 0 0) k (answers .gate)) (known x)) ∙ sym (table-row a g p (answers .gate) says (getD p 0 0)) in
-        rw (← ltb-yes 0 (length p) (pos-of-ne-zero some-byte)) (subst (Ends buffer r y out) q h)
+        let q : resultOf a g p v ≡ follow (lent a) g (rule g p) =
+        ap (resultOf a g p) (sym e ∙ by ∙ ap (λ (k : Bool). rowIn p k (answers .gate)) (known x)) ∙ sym (rule-row a g p (answers .gate) says) in
+        subst (Ends buffer r y out) q h
 
     pub served-asks : (class : ℕ) → w ≡ rows.Asks class → r ≡ record { outcome = Gate class; state = s } → y ≡ x → out ≡ buffer → Sound s x → Serves
     unfolding code

@@ -1,7 +1,9 @@
 -- What a request comes to by its first byte, the lock and the gate's answer: 01's table, row by row.
 use Prim.Native.Nat.{ℕ}
 use mathlib.Core.Bool.{Bool, true, false, not}
-use lib.Dec.{eqb}
+use mathlib.Core.List.{List}
+use lib.Dec.{eqb, ltb}
+use lib.ListN.{length, getD}
 use Rattle.wire.specs.Steps.{so}
 use Rattle.requests.specs.declared.Said.{Said}
 use Rattle.requests.specs.declared.Said.the-variants as said
@@ -29,3 +31,7 @@ rowOf first locked gate =
     (eqb first 25) (gatedRow (row.Add true) 2 (not locked) gate))
     (eqb first 17) (gatedRow (row.Add false) 2 (not locked) gate))
     (eqb first 11) (gatedRow row.List 1 (not locked) gate)
+
+-- "Empty payload: FAILURE, no question"
+unfoldable pub rowIn : List ℕ → Bool → Said → Row
+rowIn payload locked gate = so row.Fails (ltb 0 (length payload)) (rowOf (getD payload 0 0) locked gate)

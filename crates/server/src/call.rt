@@ -31,7 +31,7 @@ ghost use Rattle.table.specs.Soundness.{Sound};
 ghost use Rattle.requests.specs.Outcomes.{signatureOf, lentOf};
 ghost use Rattle.requests.specs.Ends.{Ends};
 ghost use Rattle.server.specs.Calls.{Meets};
-ghost use Rattle.server.specs.Rows.{gatedRow, rowOf};
+ghost use Rattle.server.specs.Rows.{gatedRow, rowOf, rowIn};
 
 // What a request comes to by its first byte, the lock and the gate's answer.
 enum Row {
@@ -77,6 +77,17 @@ fn row_of(first: u8, locked: bool, gate: Said) -> Row
     }
 }
 
+// The row of a payload; an empty one fails.
+fn row_in(payload: &[u8], locked: bool, gate: Said) -> Row
+    ensures { λ r. ⌜ r ≡ rowIn (now (payload .entry)) locked gate ⌝ }
+{
+    if payload.len() == 0 {
+        return Row::Fails;
+    }
+    let first = payload[0];
+    row_of(first, locked, gate)
+}
+
 // The request served on the present state, its clock raised.
 fn respond(
     state: State,
@@ -89,14 +100,10 @@ fn respond(
     requires { ⌜ (replyRoom ≤ length (now reply)) × (lentLength (lentOf answers (now signature) .signature) ≤ signatureLimit) × Sound state (now store) ⌝ }
     ensures { λ r. ⌜ Ends (now (reply .entry)) r (now (store .exit)) (now (reply .exit)) (served (gatewayOf state (now (store .entry))) (record { payload = now (payload .entry) }) (lentOf answers (now (signature .entry)))) ⌝ }
 {
-    if payload.len() == 0 {
-        return failure(state, reply);
-    }
-    let first = payload[0];
     let locked = is_locked(state);
     let gate = answers.gate;
     let check = answers.check;
-    match row_of(first, locked, gate) {
+    match row_in(payload, locked, gate) {
         Row::Fails => failure(state, reply),
         Row::Asks(class) => Called {
             outcome: Outcome::Gate { class },

@@ -34,6 +34,9 @@ all-zeros (b ∷ bs) h =
 pub zeros-say : (bs : List ℕ) → (allZero bs ≡ true) ↔ Zeros bs
 zeros-say bs = (all-zeros bs, (λ z. ap allZero z ∙ zeros-zero (length bs)))
 
+pub zeros-append : (a b : List ℕ) → Zeros a → Zeros b → Zeros (a ++ b)
+zeros-append a b y z = (λ j. y j ++ z j) ∙ replicate-append-replicate (length a) (length b) 0 ∙ ap (λ (n : ℕ). replicate n 0) (sym (length-append a b))
+
 -- ## The greatest byte
 
 -- the greatest of four, in two orders, with one before them

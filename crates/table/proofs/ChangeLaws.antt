@@ -1,5 +1,5 @@
 -- Laws of changes: what is written as a sound gateway is means it, so a change is right where it writes what the rule's change means.
-use Prim.Native.Nat.{ℕ, zero, suc, _+_, _*_, _-_, _≤_, _<_, max}
+use Prim.Native.Nat.{ℕ, zero, suc, _+_, _-_, _≤_, _<_, max}
 use mathlib.Core.Path.{_≡_, refl, sym, ap, _∙_}
 use mathlib.Core.Logic.{_≢_}
 use mathlib.Core.Bool.{true, false}
@@ -10,9 +10,8 @@ use native.Mathlib.Nat.{not-suc-le-zero, le-of-suc-le-suc}
 use native.Mathlib.Numerals.{add-one}
 use borrow.Rule.Slice.PartMut.{midOf, putMid}
 use lib.Dec.{eqb}
-use lib.ListN.{length, drop, getD, set, replicate, length-drop, length-map, length-set}
-use lib.Seq.{length-take-le}
-use Rattle.wire.specs.Limits.{placeSize, storeSize, passphraseLimit, lastNumber}
+use lib.ListN.{length, getD, set, replicate, length-map, length-set}
+use Rattle.wire.specs.Limits.{storeSize, passphraseLimit, lastNumber}
 use Rattle.wire.specs.Steps.{so}
 use Rattle.rule.specs.declared.Millis.{Millis}
 use Rattle.rule.specs.Gateway.{Entry as Key, Place, Gateway, dueAt, lasting, atClock, advance, vacate, withLock, without, withoutAll, NewKey, newEntry, withEntry}
@@ -29,8 +28,9 @@ use Rattle.table.specs.Soundness.{Sound, Means}
 use Rattle.table.specs.Changes.{Standing, NoOther, MayPut}
 use Rattle.table.specs.Promises.{PlaceForPut}
 use Rattle.table.proofs.FoundLaws.{at-place}
-use Rattle.table.proofs.LayoutLaws.{KeyFits, free-size, key-size, laid-size, laid-at, laid-set, entries-set, laid-free, entries-free}
-use Rattle.table.proofs.WritingLaws.{Writing, sound-writing, sound-meaning, key-fits, key-back, free-back, lock-written, means-of}
+use Rattle.table.proofs.LayoutLaws.{Spans, part-laid, put-laid, entries-set, entries-free}
+use Rattle.table.proofs.SizeLaws.{free-size, key-size, laid-free, laid-store, wiped}
+use Rattle.table.proofs.WritingLaws.{Writing, sound-writing, sound-meaning, key-fits, keys-fit, writing-fits, view-fits, view-eight, key-back, free-back, lock-written, means-of}
 
 -- a state written field by field as a sound gateway is means it
 written-means : (g : Gateway) (es : List Entry) (l : LockRecord) (x : List ℕ) → rule.Sound g → es ≡ map entryFor (g .places) → l ≡ lockOf (g .lock) → x ≡ laid (g .places)
@@ -94,20 +94,12 @@ place-for-put s x i k S for lengths left =
 
 -- ## One place
 
--- the part of the store from `from` up to `to` is place i
-pub record Spans (i from to : ℕ) : Type 0 where
-  pub start : from ≡ i * placeSize
-  pub span : to - from ≡ placeSize
-
-module _ (s : State) (x : List ℕ) (S : Sound s x) (i from to : ℕ) (h : i < 8) (spans : Spans i from to) where
+module _ (s : State) (x : List ℕ) (S : Sound s x) (i from to : ℕ) (h : i < 8) (spans : Spans (view (s .entries) x) i from to) where
   abbrev g : Gateway
   g = gatewayOf s x
 
-  place-whole : length (midOf from (to - from) x) ≡ placeSize
-  place-whole =
-      let l = S .store-size in
-      let room : placeSize ≤ length (drop (i * placeSize) x) = rw length-drop (omega arith) in
-      rw (spans .span, spans .start) (length-take-le placeSize (drop (i * placeSize) x) room)
+  inside : i < length (view (s .entries) x)
+  inside = let eight = view-eight s x S in omega arith
 
   -- one place is written anew
   changed : (q : Place) (e : Entry) (p : List ℕ) (n : ℕ) → Written e p q → rule.Sound (record { places = set (g .places) i q; lock = g .lock; clock = g .clock; next = n })
@@ -117,20 +109,19 @@ module _ (s : State) (x : List ℕ) (S : Sound s x) (i from to : ℕ) (h : i < 8
   changed q e p n w G =
       let old = sound-writing s x S in
       let ps = view (s .entries) x in
-      let eight : length ps ≡ 8 = sound-meaning s x S .eight-places in
-      let fit = every-imp (SoundEntry (s .clock .count) (s .next)) KeyFits (key-fits (s .clock .count) (s .next)) ps (old .keys) in
       let entries : set (s .entries) i e ≡ map entryFor (set ps i q) = (λ j. set (old .entries j) i (w .entry j)) ∙ entries-set ps i q in
-      let store : putMid from (to - from) x p ≡ laid (set ps i q) =
-      rw (spans .span, spans .start) ((λ j. putMid (i * placeSize) placeSize (old .store j) (w .bytes j)) ∙ laid-set ps fit i q (omega arith)) in
+      let store : putMid from (to - from) x p ≡ laid (set ps i q) = put-laid ps i from to inside spans x (old .store) q p (w .bytes) in
       written-means (record { places = set ps i q; lock = gatewayOf s x .lock; clock = s .clock .count; next = n }) _ _ _ G entries (lock-written (s .lock) (S .lock)) store
 
   -- 18: "removed and zeroed"
   pub removed : (e : Entry) (p : List ℕ) → e ≡ entryFor none → p ≡ replicate (length (midOf from (to - from) x)) 0
       → Means (record { entries = set (s .entries) i e; lock = s .lock; clock = s .clock; next = s .next }) (putMid from (to - from) x p) (without i g)
-  unfolding gatewayOf bytesFor
+  unfolding gatewayOf
   removed e p entry bytes =
       let G = sound-meaning s x S in
-      changed none e p (s .next) (record { entry = entry; bytes = bytes ∙ ap (λ (n : ℕ). replicate n 0) place-whole })
+      let part = part-laid (view (s .entries) x) i from to inside spans x (sound-writing s x S .store) in
+      let free = wiped (view (s .entries) x) (view-fits s x S) (view-eight s x S) i h (midOf from (to - from) x) part in
+      changed none e p (s .next) (record { entry = entry; bytes = bytes ∙ free })
       (sound-fewer g (without i g) (length-set (g .places) i none) (set-none-fewer (g .places) i) refl (omega arith) refl G)
 
   -- "stored, next number taken"
@@ -152,13 +143,13 @@ unfolding gatewayOf
 cleared s x y es S entries store =
     let g = gatewayOf s x in
     let G = sound-meaning s x S in
-    let eight : length (view (s .entries) x) ≡ 8 = G .eight-places in
-    let size : length x ≡ length (view (s .entries) x) * placeSize = let l = S .store-size in omega arith in
-    written-means (withoutAll g) es (s .lock) y
-    (sound-fewer g (withoutAll g) (length-map (g .places) vacate) (freed-fewer vacate vacate-frees (g .places)) refl (omega arith) refl G)
-    (entries ∙ ap (λ (n : ℕ). replicate n (entryFor none)) (sym eight) ∙ sym (entries-free (view (s .entries) x)))
+    let ps = view (s .entries) x in
+    let after = sound-fewer g (withoutAll g) (length-map (g .places) vacate) (freed-fewer vacate vacate-frees (g .places)) refl (omega arith) refl G in
+    let size : length x ≡ length (laid (map vacate ps)) = S .store-size ∙ sym (laid-store (map vacate ps) (keys-fit (withoutAll g) after) (after .eight-places)) in
+    written-means (withoutAll g) es (s .lock) y after
+    (entries ∙ ap (λ (n : ℕ). replicate n (entryFor none)) (sym (view-eight s x S)) ∙ sym (entries-free ps))
     (lock-written (s .lock) (S .lock))
-    (store ∙ ap (λ (n : ℕ). replicate n 0) size ∙ sym (laid-free (view (s .entries) x)))
+    (store ∙ ap (λ (n : ℕ). replicate n 0) size ∙ sym (laid-free ps))
 
 pub relocked : (s : State) (x p : List ℕ) (l : LockRecord) → Sound s x → length p ≤ passphraseLimit → l ≡ lockOf p
     → Means (record { entries = s .entries; lock = l; clock = s .clock; next = s .next }) x (withLock p (gatewayOf s x))
@@ -278,38 +269,34 @@ written-stands clock next e p q (a-key k is sound) w =
 
 -- a store of eight places
 pub writing-size : (clock next : ℕ) (es : List Entry) (x : List ℕ) (ps : List Place) → Writing clock next es x ps → length ps ≡ 8 → length x ≡ storeSize
-writing-size clock next es x ps w eight =
-    let fit = every-imp (SoundEntry clock next) KeyFits (key-fits clock next) ps (w .keys) in
-    ap length (w .store) ∙ laid-size ps fit ∙ ap (λ (n : ℕ). n * placeSize) eight
+writing-size clock next es x ps w eight = ap length (w .store) ∙ laid-store ps (writing-fits clock next es x ps w) eight
 
 -- one turn of the sweep
 module _ (clock next : ℕ) (ps : List Place) (i from to : ℕ) (es : List Entry) (x : List ℕ) (e₀ : Entry)
-    (all : EveryEntry (SoundEntry clock next) ps) (w : Writing clock next es x (swept clock i ps)) (h : i < length ps) (spans : Spans i from to) where
+    (all : EveryEntry (SoundEntry clock next) ps) (w : Writing clock next es x (swept clock i ps)) (h : i < length ps) (spans : Spans (swept clock i ps) i from to) where
   abbrev here : Entry
   here = getD es i e₀
 
   abbrev part : List ℕ
   part = midOf from (to - from) x
 
+  inside-swept : i < length (swept clock i ps)
+  inside-swept = let long = swept-length clock i ps in omega arith
+
   pub sweep-stands : Stands clock here part (getD ps i none)
   sweep-stands =
-      let long : length (swept clock i ps) ≡ length ps = swept-length clock i ps in
-      let inside : i < length (swept clock i ps) = omega arith in
-      let fit = every-imp (SoundEntry clock next) KeyFits (key-fits clock next) (swept clock i ps) (w .keys) in
-      let entry : here ≡ entryFor (getD (swept clock i ps) i none) = ap (λ (l : List Entry). getD l i e₀) (w .entries) ∙ getD-map entryFor (swept clock i ps) i none e₀ inside in
-      let bytes : part ≡ bytesFor (getD (swept clock i ps) i none) = rw (spans .span, spans .start, w .store) (laid-at (swept clock i ps) fit i inside) in
+      let entry : here ≡ entryFor (getD (swept clock i ps) i none) = ap (λ (l : List Entry). getD l i e₀) (w .entries) ∙ getD-map entryFor (swept clock i ps) i none e₀ inside-swept in
+      let bytes : part ≡ bytesFor (getD (swept clock i ps) i none) = part-laid (swept clock i ps) i from to inside-swept spans x (w .store) in
       rw swept-at at (written-stands clock next here part (getD (swept clock i ps) i none) (key-in clock next (swept clock i ps) (w .keys) i) (record { entry = entry; bytes = bytes }))
 
   pub sweep-step : (e : Entry) (p : List ℕ) → Written e p (lasting clock (placeOf here part)) → Writing clock next (set es i e) (putMid from (to - from) x p) (swept clock (i + 1) ps)
   sweep-step e p new =
-      let long : length (swept clock i ps) ≡ length ps = swept-length clock i ps in
-      let fit = every-imp (SoundEntry clock next) KeyFits (key-fits clock next) (swept clock i ps) (w .keys) in
       let q = lasting clock (getD ps i none) in
       let new-is : Written e p q = rw (sweep-stands .place) at new in
       let step = swept-step clock i ps h in
       record {
         entries = (λ j. set (w .entries j) i (new-is .entry j)) ∙ entries-set (swept clock i ps) i q ∙ ap (map entryFor) step;
-        store = rw (spans .span, spans .start) ((λ j. putMid (i * placeSize) placeSize (w .store j) (new-is .bytes j)) ∙ laid-set (swept clock i ps) fit i q (omega arith) ∙ ap laid step);
+        store = put-laid (swept clock i ps) i from to inside-swept spans x (w .store) q p (new-is .bytes) ∙ ap laid step;
         keys = swept-every clock (SoundEntry clock next) (i + 1) ps all;
       }
 

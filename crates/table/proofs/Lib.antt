@@ -3,6 +3,7 @@ pub mod ArrayLaws
 pub mod ByteLaws
 pub mod EachLaws
 pub mod LayoutLaws
+pub mod SizeLaws
 pub mod TestLaws
 pub mod WritingLaws
 pub mod FoundLaws

@@ -16,11 +16,12 @@ use Rattle.rule.specs.Rule.{numberIn, confirmIn}
 use Rattle.rule.proofs.Cases.{so-cases}
 use Rattle.table.specs.declared.Entry.{Entry}
 use Rattle.table.specs.declared.State.{State}
-use Rattle.table.specs.Each.{Each, offset}
+use Rattle.table.specs.Each.{Each}
 use Rattle.table.specs.Bytes.{padded}
 use Rattle.table.specs.Meaning.{size, isSet, keyOf, placeOf, blobIn, commentIn, view, gatewayOf, noEntry, keptComment, entryFor}
 use Rattle.table.specs.Soundness.{soundPlace, soundPlaces, SoundPlace, free, held, Housed, Sound}
-use Rattle.table.proofs.EachLaws.{offset-even, each-length, each-at, every-at, each-says}
+use Rattle.table.proofs.EachLaws.{each-length, each-at, every-at, each-says}
+use Rattle.table.proofs.SizeLaws.{place-start}
 use Rattle.table.proofs.TestLaws.{place-says}
 use Rattle.table.proofs.WritingLaws.{Seen, seen-free, seen-held, seen}
 
@@ -35,14 +36,11 @@ module _ (es : List Entry) (x : List ℕ) (eight : length es ≡ 8) where
   pub view-length : length (view es x) ≡ 8
   view-length = each-length size placeOf es x ∙ eight
 
-  start : (i : ℕ) → i < 8 → offset size es i ≡ i * placeSize
-  start i h = offset-even size placeSize (λ e. refl) es i (omega arith)
-
   pub view-at : (i : ℕ) → i < 8 → getD (view es x) i none ≡ placeOf (getD es i noEntry) (partAt x i)
-  view-at i h = each-at size placeOf es x i noEntry none (omega arith) ∙ rw (start i h)
+  view-at i h = each-at size placeOf es x i noEntry none (omega arith) ∙ rw (place-start es i (omega arith))
 
   sound-at : (clock next i : ℕ) → i < 8 → Each (SoundPlace clock next) size es x → SoundPlace clock next (getD es i noEntry) (partAt x i)
-  sound-at clock next i h all = rw (start i h) at (every-at size (SoundPlace clock next) es x i noEntry (omega arith) all)
+  sound-at clock next i h all = rw (place-start es i (omega arith)) at (every-at size (SoundPlace clock next) es x i noEntry (omega arith) all)
 
 -- ## What an entry says of its place
 

@@ -23,7 +23,8 @@ use Rattle.table.specs.Bytes.{allZero}
 use Rattle.table.specs.Each.{each}
 use Rattle.table.specs.Meaning.{size, keyOf, placeOf, view, noEntry}
 use Rattle.table.specs.Soundness.{soundComment, zeroComment, isFlag, soundFlags, soundLifetime, soundLock, soundPlace, all, soundPlaces, unlike, Housed}
-use Rattle.table.proofs.EachLaws.{offset-even, each-length, each-at}
+use Rattle.table.proofs.EachLaws.{each-length, each-at}
+use Rattle.table.proofs.SizeLaws.{place-start}
 use Rattle.table.proofs.ReadLaws.{partAt, part-size, view-length, view-at, place-free, place-held}
 
 -- ## Tests
@@ -128,7 +129,7 @@ module _ (clock next : ℕ) (es : List Entry) (x : List ℕ) (eight : length es 
 
   module _ (i : ℕ) (p : List ℕ) (b : Bool) (i-in : i < 8) (p-is : p ≡ partAt x i) (e : b ≡ soundPlace clock next (getD es i noEntry) p) where
     test-at : b ≡ getD (each (soundPlace clock next) size es x) i true
-    test-at = e ∙ rw (p-is, each-at size (soundPlace clock next) es x i noEntry true (omega arith), offset-even size placeSize (λ _. refl) es i (omega arith))
+    test-at = e ∙ rw (p-is, each-at size (soundPlace clock next) es x i noEntry true (omega arith), place-start es i (omega arith))
 
     pub place-on : not b ≡ false → PlacesLeft clock next es x i → PlacesLeft clock next es x (i + 1)
     place-on t = walk-on all (λ t _. t) all-none all-goes true _ _ i b (rw eight-tests i-in) t test-at

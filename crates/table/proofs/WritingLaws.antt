@@ -1,16 +1,15 @@
 -- A sound state and store are written in one way: place by place, entry and bytes are those of what they mean, and a sound gateway written
 -- so is sound and means itself.
-use Prim.Native.Nat.{ℕ, zero, suc, _+_, _*_, _-_, _≤_}
+use Prim.Native.Nat.{ℕ, zero, suc, _+_, _-_, _≤_}
 use mathlib.Core.Path.{_≡_, refl, sym, ap, _∙_}
 use mathlib.Core.Bool.{Bool, true, false}
 use mathlib.Core.Option.{none, some}
 use mathlib.Core.List.{List, [], _∷_, _++_, map}
 use native.Mathlib.Omega.{arith}
-use native.Mathlib.Nat.{zero-mul, suc-mul}
 use borrow.Author.Tests.{ne-eqb}
-use lib.ListN.{length, take, drop, replicate, length-drop, length-map, length-take, length-replicate, take-append-drop}
+use lib.ListN.{length, take, drop, replicate, length-drop, length-map, length-take, take-append-drop}
 use lib.Seq.{length-take-le, take-take, take-at, drop-at, take-append-le}
-use Rattle.wire.specs.Limits.{placeSize, storeSize, blobLimit, fieldsLimit, fieldsAt, commentLimit, passphraseLimit}
+use Rattle.wire.specs.Limits.{storeSize, blobLimit, fieldsLimit, fieldsAt, commentLimit, passphraseLimit}
 use Rattle.wire.specs.Steps.{so}
 use Rattle.keys.specs.declared.constraints.Lifetime.{Lifetime}
 use Rattle.keys.specs.declared.constraints.Lifetime.the-variants.{Forever, For}
@@ -24,13 +23,13 @@ use Rattle.table.specs.declared.Entry.{Entry}
 use Rattle.table.specs.declared.LockRecord.{LockRecord}
 use Rattle.table.specs.declared.State.{State}
 use Rattle.table.specs.Bytes.{padded}
-use Rattle.table.specs.Each.{each, Each}
+use Rattle.table.specs.Each.{each, Each, offset}
 use Rattle.table.specs.Meaning.{size, isSet, lifetimeOf, commentOf, keyOf, placeOf, view, passphrase, gatewayOf, flagOf, limitedFlag, keptSeconds, keptComment, heldBytes, entryFor, bytesFor, laid, lockOf, stateOf, layout}
 use Rattle.table.specs.Soundness.{Flag, SoundComment, SoundPlace, free, held, SoundLock, Sound, Means}
 use Rattle.table.specs.Promises.{FlagRule, SoundMeaning, SoundCanonical, OneWriting, EveryGateway, FreshMeans}
 use Rattle.table.proofs.ByteLaws.{padded-size, padded-front, padded-rest, zeros-padded}
 use Rattle.table.proofs.EachLaws.{each-length}
-use Rattle.table.proofs.LayoutLaws.{KeyFits, free-size, key-size, laid-size, laid-free}
+use Rattle.table.proofs.SizeLaws.{entries-end, KeyFits, free-size, key-size, free-zeros, laid-free, laid-store}
 
 -- ## One place
 
@@ -69,7 +68,7 @@ pub data Seen (clock next : ℕ) (e : Entry) (p : List ℕ) : Type 0 where
   seen-free : placeOf e p ≡ none → e ≡ entryFor none → p ≡ bytesFor none → Seen clock next e p
   seen-held : placeOf e p ≡ some (keyOf e p) → e ≡ entryFor (some (keyOf e p)) → p ≡ bytesFor (some (keyOf e p)) → SoundEntry clock next (keyOf e p) → Seen clock next e p
 
-module _ (clock next : ℕ) (e : Entry) (p : List ℕ) (whole : length p ≡ placeSize) where
+module _ (clock next : ℕ) (e : Entry) (p : List ℕ) (whole : length p ≡ size e) where
   pub seen : SoundPlace clock next e p → Seen clock next e p
   unfolding placeOf entryFor bytesFor heldBytes so
   seen (free f z) = seen-free (rw f) f (z ∙ ap (λ (n : ℕ). replicate n 0) whole)
@@ -127,20 +126,28 @@ module _ (clock next : ℕ) where
   writing-first e p es x ps (seen-held is entry bytes key) w =
       rw is (record { entries = (λ j. entry j ∷ w .entries j); store = (λ j. bytes j ++ w .store j); keys = (key, w .keys) })
 
-  writing : (es : List Entry) (x : List ℕ) → length es * placeSize ≡ length x → Each (SoundPlace clock next) size es x → Writing clock next es x (view es x)
-  unfolding each laid
+  writing : (es : List Entry) (x : List ℕ) → offset size es (length es) ≡ length x → Each (SoundPlace clock next) size es x → Writing clock next es x (view es x)
+  unfolding each offset laid
   writing [] [] l all = record { entries = refl; store = refl; keys = tt }
-  writing [] (b ∷ x) l all = absurd (omega (arith, zero-mul placeSize))
+  writing [] (b ∷ x) l all = absurd (omega arith)
   writing (e ∷ es) x l all =
-      let n : length es * placeSize + placeSize ≡ length x = sym (suc-mul (length es) placeSize) ∙ l in
-      let whole : length (take placeSize x) ≡ placeSize = length-take-le placeSize x (omega arith) in
-      let rest : length es * placeSize ≡ length (drop placeSize x) = rw length-drop (omega arith) in
-      let first = seen clock next e (take placeSize x) whole (all .0) in
-      let w = writing-first e (take placeSize x) es (drop placeSize x) (view es (drop placeSize x)) first (writing es (drop placeSize x) rest (all .1)) in
+      let whole : length (take (size e) x) ≡ size e = length-take-le (size e) x (omega arith) in
+      let rest : offset size es (length es) ≡ length (drop (size e) x) = rw length-drop (omega arith) in
+      let first = seen clock next e (take (size e) x) whole (all .0) in
+      let w = writing-first e (take (size e) x) es (drop (size e) x) (view es (drop (size e) x)) first (writing es (drop (size e) x) rest (all .1)) in
       rw take-append-drop at w
 
 pub sound-writing : (s : State) (x : List ℕ) → Sound s x → Writing (s .clock .count) (s .next) (s .entries) x (view (s .entries) x)
-sound-writing s x S = writing (s .clock .count) (s .next) (s .entries) x (let a = S .eight-entries in let b = S .store-size in omega arith) (S .places)
+sound-writing s x S = writing (s .clock .count) (s .next) (s .entries) x (entries-end (s .entries) (S .eight-entries) ∙ sym (S .store-size)) (S .places)
+
+pub key-fits : (clock next : ℕ) (k : Key) → SoundEntry clock next k → KeyFits k
+key-fits clock next k s = s .lengths
+
+pub writing-fits : (clock next : ℕ) (es : List Entry) (x : List ℕ) (ps : List Place) → Writing clock next es x ps → EveryEntry KeyFits ps
+writing-fits clock next es x ps w = every-imp (SoundEntry clock next) KeyFits (key-fits clock next) ps (w .keys)
+
+pub view-fits : (s : State) (x : List ℕ) → Sound s x → EveryEntry KeyFits (view (s .entries) x)
+view-fits s x S = writing-fits _ _ _ _ _ (sound-writing s x S)
 
 pub view-eight : (s : State) (x : List ℕ) → Sound s x → length (view (s .entries) x) ≡ 8
 view-eight s x S = each-length size placeOf (s .entries) x ∙ S .eight-entries
@@ -203,9 +210,6 @@ comment-sound : (c : List ℕ) → length c ≤ commentLimit → SoundComment (k
 unfolding keptComment
 comment-sound c h = record { comment-size = padded-size commentLimit c h; comment-fits = h; comment-rest = padded-rest commentLimit c }
 
-pub key-fits : (clock next : ℕ) (k : Key) → SoundEntry clock next k → KeyFits k
-key-fits clock next k s = s .lengths
-
 module _ (clock next : ℕ) (k : Key) (s : SoundEntry clock next k) where
   blob-padded : length (padded blobLimit (k .blob)) ≡ blobLimit
   blob-padded = padded-size blobLimit (k .blob) (s .lengths .blob-fits)
@@ -261,26 +265,26 @@ free-back = refl
 
 free-sound : (clock next : ℕ) → SoundPlace clock next (entryFor none) (bytesFor none)
 unfolding entryFor bytesFor
-free-sound clock next = free refl (ap (λ (n : ℕ). replicate n 0) (sym (length-replicate {A = ℕ} placeSize 0)))
+free-sound clock next = free refl free-zeros
 
 module _ (clock next : ℕ) where
   view-back : (ps : List Place) → EveryEntry (SoundEntry clock next) ps → view (map entryFor ps) (laid ps) ≡ ps
   unfolding each laid
   view-back [] all = refl
-  view-back (none ∷ ps) all = rw (take-at (bytesFor none) (laid ps) placeSize free-size, drop-at (bytesFor none) (laid ps) placeSize free-size, view-back ps all, free-back)
+  view-back (none ∷ ps) all = rw (take-at (bytesFor none) (laid ps) (size (entryFor none)) free-size, drop-at (bytesFor none) (laid ps) (size (entryFor none)) free-size, view-back ps all, free-back)
   view-back (some k ∷ ps) all =
       let l = key-size k (key-fits clock next k (all .0)) in
-      rw (take-at (bytesFor (some k)) (laid ps) placeSize l, drop-at (bytesFor (some k)) (laid ps) placeSize l, view-back ps (all .1), key-back clock next k (all .0))
+      rw (take-at (bytesFor (some k)) (laid ps) (size (entryFor (some k))) l, drop-at (bytesFor (some k)) (laid ps) (size (entryFor (some k))) l, view-back ps (all .1), key-back clock next k (all .0))
 
   each-back : (ps : List Place) → EveryEntry (SoundEntry clock next) ps → Each (SoundPlace clock next) size (map entryFor ps) (laid ps)
   unfolding laid
   each-back [] all = tt
-  each-back (none ∷ ps) all = rw (take-at (bytesFor none) (laid ps) placeSize free-size, drop-at (bytesFor none) (laid ps) placeSize free-size) (free-sound clock next, each-back ps all)
+  each-back (none ∷ ps) all = rw (take-at (bytesFor none) (laid ps) (size (entryFor none)) free-size, drop-at (bytesFor none) (laid ps) (size (entryFor none)) free-size) (free-sound clock next, each-back ps all)
   each-back (some k ∷ ps) all =
       let l = key-size k (key-fits clock next k (all .0)) in
-      rw (take-at (bytesFor (some k)) (laid ps) placeSize l, drop-at (bytesFor (some k)) (laid ps) placeSize l) (key-sound clock next k (all .0), each-back ps (all .1))
+      rw (take-at (bytesFor (some k)) (laid ps) (size (entryFor (some k))) l, drop-at (bytesFor (some k)) (laid ps) (size (entryFor (some k))) l) (key-sound clock next k (all .0), each-back ps (all .1))
 
-keys-fit : (g : Gateway) → rule.Sound g → EveryEntry KeyFits (g .places)
+pub keys-fit : (g : Gateway) → rule.Sound g → EveryEntry KeyFits (g .places)
 keys-fit g G = every-imp (SoundEntry (g .clock) (g .next)) KeyFits (key-fits (g .clock) (g .next)) (g .places) (G .entries)
 
 lock-sound : (p : List ℕ) → length p ≤ passphraseLimit → SoundLock (lockOf p)
@@ -299,7 +303,7 @@ every-gateway g G =
       gateway = λ j. record { places = view-is j; lock = lock-back (g .lock) j; clock = g .clock; next = g .next };
       sound = record {
         eight-entries = length-map (g .places) entryFor ∙ G .eight-places;
-        store-size = laid-size (g .places) (keys-fit g G) ∙ ap (λ (n : ℕ). n * placeSize) (G .eight-places);
+        store-size = laid-store (g .places) (keys-fit g G) (G .eight-places);
         next-first = G .next-first;
         next-last = G .next-last;
         lock = lock-sound (g .lock) (G .lock-fits);
@@ -314,4 +318,6 @@ means-of s x g G a b = rw (a, b) (every-gateway g G)
 
 pub fresh-means : FreshMeans
 unfolding layout
-fresh-means = means-of (stateOf fresh) (replicate storeSize 0) fresh fresh-sound refl (sym (laid-free (replicate 8 none)))
+fresh-means =
+    let size = laid-store (fresh .places) (keys-fit fresh fresh-sound) (fresh-sound .eight-places) in
+    means-of (stateOf fresh) (replicate storeSize 0) fresh fresh-sound refl (sym (laid-free (replicate 8 none) ∙ ap (λ (n : ℕ). replicate n 0) size))

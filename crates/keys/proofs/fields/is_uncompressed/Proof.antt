@@ -21,4 +21,10 @@ unfolding uncompressed
 returns-3 c = rw (eq-eqb _ _ (c .before .before .if1 .left))
 
 pub is-uncompressed-spec : {M : Type 1} → statement M
-is-uncompressed-spec = tie.close (tie.spec returns returns-2 (λ c. search needs) returns-3)
+is-uncompressed-spec =
+    tie.close
+    (tie.spec
+    returns
+    returns-2
+    (λ c. search needs)
+    returns-3)

@@ -6,4 +6,14 @@ use Rattle.keys.proofs.fields.point_at.Tie as tie
 
 pub point-at-spec : {M : Type 1} → statement M
 unfolding pointAt
-point-at-spec = tie.close (tie.spec (λ c κs. search all depth 16) (λ c. search all depth 16) (λ c. search all depth 16) (λ c. search all depth 16) (λ c κs. search all depth 16) (λ c κs. search all depth 16) (λ c. search all depth 16) (λ c. search all depth 16))
+point-at-spec =
+    tie.close
+    (tie.spec
+    (λ c κs. search all depth 16)
+    (λ c. search all depth 16)
+    (λ c. search all depth 16)
+    (λ c. search all depth 16)
+    (λ c κs. search all depth 16)
+    (λ c κs. search all depth 16)
+    (λ c. search all depth 16)
+    (λ c. search all depth 16))

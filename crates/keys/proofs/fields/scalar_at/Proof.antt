@@ -6,4 +6,14 @@ use Rattle.keys.proofs.fields.scalar_at.Tie as tie
 
 pub scalar-at-spec : {M : Type 1} → statement M
 unfolding scalarAt
-scalar-at-spec = tie.close (tie.spec (λ c κs. search all depth 16) (λ c. search all depth 16) (λ c. search all depth 16) (λ c. search all depth 16) (λ c κs. search all depth 16) (λ c κs. search all depth 16) (λ c. search all depth 16) (λ c. search all depth 16))
+scalar-at-spec =
+    tie.close
+    (tie.spec
+    (λ c κs. search all depth 16)
+    (λ c. search all depth 16)
+    (λ c. search all depth 16)
+    (λ c. search all depth 16)
+    (λ c κs. search all depth 16)
+    (λ c κs. search all depth 16)
+    (λ c. search all depth 16)
+    (λ c. search all depth 16))

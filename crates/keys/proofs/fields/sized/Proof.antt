@@ -6,4 +6,13 @@ use Rattle.keys.proofs.fields.sized.Tie as tie
 
 pub sized-spec : {M : Type 1} → statement M
 unfolding sizedAt
-sized-spec = tie.close (tie.spec (λ c κs. search all depth 16) (λ c. search all depth 16) (λ c. search all depth 16) (λ c. search all depth 16) (λ c. search all depth 16) (λ c. search all depth 16) (λ c. search all depth 16))
+sized-spec =
+    tie.close
+    (tie.spec
+    (λ c κs. search all depth 16)
+    (λ c. search all depth 16)
+    (λ c. search all depth 16)
+    (λ c. search all depth 16)
+    (λ c. search all depth 16)
+    (λ c. search all depth 16)
+    (λ c. search all depth 16))

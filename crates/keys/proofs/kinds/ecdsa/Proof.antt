@@ -6,4 +6,19 @@ use Rattle.keys.proofs.kinds.ecdsa.Tie as tie
 
 pub ecdsa-spec : {M : Type 1} → statement M
 unfolding ecdsaAt
-ecdsa-spec = tie.close (tie.spec (λ c κs. search all depth 16) (λ c. search all depth 16) (λ c. search all depth 16) (λ c. search all depth 16) (λ c κs. search all depth 16) (λ c. search all depth 16) (λ c. search all depth 16) (λ c. search all depth 16) (λ c κs. search all depth 16) (λ c. search all depth 16) (λ c. search all depth 16) (λ c. search all depth 16) (λ c. search all depth 16))
+ecdsa-spec =
+    tie.close
+    (tie.spec
+    (λ c κs. search all depth 16)
+    (λ c. search all depth 16)
+    (λ c. search all depth 16)
+    (λ c. search all depth 16)
+    (λ c κs. search all depth 16)
+    (λ c. search all depth 16)
+    (λ c. search all depth 16)
+    (λ c. search all depth 16)
+    (λ c κs. search all depth 16)
+    (λ c. search all depth 16)
+    (λ c. search all depth 16)
+    (λ c. search all depth 16)
+    (λ c. search all depth 16))

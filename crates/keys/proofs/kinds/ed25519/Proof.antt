@@ -6,4 +6,20 @@ use Rattle.keys.proofs.kinds.ed25519.Tie as tie
 
 pub ed25519-spec : {M : Type 1} → statement M
 unfolding ed25519At
-ed25519-spec = tie.close (tie.spec (λ c κs. search all depth 16) (λ c. search all depth 16) (λ c. search all depth 16) (λ c. search all depth 16) (λ c κs. search all depth 16) (λ c. search all depth 16) (λ c. search all depth 16) (λ c. search all depth 16) (λ c. search all depth 16) (λ c κs. search all depth 16) (λ c κs. search all depth 16) (λ c κs. search all depth 16) (λ c. search all depth 16) (λ c. search all depth 16))
+ed25519-spec =
+    tie.close
+    (tie.spec
+    (λ c κs. search all depth 16)
+    (λ c. search all depth 16)
+    (λ c. search all depth 16)
+    (λ c. search all depth 16)
+    (λ c κs. search all depth 16)
+    (λ c. search all depth 16)
+    (λ c. search all depth 16)
+    (λ c. search all depth 16)
+    (λ c. search all depth 16)
+    (λ c κs. search all depth 16)
+    (λ c κs. search all depth 16)
+    (λ c κs. search all depth 16)
+    (λ c. search all depth 16)
+    (λ c. search all depth 16))

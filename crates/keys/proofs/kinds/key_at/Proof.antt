@@ -12,29 +12,95 @@ returns c = search steps depth 8
 
 returns-2 : tie.Need-returns-2
 unfolding keyAt part
-returns-2 c = rw (← c .before .before .before .before .before .before .before .before .string .ensures, c .before .before .before .before .before .before .from .given .1, ← c .before .before .before .before .cut .ensures .bytes, ← c .before .before .before .kind-of .ensures, c .before .enum-told2 .given .1) (c .ed25519 .ensures)
+returns-2 c =
+    let told = c .before in
+    let kind = told .before .before in
+    let taken = kind .before in
+    let typed = taken .before .before in
+    let read = typed .before .before in
+    rw (← read .string .ensures, typed .from .given .1, ← taken .cut .ensures .bytes, ← kind .kind-of .ensures, told .enum-told2 .given .1)
+    (c .ed25519 .ensures)
 
 returns-3 : tie.Need-returns-3
 unfolding keyAt part
-returns-3 c = rw (← c .before .before .before .before .before .before .before .before .before .string .ensures, c .before .before .before .before .before .before .before .from .given .1, ← c .before .before .before .before .before .cut .ensures .bytes, ← c .before .before .before .before .kind-of .ensures, c .before .before .enum-told3 .given .1) (c .ecdsa .ensures)
+returns-3 c =
+    let told = c .before .before in
+    let kind = told .before .before in
+    let taken = kind .before in
+    let typed = taken .before .before in
+    let read = typed .before .before in
+    rw (← read .string .ensures, typed .from .given .1, ← taken .cut .ensures .bytes, ← kind .kind-of .ensures, told .enum-told3 .given .1)
+    (c .ecdsa .ensures)
 
 returns-4 : tie.Need-returns-4
 unfolding keyAt part
-returns-4 c = rw (← c .before .before .before .before .before .before .before .before .before .string .ensures, c .before .before .before .before .before .before .before .from .given .1, ← c .before .before .before .before .before .cut .ensures .bytes, ← c .before .before .before .before .kind-of .ensures, c .before .before .enum-told4 .given .1) (c .ecdsa2 .ensures)
+returns-4 c =
+    let told = c .before .before in
+    let kind = told .before .before in
+    let taken = kind .before in
+    let typed = taken .before .before in
+    let read = typed .before .before in
+    rw (← read .string .ensures, typed .from .given .1, ← taken .cut .ensures .bytes, ← kind .kind-of .ensures, told .enum-told4 .given .1)
+    (c .ecdsa2 .ensures)
 
 returns-5 : tie.Need-returns-5
 unfolding keyAt part
-returns-5 c = rw (← c .before .before .before .before .before .before .before .before .before .string .ensures, c .before .before .before .before .before .before .before .from .given .1, ← c .before .before .before .before .before .cut .ensures .bytes, ← c .before .before .before .before .kind-of .ensures, c .before .before .enum-told5 .given .1) (c .ecdsa3 .ensures)
+returns-5 c =
+    let told = c .before .before in
+    let kind = told .before .before in
+    let taken = kind .before in
+    let typed = taken .before .before in
+    let read = typed .before .before in
+    rw (← read .string .ensures, typed .from .given .1, ← taken .cut .ensures .bytes, ← kind .kind-of .ensures, told .enum-told5 .given .1)
+    (c .ecdsa3 .ensures)
 
 returns-6 : tie.Need-returns-6
 unfolding keyAt part
-returns-6 c = rw (← c .before .before .before .before .before .before .before .before .string .ensures, c .before .before .before .before .before .before .from .given .1, ← c .before .before .before .before .cut .ensures .bytes, ← c .before .before .before .kind-of .ensures, c .before .enum-told6 .given .1) (c .rsa .ensures)
+returns-6 c =
+    let told = c .before in
+    let kind = told .before .before in
+    let taken = kind .before in
+    let typed = taken .before .before in
+    let read = typed .before .before in
+    rw (← read .string .ensures, typed .from .given .1, ← taken .cut .ensures .bytes, ← kind .kind-of .ensures, told .enum-told6 .given .1)
+    (c .rsa .ensures)
 
 returns-7 : tie.Need-returns-7
 unfolding keyAt part
-returns-7 c = rw (← c .before .before .before .before .before .before .before .string .ensures, c .before .before .before .before .before .from .given .1, ← c .before .before .before .cut .ensures .bytes, ← c .before .before .kind-of .ensures, c .enum-told7 .given .1)
+returns-7 c =
+    let kind = c .before .before in
+    let taken = kind .before in
+    let typed = taken .before .before in
+    let read = typed .before .before in
+    rw (← read .string .ensures, typed .from .given .1, ← taken .cut .ensures .bytes, ← kind .kind-of .ensures, c .enum-told7 .given .1)
 
 pub key-at-spec : {M : Type 1} → statement M
 key-at-spec =
     tie.close
-    (tie.spec (λ c κs. search needs) (λ c. search needs) (λ c. search needs) returns (λ c κs. search needs) (λ c κs. search needs) (λ c. search needs) (λ c κs. search needs) (λ c. search needs) (λ c. search needs) (λ c κs. search needs) (λ c. search needs) (λ c. search needs) (λ c κs. search needs) (λ c. search needs) (λ c. search needs) (λ c κs. search needs) (λ c. search needs) (λ c κs. search needs) (λ c. search needs) returns-2 returns-3 returns-4 returns-5 returns-6 returns-7)
+    (tie.spec
+    (λ c κs. search needs)
+    (λ c. search needs)
+    (λ c. search needs)
+    returns
+    (λ c κs. search needs)
+    (λ c κs. search needs)
+    (λ c. search needs)
+    (λ c κs. search needs)
+    (λ c. search needs)
+    (λ c. search needs)
+    (λ c κs. search needs)
+    (λ c. search needs)
+    (λ c. search needs)
+    (λ c κs. search needs)
+    (λ c. search needs)
+    (λ c. search needs)
+    (λ c κs. search needs)
+    (λ c. search needs)
+    (λ c κs. search needs)
+    (λ c. search needs)
+    returns-2
+    returns-3
+    returns-4
+    returns-5
+    returns-6
+    returns-7)

@@ -16,11 +16,16 @@ returns-3 c = blob-long _ _ _ _ _ _ _ (c .before .before .before .before .before
 
 returns-4 : tie.Need-returns-4
 returns-4 c =
-    blob-fits _ _ _ _ _ _ _ (c .before .before .before .before .before .before .before .before .before .before .before .before .before .before .before .before .before .cut .ensures .bytes) (c .before .before .before .before .before .before .before .before .before .before .before .before .before .before .before .before .cut2 .ensures .bytes) (c .before .before .before .before .before .before .before .before .before .before .before .before .before .before .before .cut3 .ensures .bytes) _ _ _ _ _ _
-    (c .before .before .before .before .before .before .before .before .before .before .put-bytes .ensures .1) (c .before .before .before .before .before .before .before .before .before .before .put-bytes .ensures .0)
-    (c .before .before .before .before .before .before .put-bytes2 .ensures .1) (c .before .before .before .before .before .before .put-bytes2 .ensures .0)
-    (c .before .before .put-bytes3 .ensures .1) (c .before .before .put-bytes3 .ensures .0)
-    (omega (arith, c .before .before .before .before .before .before .before .before .before .before .before .before .if3 .left, c .before .before .before .before .before .before .before .before .before .before .before .before .before .if2 .left, c .before .before .before .before .before .before .before .before .before .before .before .before .before .before .if1 .left))
+    let third = c .before .before in
+    let second = third .before .before .before .before in
+    let first = second .before .before .before .before in
+    let tests = first .before .before in
+    let parts = tests .before .before .before in
+    blob-fits _ _ _ _ _ _ _ (parts .before .before .cut .ensures .bytes) (parts .before .cut2 .ensures .bytes) (parts .cut3 .ensures .bytes) _ _ _ _ _ _
+    (first .put-bytes .ensures .1) (first .put-bytes .ensures .0)
+    (second .put-bytes2 .ensures .1) (second .put-bytes2 .ensures .0)
+    (third .put-bytes3 .ensures .1) (third .put-bytes3 .ensures .0)
+    (omega (arith, tests .if3 .left, tests .before .if2 .left, tests .before .before .if1 .left))
 
 pub put-blob-spec : {M : Type 1} → statement M
 put-blob-spec =

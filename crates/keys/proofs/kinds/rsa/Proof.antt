@@ -6,4 +6,19 @@ use Rattle.keys.proofs.kinds.rsa.Tie as tie
 
 pub rsa-spec : {M : Type 1} → statement M
 unfolding rsaAt
-rsa-spec = tie.close (tie.spec (λ c κs. search all depth 16) (λ c. search all depth 16) (λ c. search all depth 16) (λ c. search all depth 16) (λ c κs. search all depth 16) (λ c. search all depth 16) (λ c. search all depth 16) (λ c. search all depth 16) (λ c κs. search all depth 16) (λ c. search all depth 16) (λ c. search all depth 16) (λ c. search all depth 16) (λ c. search all depth 16))
+rsa-spec =
+    tie.close
+    (tie.spec
+    (λ c κs. search all depth 16)
+    (λ c. search all depth 16)
+    (λ c. search all depth 16)
+    (λ c. search all depth 16)
+    (λ c κs. search all depth 16)
+    (λ c. search all depth 16)
+    (λ c. search all depth 16)
+    (λ c. search all depth 16)
+    (λ c κs. search all depth 16)
+    (λ c. search all depth 16)
+    (λ c. search all depth 16)
+    (λ c. search all depth 16)
+    (λ c. search all depth 16))

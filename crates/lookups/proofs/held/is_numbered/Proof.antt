@@ -10,4 +10,8 @@ returns-2 : tie.Need-returns-2
 returns-2 c p = rw (place-held (c .before .before .before .args .e) p (c .before .if1 .left))
 
 pub is-numbered-spec : {M : Type 1} → statement M
-is-numbered-spec = tie.close (tie.spec returns returns-2)
+is-numbered-spec =
+    tie.close
+    (tie.spec
+    returns
+    returns-2)

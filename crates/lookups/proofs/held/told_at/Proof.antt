@@ -12,13 +12,15 @@ left-at-requires c κs =
 
 add-blob-to : tie.Need-add-blob-to
 add-blob-to c =
-    let st = c .before .before .before .before .before .before .before .before in
+    let asked = c .before .before in
+    let st = asked .before .before .before .before .before .before in
     let kept = entry-kept (st .args .state) (st .args .store .now) (st .pre .1) (st .args .i) (st .pre .0) in
     omega arith
 
 add-fields-to : tie.Need-add-fields-to
 add-fields-to c =
-    let st = c .before .before .before .before .before .before .before .before .before in
+    let asked = c .before .before .before in
+    let st = asked .before .before .before .before .before .before in
     let kept = entry-kept (st .args .state) (st .args .store .now) (st .pre .1) (st .args .i) (st .pre .0) in
     omega arith
 

@@ -6,4 +6,10 @@ use Rattle.lookups.proofs.order.nearer.Tie as tie
 
 pub nearer-spec : {M : Type 1} → statement M
 unfolding nearer
-nearer-spec = tie.close (tie.spec (λ c. search steps depth 10) (λ c. search steps depth 10) (λ c. search steps depth 10) (λ c. search steps depth 10))
+nearer-spec =
+    tie.close
+    (tie.spec
+    (λ c. search steps depth 10)
+    (λ c. search steps depth 10)
+    (λ c. search steps depth 10)
+    (λ c. search steps depth 10))

@@ -19,4 +19,10 @@ returns-2 c =
     c .least-above .ensures x ∙ next-sound (st .args .state) x (st .args .after) (sym (tested .before .is-sound .ensures) ∙ not-false _ (tested .if1 .left))
 
 pub next-of-spec : {M : Type 1} → statement M
-next-of-spec = tie.close (tie.spec (λ c κs. search needs) returns (λ c κs. search needs) returns-2)
+next-of-spec =
+    tie.close
+    (tie.spec
+    (λ c κs. search needs)
+    returns
+    (λ c κs. search needs)
+    returns-2)

@@ -29,4 +29,11 @@ returns-5 c =
     rw (le-leb _ _ (blob .before .if1 .left), le-leb _ _ (blob .if2 .left), le-leb _ _ (fields .if3 .left), le-leb _ _ (c .if4 .left))
 
 pub fits-spec : {M : Type 1} → statement M
-fits-spec = tie.close (tie.spec returns returns-2 returns-3 returns-4 returns-5)
+fits-spec =
+    tie.close
+    (tie.spec
+    returns
+    returns-2
+    returns-3
+    returns-4
+    returns-5)

@@ -13,4 +13,9 @@ returns-2 : tie.Need-returns-2
 returns-2 c = let a = c .before .before .args in ((λ x. free-counts (gatewayOf (a .state) x) (a .i) _ (c .before .is-held .ensures x) (c .if1 .left)), omega arith)
 
 pub count-at-spec : {M : Type 1} → statement M
-count-at-spec = tie.close (tie.spec (λ c κs. search needs) returns returns-2)
+count-at-spec =
+    tie.close
+    (tie.spec
+    (λ c κs. search needs)
+    returns
+    returns-2)

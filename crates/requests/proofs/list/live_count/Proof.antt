@@ -23,4 +23,15 @@ returns : tie.Need-returns Inv-loop μ-loop
 returns c = let st = c .before .before in all-counted _ (eight-of (st .args .state) _ (st .good .0)) _ _ (c .before .loop .inv) (omega arith)
 
 pub live-count-spec : {M : Type 1} → statement M
-live-count-spec = tie.close (tie.spec Inv-loop μ-loop loop-holds (λ c κs. search needs) (λ c. search needs) (λ c. search needs) (λ c. search needs) loop-again returns)
+live-count-spec =
+    tie.close
+    (tie.spec
+    Inv-loop
+    μ-loop
+    loop-holds
+    (λ c κs. search needs)
+    (λ c. search needs)
+    (λ c. search needs)
+    (λ c. search needs)
+    loop-again
+    returns)

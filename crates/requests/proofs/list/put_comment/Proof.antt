@@ -30,4 +30,11 @@ returns : tie.Need-returns
 returns c = let put = c .before .before .put-string in (omega (arith, put .ensures .0), put .ensures .1)
 
 pub put-comment-spec : {M : Type 1} → statement M
-put-comment-spec = tie.close (tie.spec inside size room (λ c. search needs) returns)
+put-comment-spec =
+    tie.close
+    (tie.spec
+    inside
+    size
+    room
+    (λ c. search needs)
+    returns)

@@ -21,7 +21,12 @@ put-item-requires : tie.Need-put-item-requires Inv-loop μ-loop
 put-item-requires c κs = let st = c .before .before .before .before .before in (omega arith, st .pre .0, omega arith)
 
 loop-again : tie.Need-loop-again Inv-loop μ-loop
-loop-again c = let st = c .before .before .before .before .before .before .before .before in one-written _ (sound-meaning _ _ (st .pre .0)) _ _ _ _ _ (c .before .before .before .before .before .loop .inv) (st .pre .1) _ _ (omega arith) (c .before .before .put-item .ensures .0) (c .before .before .put-item .ensures .1)
+loop-again c =
+    let written = c .before .before in
+    let loop = written .before .before .before in
+    let st = loop .before .before .before in
+    one-written _ (sound-meaning _ _ (st .pre .0)) _ _ _ _ _ (loop .loop .inv) (st .pre .1) _ _ (omega arith) (written .put-item .ensures .0)
+    (written .put-item .ensures .1)
 
 same-length : tie.Need-same-length Inv-loop μ-loop
 same-length c = c .before .loop .inv .size
@@ -30,4 +35,15 @@ returns : tie.Need-returns Inv-loop μ-loop
 returns c = let st = c .before .before .before .before in all-written _ (sound-meaning _ _ (st .pre .0)) _ _ _ _ _ (c .before .loop .inv) (st .pre .1) (omega arith)
 
 pub put-items-spec : {M : Type 1} → statement M
-put-items-spec = tie.close (tie.spec Inv-loop μ-loop loop-holds put-item-requires (λ c. search needs) (λ c. search needs) loop-again same-length returns)
+put-items-spec =
+    tie.close
+    (tie.spec
+    Inv-loop
+    μ-loop
+    loop-holds
+    put-item-requires
+    (λ c. search needs)
+    (λ c. search needs)
+    loop-again
+    same-length
+    returns)

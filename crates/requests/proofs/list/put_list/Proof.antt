@@ -5,7 +5,28 @@ use Rattle.requests.proofs.list.put_list.Statement.{statement}
 use Rattle.requests.proofs.list.put_list.Tie as tie
 
 returns : tie.Need-returns
-returns c = let k = c .before .before .before .before .before .before .before .before .before .before .before .before .before .before .before .put-items .ensures in list-written _ _ _ _ _ _ _ _ _ _ (k .0) (k .1) (c .before .before .before .before .before .before .before .before .before .before .put-number .ensures .1) (c .before .before .before .before .before .before .before .before .before .before .put-number .ensures .0) (c .before .before .before .before .before .before .put-byte .ensures .1) (c .before .before .before .before .before .before .put-byte .ensures .0) (c .before .before .put-number2 .ensures .1) (c .before .before .before .before .before .before .before .before .before .before .before .before .live-count .ensures .0 _) (c .before .before .before .before .before .before .before .before .before .before .before .before .before .before .before .before .before .before .before .pre .1) (k .2)
+returns c =
+    let count = c .before .before in
+    let kind = count .before .before .before .before in
+    let number = kind .before .before .before .before in
+    let counted = number .before .before in
+    let items = counted .before .before .before in
+    let st = items .before .before .before .before in
+    let k = items .put-items .ensures in
+    list-written _ _ _ _ _ _ _ _ _ _ (k .0) (k .1) (number .put-number .ensures .1) (number .put-number .ensures .0) (kind .put-byte .ensures .1)
+    (kind .put-byte .ensures .0) (count .put-number2 .ensures .1) (counted .live-count .ensures .0 _) (st .pre .1) (k .2)
 
 pub put-list-spec : {M : Type 1} → statement M
-put-list-spec = tie.close (tie.spec (λ c κs. search needs) (λ c κs. search needs) (λ c. search needs) (λ c. search needs) (λ c κs. search needs) (λ c κs. search needs) (λ c. search needs) (λ c κs. search needs) (λ c. search needs) returns)
+put-list-spec =
+    tie.close
+    (tie.spec
+    (λ c κs. search needs)
+    (λ c κs. search needs)
+    (λ c. search needs)
+    (λ c. search needs)
+    (λ c κs. search needs)
+    (λ c κs. search needs)
+    (λ c. search needs)
+    (λ c κs. search needs)
+    (λ c. search needs)
+    returns)

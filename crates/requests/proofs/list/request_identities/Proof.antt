@@ -11,4 +11,9 @@ unfolding listing
 returns c = λ a. landed _ _ _ _ _ _ _ _ (replied _ _ _ _ _ _ _ _ refl (c .before .before .put-list .ensures .0) (c .before .before .put-list .ensures .1) (means-itself _ _ (c .before .before .before .before .before .before .pre .0)))
 
 pub request-identities-spec : {M : Type 1} → statement M
-request-identities-spec = tie.close (tie.spec (λ c κs. search needs) (λ c. search needs) returns)
+request-identities-spec =
+    tie.close
+    (tie.spec
+    (λ c κs. search needs)
+    (λ c. search needs)
+    returns)

@@ -15,7 +15,41 @@ returns-2 c = λ a. search (ends, answering (c .before .before .failure2 .ensure
 
 returns-3 : tie.Need-returns-3
 unfolding locking
-returns-3 c = λ a. search (ends, answering (c .before .before .success .ensures), c .before .before .before .before .with-lock .ensures .1, c .before .before .before .before .before .cut .ensures .bytes, c .before .before .before .before .before .before .if1 .left, c .before .before .before .before .before .before .before .before .from .given .1, c .before .before .before .before .before .before .before .before .before .before .string .ensures, c .before .before .before .before .before .before .before .before .before .before .before .before .before .before .pre .1) depth 16
+returns-3 c =
+    let answered = c .before .before in
+    let locked = answered .before .before in
+    let taken = locked .before in
+    let tested = taken .before in
+    let part = tested .before .before in
+    let read = part .before .before in
+    let st = read .before .before .before .before in
+    λ a. search (
+      ends,
+      answering (answered .success .ensures),
+      locked .with-lock .ensures .1,
+      taken .cut .ensures .bytes,
+      tested .if1 .left,
+      part .from .given .1,
+      read .string .ensures,
+      st .pre .1,
+    ) depth 16
 
 pub lock-spec : {M : Type 1} → statement M
-lock-spec = tie.close (tie.spec (λ c κs. search needs) (λ c. search needs) (λ c. search needs) (λ c κs. search needs) (λ c. search needs) returns (λ c. search ends depth 16) (λ c κs. search needs) (λ c. search needs) returns-2 (λ c κs. search needs) (λ c κs. search ends depth 16) (λ c κs. search needs) (λ c. search needs) returns-3)
+lock-spec =
+    tie.close
+    (tie.spec
+    (λ c κs. search needs)
+    (λ c. search needs)
+    (λ c. search needs)
+    (λ c κs. search needs)
+    (λ c. search needs)
+    returns
+    (λ c. search ends depth 16)
+    (λ c κs. search needs)
+    (λ c. search needs)
+    returns-2
+    (λ c κs. search needs)
+    (λ c κs. search ends depth 16)
+    (λ c κs. search needs)
+    (λ c. search needs)
+    returns-3)

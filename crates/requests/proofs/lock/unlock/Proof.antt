@@ -11,11 +11,50 @@ returns c = λ a. search (ends, answering (c .before .before .failure .ensures))
 
 returns-2 : tie.Need-returns-2
 unfolding unlocking
-returns-2 c = λ a. search (ends, answering (c .before .before .success .ensures), c .before .before .before .before .with-lock .ensures .1, c .before .before .before .before .before .cut2 .ensures .bytes, c .before .before .before .before .before .before .if1 .taken, c .before .before .before .before .before .before .before .is-passphrase .ensures, c .before .before .before .before .before .before .before .before .cut .ensures .bytes, c .before .before .before .before .before .before .before .before .before .before .from .given .1, c .before .before .before .before .before .before .before .before .before .before .before .before .string .ensures, c .before .before .before .before .before .before .before .before .before .before .before .before .before .before .before .before .pre .1) depth 16
+returns-2 c =
+    let answered = c .before .before in
+    let locked = answered .before .before in
+    let empty = locked .before in
+    let tested = empty .before in
+    let compared = tested .before in
+    let taken = compared .before in
+    let part = taken .before .before in
+    let read = part .before .before in
+    let st = read .before .before .before .before in
+    λ a. search (
+      ends,
+      answering (answered .success .ensures),
+      locked .with-lock .ensures .1,
+      empty .cut2 .ensures .bytes,
+      tested .if1 .taken,
+      compared .is-passphrase .ensures,
+      taken .cut .ensures .bytes,
+      part .from .given .1,
+      read .string .ensures,
+      st .pre .1,
+    ) depth 16
 
 returns-3 : tie.Need-returns-3
 unfolding unlocking
 returns-3 c = λ a. search (ends, answering (c .before .before .failure2 .ensures)) depth 16
 
 pub unlock-spec : {M : Type 1} → statement M
-unlock-spec = tie.close (tie.spec (λ c κs. search needs) (λ c. search needs) (λ c. search needs) (λ c κs. search needs) (λ c. search needs) returns (λ c κs. search needs) (λ c κs. search needs) (λ c κs. search needs) (λ c κs. search ends depth 16) (λ c κs. search needs) (λ c. search needs) returns-2 (λ c κs. search needs) (λ c. search needs) returns-3)
+unlock-spec =
+    tie.close
+    (tie.spec
+    (λ c κs. search needs)
+    (λ c. search needs)
+    (λ c. search needs)
+    (λ c κs. search needs)
+    (λ c. search needs)
+    returns
+    (λ c κs. search needs)
+    (λ c κs. search needs)
+    (λ c κs. search needs)
+    (λ c κs. search ends depth 16)
+    (λ c κs. search needs)
+    (λ c. search needs)
+    returns-2
+    (λ c κs. search needs)
+    (λ c. search needs)
+    returns-3)

@@ -10,4 +10,11 @@ unfolding removingAll
 returns c = λ a. search (ends, answering (c .before .before .success .ensures)) depth 16
 
 pub remove-all-identities-spec : {M : Type 1} → statement M
-remove-all-identities-spec = tie.close (tie.spec (λ c κs. search needs) (λ c κs. search needs) (λ c. search needs) (λ c. search needs) returns)
+remove-all-identities-spec =
+    tie.close
+    (tie.spec
+    (λ c κs. search needs)
+    (λ c κs. search needs)
+    (λ c. search needs)
+    (λ c. search needs)
+    returns)

@@ -9,4 +9,10 @@ returns : tie.Need-returns
 returns c = five _ _ _ _ _ _ _ (c .before .before .before .before .before .before .put-number .ensures .1) (c .before .before .before .before .before .before .put-number .ensures .0) (c .before .before .put-byte .ensures .1) (c .before .before .put-byte .ensures .0) (omega arith)
 
 pub answer-spec : {M : Type 1} → statement M
-answer-spec = tie.close (tie.spec (λ c κs. search needs) (λ c κs. search needs) (λ c. search needs) returns)
+answer-spec =
+    tie.close
+    (tie.spec
+    (λ c κs. search needs)
+    (λ c κs. search needs)
+    (λ c. search needs)
+    returns)

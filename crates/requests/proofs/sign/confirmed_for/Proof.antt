@@ -23,4 +23,12 @@ unfolding forNumber so
 returns-4 c = rw (c .before .before .before .c .given .1, eq-eqb _ _ (c .before .if1 .left), c .if2 .left)
 
 pub confirmed-for-spec : {M : Type 1} → statement M
-confirmed-for-spec = tie.close (tie.spec (λ c. search needs) (λ c. search needs) returns returns-2 returns-3 returns-4)
+confirmed-for-spec =
+    tie.close
+    (tie.spec
+    (λ c. search needs)
+    (λ c. search needs)
+    returns
+    returns-2
+    returns-3
+    returns-4)

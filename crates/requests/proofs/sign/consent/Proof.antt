@@ -19,4 +19,11 @@ returns-2 c =
     λ x S. rw (← asked .ensures .1 x S, not-false (asked .result) (tested .if1 .left), ← number .ensures x) (c .confirmed-for .ensures)
 
 pub consent-spec : {M : Type 1} → statement M
-consent-spec = tie.close (tie.spec (λ c κs. search needs) returns (λ c κs. search needs) (λ c κs. search needs) returns-2)
+consent-spec =
+    tie.close
+    (tie.spec
+    (λ c κs. search needs)
+    returns
+    (λ c κs. search needs)
+    (λ c κs. search needs)
+    returns-2)

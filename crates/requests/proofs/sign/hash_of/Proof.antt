@@ -17,4 +17,9 @@ unfolding hashOf
 returns-3 c = search steps depth 10
 
 pub hash-of-spec : {M : Type 1} → statement M
-hash-of-spec = tie.close (tie.spec returns returns-2 returns-3)
+hash-of-spec =
+    tie.close
+    (tie.spec
+    returns
+    returns-2
+    returns-3)

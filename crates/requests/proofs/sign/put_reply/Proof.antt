@@ -6,7 +6,21 @@ use Rattle.requests.proofs.sign.put_reply.Statement.{statement}
 use Rattle.requests.proofs.sign.put_reply.Tie as tie
 
 returns : tie.Need-returns
-returns c = signature-written _ _ _ _ _ _ _ _ (c .before .before .before .before .before .before .before .before .before .before .put-number .ensures .1) (c .before .before .before .before .before .before .before .before .before .before .put-number .ensures .0) (c .before .before .before .before .before .before .put-byte .ensures .1) (c .before .before .before .before .before .before .put-byte .ensures .0) (c .before .before .put-string .ensures .1) (c .before .before .put-string .ensures .0) (omega arith)
+returns c =
+    let string = c .before .before in
+    let kind = string .before .before .before .before in
+    let number = kind .before .before .before .before in
+    signature-written _ _ _ _ _ _ _ _ (number .put-number .ensures .1) (number .put-number .ensures .0) (kind .put-byte .ensures .1)
+    (kind .put-byte .ensures .0) (string .put-string .ensures .1) (string .put-string .ensures .0) (omega arith)
 
 pub put-reply-spec : {M : Type 1} → statement M
-put-reply-spec = tie.close (tie.spec (λ c. search needs) (λ c. search needs) (λ c κs. search needs) (λ c κs. search needs) (λ c κs. search needs) (λ c. search needs) returns)
+put-reply-spec =
+    tie.close
+    (tie.spec
+    (λ c. search needs)
+    (λ c. search needs)
+    (λ c κs. search needs)
+    (λ c κs. search needs)
+    (λ c κs. search needs)
+    (λ c. search needs)
+    returns)

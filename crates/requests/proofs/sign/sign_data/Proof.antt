@@ -15,7 +15,13 @@ unfolding signingData
 returns-2 c = search (signs, closing (c .closed2 .ensures)) depth 16
 
 put-reply-requires : tie.Need-put-reply-requires
-put-reply-requires c κs = let st = c .before .before .before .before .before .before .before .before .before .before .before .before .before .before .before .before .before in (st .pre .0, signature-short (st .args .answers) _ _ _ (c .before .before .before .signed-for .ensures) _ (c .before .enum-told5 .given .1) (st .pre .1))
+put-reply-requires c κs =
+    let said = c .before in
+    let signed = said .before .before in
+    let number = signed .before .before .before .before .before in
+    let read = number .before .before .before .before in
+    let st = read .before .before .before .before .before in
+    (st .pre .0, signature-short (st .args .answers) _ _ _ (signed .signed-for .ensures) _ (said .enum-told5 .given .1) (st .pre .1))
 
 returns-3 : tie.Need-returns-3
 unfolding signingData
@@ -23,11 +29,52 @@ returns-3 c = search signs depth 16
 
 returns-4 : tie.Need-returns-4
 unfolding signingData
-returns-4 c = search (signs, closing (c .closed3 .ensures), c .before .enum-told4 .given .1, c .before .before .before .signed-for .ensures, c .before .before .before .before .before .before .flags .given .1, c .before .before .before .before .before .before .before .before .number .ensures, c .before .before .before .before .before .before .before .before .before .before .from .given .1, c .before .before .before .before .before .before .before .before .before .before .before .before .string .ensures, c .before .before .before .before .before .before .before .before .before .before .before .before .before .before .before .before .before .pre .2) depth 16
+returns-4 c =
+    let said = c .before in
+    let signed = said .before .before in
+    let flags = signed .before .before .before in
+    let number = flags .before .before in
+    let part = number .before .before in
+    let read = part .before .before in
+    let st = read .before .before .before .before .before in
+    search (
+      signs,
+      closing (c .closed3 .ensures),
+      said .enum-told4 .given .1,
+      signed .signed-for .ensures,
+      flags .flags .given .1,
+      number .number .ensures,
+      part .from .given .1,
+      read .string .ensures,
+      st .pre .2,
+    ) depth 16
 
 returns-5 : tie.Need-returns-5
 unfolding signingData
 returns-5 c = search signs depth 16
 
 pub sign-data-spec : {M : Type 1} → statement M
-sign-data-spec = tie.close (tie.spec (λ c κs. search needs) (λ c. search needs) (λ c. search needs) (λ c κs. search needs) returns (λ c κs. search needs) (λ c. search needs) (λ c. search needs) (λ c κs. search needs) returns-2 (λ c κs. search needs) (λ c κs. search needs) (λ c. search needs) (λ c. search needs) (λ c κs. search needs) (λ c. search needs) put-reply-requires returns-3 returns-4 (λ c. search needs) returns-5)
+sign-data-spec =
+    tie.close
+    (tie.spec
+    (λ c κs. search needs)
+    (λ c. search needs)
+    (λ c. search needs)
+    (λ c κs. search needs)
+    returns
+    (λ c κs. search needs)
+    (λ c. search needs)
+    (λ c. search needs)
+    (λ c κs. search needs)
+    returns-2
+    (λ c κs. search needs)
+    (λ c κs. search needs)
+    (λ c. search needs)
+    (λ c. search needs)
+    (λ c κs. search needs)
+    (λ c. search needs)
+    put-reply-requires
+    returns-3
+    returns-4
+    (λ c. search needs)
+    returns-5)

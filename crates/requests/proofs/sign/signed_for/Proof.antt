@@ -27,4 +27,14 @@ unfolding forNumber so
 returns-5 c = λ b. rw (c .before .before .s2 .given .1, ne-eqb _ _ (c .if2 .left))
 
 pub signed-for-spec : {M : Type 1} → statement M
-signed-for-spec = tie.close (tie.spec (λ c. search needs) (λ c. search needs) returns (λ c. search needs) returns-2 returns-3 returns-4 returns-5)
+signed-for-spec =
+    tie.close
+    (tie.spec
+    (λ c. search needs)
+    (λ c. search needs)
+    returns
+    (λ c. search needs)
+    returns-2
+    returns-3
+    returns-4
+    returns-5)

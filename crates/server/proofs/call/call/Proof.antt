@@ -15,7 +15,27 @@ returns-3 : tie.Need-returns-3
 returns-3 c = refuses-3 _ _ _ _ _ _ _ _ _ (c .before .before .before .before .before .if1 .left) (c .before .before .before .before .if2 .left) (c .before .if3 .taken) (c .before .before .is-sound .ensures) (c .refused3 .ensures)
 
 call-sound-requires : tie.Need-call-sound-requires
-call-sound-requires c κs = sound-told _ _ _ (eight-of (c .before .before .before .before .before .before .before .before .before .before .before .args .state) _ (c .before .before .before .before .before .before .before .before .before .before .before .good .0)) (record-of (c .before .before .before .before .before .before .before .before .before .before .before .args .state) _ (c .before .before .before .before .before .before .before .before .before .before .before .good .0)) (c .before .before .if3 .left) (c .before .before .before .is-sound .ensures)
+call-sound-requires c κs =
+    let tested = c .before .before in
+    let asked = tested .before in
+    let room = asked .before .before .before in
+    let st = room .before .before .before .before .before in
+    sound-told _ _ _ (eight-of (st .args .state) _ (st .good .0)) (record-of (st .args .state) _ (st .good .0)) (tested .if3 .left)
+    (asked .is-sound .ensures)
 
 pub call-spec : {M : Type 1} → statement M
-call-spec = tie.close (tie.spec (λ c κs. search needs) returns (λ c κs. search needs) returns-2 (λ c κs. search needs) (λ c κs. search needs) (λ c. search needs) returns-3 call-sound-requires (λ c. search needs) (λ c. search needs) (λ c. search needs))
+call-spec =
+    tie.close
+    (tie.spec
+    (λ c κs. search needs)
+    returns
+    (λ c κs. search needs)
+    returns-2
+    (λ c κs. search needs)
+    (λ c κs. search needs)
+    (λ c. search needs)
+    returns-3
+    call-sound-requires
+    (λ c. search needs)
+    (λ c. search needs)
+    (λ c. search needs))

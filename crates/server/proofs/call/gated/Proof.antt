@@ -22,4 +22,13 @@ unfolding gatedRow
 returns-4 c = search rowing depth 12
 
 pub gated-spec : {M : Type 1} → statement M
-gated-spec = tie.close (tie.spec returns (λ c. search needs) (λ c. search needs) (λ c. search needs) returns-2 returns-3 returns-4)
+gated-spec =
+    tie.close
+    (tie.spec
+    returns
+    (λ c. search needs)
+    (λ c. search needs)
+    (λ c. search needs)
+    returns-2
+    returns-3
+    returns-4)

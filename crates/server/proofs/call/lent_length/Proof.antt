@@ -14,4 +14,12 @@ returns-3 : tie.Need-returns-3
 returns-3 c = search lending depth 12
 
 pub lent-length-spec : {M : Type 1} → statement M
-lent-length-spec = tie.close (tie.spec (λ c. search needs) (λ c. search needs) (λ c. search needs) returns returns-2 returns-3)
+lent-length-spec =
+    tie.close
+    (tie.spec
+    (λ c. search needs)
+    (λ c. search needs)
+    (λ c. search needs)
+    returns
+    returns-2
+    returns-3)

@@ -17,8 +17,9 @@ abbrev μ-loop : tie.MeasureT-loop
 
 loop-again : tie.Need-loop-again Inv-loop μ-loop
 loop-again c =
-    let l = c .before .before .before .before .loop in
-    let a = c .before .before .before .before .before .before .before .args in
+    let turn = c .before .before .before .before in
+    let l = turn .loop in
+    let a = turn .before .before .before .args in
     (omega arith, rw (c .both .ensures) (l .inv .1 ∙ equal-step (a .a .now) (a .b .now) (l .i) (l .equal) (omega arith) (omega arith)))
 
 returns : tie.Need-returns Inv-loop μ-loop

@@ -35,9 +35,11 @@ rest-sizes c κs =
 
 fronts-alike : tie.Need-returns-3
 fronts-alike c =
-    let s = c .before .before .before .before .before .before .before in
+    let tested = c .before .before .before in
+    let fronts = tested .before in
+    let s = fronts .before .before .before in
     let a = s .before .before .before .before .args in
-    let front = sym (c .before .before .before .before .is-all-equal .ensures) ∙ not-false _ (c .before .before .before .if2 .left) in
+    let front = sym (fronts .is-all-equal .ensures) ∙ not-false _ (tested .if2 .left) in
     c .is-all-equal2 .ensures ∙ front-alike (s .front-length .result) (a .a .now) (a .b .now) (s .before .if1 .left) front
 
 pub is-equal-spec : {M : Type 1} → statement M

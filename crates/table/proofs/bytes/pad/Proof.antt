@@ -18,11 +18,13 @@ copied c κs = length-take-le _ (c .before .before .before .args .p .now) (omega
 returns : tie.Need-returns
 unfolding padded
 returns c =
-    let st = c .before .before .before .before .before .before .before .before .before .before in
+    let wiped = c .before .before in
+    let copied = wiped .before .before .before .before in
+    let st = copied .before .before .before .before in
     let p = st .args .p .now in
     let n = length (st .args .src .now) in
-    let x = c .before .before .before .before .before .before .copy-in in
-    let y = c .before .before .wipe in
+    let x = copied .copy-in in
+    let y = wiped .wipe in
     let l : length (x .last .0) ≡ n = ap length (x .ensures) in
     halves n p (x .last .0) l (y .last .0) ∙ rw (x .ensures, y .ensures, half-size n p (x .last .0) l)
 

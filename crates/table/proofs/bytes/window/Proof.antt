@@ -11,4 +11,10 @@ returns-2 : tie.Need-returns-2
 returns-2 c = (omega arith, omega arith)
 
 pub window-spec : {M : Type 1} → statement M
-window-spec = tie.close (tie.spec (λ c. search needs) (λ c. search needs) returns returns-2)
+window-spec =
+    tie.close
+    (tie.spec
+    (λ c. search needs)
+    (λ c. search needs)
+    returns
+    returns-2)

@@ -6,7 +6,8 @@ use mathlib.Core.Path.{_≡_, sym, _∙_}
 use lib.ListN.{length}
 use Rattle.wire.specs.Limits.{storeSize}
 use Rattle.table.specs.Meaning.{view, noEntry}
-use Rattle.table.proofs.WritingLaws.{Writing, view-eight}
+use Rattle.table.proofs.SizeLaws.{spanning}
+use Rattle.table.proofs.WritingLaws.{Writing, writing-fits, view-eight}
 use Rattle.table.proofs.ChangeLaws.{swept, swept-length, writing-size, sweep-keys, sweep-start, sweep-stands, sweep-step, sweep-end}
 use Rattle.table.proofs.changes.advance.Statement.{statement}
 use Rattle.table.proofs.changes.advance.Tie as tie
@@ -37,7 +38,7 @@ last-requires c κs =
     let n : length (view (s .entries) x) ≡ 8 = view-eight s x (st .pre) in
     let keys = sweep-keys s x (st .pre) (st .args .reading .count) (l .result) (l .ensures) in
     sweep-stands (l .result .count) (s .next) (view (s .entries) x) (loop .i) (from .result) (to .result) (loop .es) (loop .store) noEntry keys (loop .inv .2) (omega arith)
-    (record { start = from .ensures; span = omega (arith, from .ensures, to .ensures) }) .standing
+    (spanning _ (writing-fits _ _ _ _ _ (loop .inv .2)) (swept-length _ _ _ ∙ n) (loop .i) _ _ (omega arith) (from .ensures) (to .ensures)) .standing
 
 loop-again : tie.Need-loop-again Inv-loop μ-loop
 loop-again c =
@@ -55,7 +56,7 @@ loop-again c =
     let n : length (view (s .entries) x) ≡ 8 = view-eight s x (st .pre) in
     let keys = sweep-keys s x (st .pre) (st .args .reading .count) (l .result) (l .ensures) in
     let w = sweep-step (l .result .count) (s .next) (view (s .entries) x) (loop .i) (from .result) (to .result) (loop .es) (loop .store) noEntry keys (loop .inv .2) (omega arith)
-    (record { start = from .ensures; span = omega (arith, from .ensures, to .ensures) }) (last .result) (last .last .1 .0) (last .ensures) in
+    (spanning _ (writing-fits _ _ _ _ _ (loop .inv .2)) (swept-length _ _ _ ∙ n) (loop .i) _ _ (omega arith) (from .ensures) (to .ensures)) (last .result) (last .last .1 .0) (last .ensures) in
     (omega arith, writing-size _ _ _ _ _ w (swept-length _ _ _ ∙ n), w)
 
 same-length : tie.Need-same-length Inv-loop μ-loop

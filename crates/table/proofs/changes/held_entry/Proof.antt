@@ -24,4 +24,13 @@ returns c =
     rw (flag .ensures, seconds .ensures, at-limited .limited-flag .ensures, ap length (fields .ensures .bytes), kept)
 
 pub held-entry-spec : {M : Type 1} → statement M
-held-entry-spec = tie.close (tie.spec (λ c κs. search needs) (λ c κs. search needs) (λ c κs. search needs) (λ c κs. search needs) (λ c κs. search needs) short returns)
+held-entry-spec =
+    tie.close
+    (tie.spec
+    (λ c κs. search needs)
+    (λ c κs. search needs)
+    (λ c κs. search needs)
+    (λ c κs. search needs)
+    (λ c κs. search needs)
+    short
+    returns)

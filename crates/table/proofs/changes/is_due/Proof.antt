@@ -18,4 +18,11 @@ returns-2 c =
     rw (← asked .ensures, not-false (asked .result) (left .if1 .left), c .before .before .before .millis-of .ensures)
 
 pub is-due-spec : {M : Type 1} → statement M
-is-due-spec = tie.close (tie.spec (λ c κs. search needs) returns (λ c κs. search needs) (λ c. search needs) returns-2)
+is-due-spec =
+    tie.close
+    (tie.spec
+    (λ c κs. search needs)
+    returns
+    (λ c κs. search needs)
+    (λ c. search needs)
+    returns-2)

@@ -10,4 +10,10 @@ returns-2 : tie.Need-returns-2
 returns-2 c = rw (c .before .lifetime .given .1)
 
 pub kept-seconds-spec : {M : Type 1} → statement M
-kept-seconds-spec = tie.close (tie.spec (λ c. search needs) (λ c. search needs) returns returns-2)
+kept-seconds-spec =
+    tie.close
+    (tie.spec
+    (λ c. search needs)
+    (λ c. search needs)
+    returns
+    returns-2)

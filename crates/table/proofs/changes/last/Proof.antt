@@ -10,10 +10,13 @@ use Rattle.table.proofs.changes.last.Tie as tie
 returns : tie.Need-returns
 unfolding bytesFor
 returns c =
-    let st = c .before .before .before .before .before .before .before .before in
-    let due = sym (c .before .before .before .before .before .before .is-due .ensures) ∙ c .before .before .before .before .before .if1 .taken in
+    let wiped = c .before .before .before in
+    let tested = wiped .before .before in
+    let asked = tested .before in
+    let st = asked .before .before in
+    let due = sym (asked .is-due .ensures) ∙ tested .if1 .taken in
     rw (due-gone (st .args .clock .count) (st .args .e) (st .args .p .now) due)
-    (record { entry = c .free-entry .ensures; bytes = c .before .before .before .wipe .ensures ∙ ap (λ n. replicate n 0) (st .pre .whole) })
+    (record { entry = c .free-entry .ensures; bytes = wiped .wipe .ensures ∙ ap (λ n. replicate n 0) (st .pre .whole) })
 
 returns-2 : tie.Need-returns-2
 returns-2 c =
@@ -23,4 +26,10 @@ returns-2 c =
 pub last-spec : {M : Type 1} → statement M
 last-spec =
     tie.close
-    (tie.spec (λ c κs. search needs) (λ c κs. search needs) (λ c κs. search needs) (λ c. search needs) returns returns-2)
+    (tie.spec
+    (λ c κs. search needs)
+    (λ c κs. search needs)
+    (λ c κs. search needs)
+    (λ c. search needs)
+    returns
+    returns-2)

@@ -8,4 +8,9 @@ returns : tie.Need-returns
 returns c = refl
 
 pub millis-of-spec : {M : Type 1} → statement M
-millis-of-spec = tie.close (tie.spec (λ c. search needs) (λ c. search needs) returns)
+millis-of-spec =
+    tie.close
+    (tie.spec
+    (λ c. search needs)
+    (λ c. search needs)
+    returns)

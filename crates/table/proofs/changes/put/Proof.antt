@@ -1,8 +1,9 @@
 -- The place's bytes and its entry are those of the new key. Assumes nothing.
-use native.Mathlib.Omega.{arith}
 use borrow.Author.Needs.{needs}
 use mathlib.Core.Path.{ap, _∙_}
 use Rattle.table.specs.Meaning.{heldBytes}
+use Rattle.table.proofs.SizeLaws.{spanning}
+use Rattle.table.proofs.WritingLaws.{view-fits, view-eight}
 use Rattle.table.proofs.ChangeLaws.{stored}
 use Rattle.table.proofs.changes.put.Statement.{statement}
 use Rattle.table.proofs.changes.put.Tie as tie
@@ -22,8 +23,11 @@ returns c =
     let to = at-fields .before .start-of2 in
     let st = at-fields .before .before .before .before .before .before in
     let a = st .args in
-    stored (a .state) (a .store .now) (st .pre .sound) (a .i) (from .result) (to .result) (st .pre .place)
-    (record { start = from .ensures; span = omega (arith, from .ensures, to .ensures) })
+    let s = a .state in
+    let x = a .store .now in
+    let S = st .pre .sound in
+    stored s x S (a .i) (from .result) (to .result) (st .pre .place)
+    (spanning _ (view-fits s x S) (view-eight s x S) (a .i) _ _ (st .pre .place) (from .ensures) (to .ensures))
     _ (at-entry .held-entry .result) (at-bytes .fill-place .last .0) (st .pre) (at-entry .held-entry .ensures)
     (at-bytes .fill-place .ensures ∙ ap (heldBytes _) (at-fields .cut .ensures .bytes))
 

@@ -1,19 +1,26 @@
 -- The place's bytes are wiped and its entry is a free place's. Assumes nothing.
-use native.Mathlib.Omega.{arith}
 use borrow.Author.Needs.{needs}
+use Rattle.table.proofs.SizeLaws.{spanning}
+use Rattle.table.proofs.WritingLaws.{view-fits, view-eight}
 use Rattle.table.proofs.ChangeLaws.{removed}
 use Rattle.table.proofs.changes.remove.Statement.{statement}
 use Rattle.table.proofs.changes.remove.Tie as tie
 
 returns : tie.Need-returns
 returns c =
-    let w = c .before .before .before .before .before .before .wipe in
-    let f = c .before .before .free-entry in
-    let st = c .before .before .before .before .before .before .before .before .before .before .before in
-    let from = c .before .before .before .before .before .before .before .before .before .start-of in
-    let to = c .before .before .before .before .before .before .before .before .start-of2 in
-    removed (st .args .state) (st .args .store .now) (st .pre .1) (st .args .i) (from .result) (to .result) (st .pre .0)
-    (record { start = from .ensures; span = omega (arith, from .ensures, to .ensures) }) (f .result) (w .last .0) (f .ensures) (w .ensures)
+    let free = c .before .before in
+    let wiped = free .before .before .before .before in
+    let ends = wiped .before .before in
+    let begins = ends .before in
+    let st = begins .before .before in
+    let s = st .args .state in
+    let x = st .args .store .now in
+    let S = st .pre .1 in
+    let from = begins .start-of in
+    let to = ends .start-of2 in
+    removed s x S (st .args .i) (from .result) (to .result) (st .pre .0)
+    (spanning _ (view-fits s x S) (view-eight s x S) (st .args .i) _ _ (st .pre .0) (from .ensures) (to .ensures))
+    (free .free-entry .result) (wiped .wipe .last .0) (free .free-entry .ensures) (wiped .wipe .ensures)
 
 pub remove-spec : {M : Type 1} → statement M
 remove-spec =

@@ -8,8 +8,16 @@ use Rattle.table.proofs.changes.remove_all.Tie as tie
 
 returns : tie.Need-returns
 returns c =
-    let st = c .before .before .before .before .before .before .before .before in
-    cleared (st .args .state) (st .args .store .now) _ _ (st .pre) (ap (replicate 8) (c .before .before .free-entry .ensures)) (c .before .before .before .before .before .wipe .ensures)
+    let free = c .before .before in
+    let wiped = free .before .before .before in
+    let st = wiped .before .before .before in
+    cleared (st .args .state) (st .args .store .now) _ _ (st .pre) (ap (replicate 8) (free .free-entry .ensures)) (wiped .wipe .ensures)
 
 pub remove-all-spec : {M : Type 1} → statement M
-remove-all-spec = tie.close (tie.spec (λ c κs. search needs) (λ c κs. search needs) (λ c. search needs) returns)
+remove-all-spec =
+    tie.close
+    (tie.spec
+    (λ c κs. search needs)
+    (λ c κs. search needs)
+    (λ c. search needs)
+    returns)

@@ -19,4 +19,11 @@ unfolding soundComment
 returns-2 c = let st = c .before .before .before .before .before in let long = comment-of (st .args .c) _ (st .good .0) in search tests depth 16
 
 pub is-comment-sound-spec : {M : Type 1} → statement M
-is-comment-sound-spec = tie.close (tie.spec returns (λ c. search needs) inside (λ c κs. search needs) returns-2)
+is-comment-sound-spec =
+    tie.close
+    (tie.spec
+    returns
+    (λ c. search needs)
+    inside
+    (λ c κs. search needs)
+    returns-2)

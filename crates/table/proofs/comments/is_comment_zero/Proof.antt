@@ -7,4 +7,9 @@ use Rattle.table.proofs.comments.is_comment_zero.Tie as tie
 
 pub is-comment-zero-spec : {M : Type 1} → statement M
 unfolding zeroComment
-is-comment-zero-spec = tie.close (tie.spec (λ c κs. search needs) (λ c. search tests depth 16) (λ c. search tests depth 16))
+is-comment-zero-spec =
+    tie.close
+    (tie.spec
+    (λ c κs. search needs)
+    (λ c. search tests depth 16)
+    (λ c. search tests depth 16))

@@ -32,4 +32,11 @@ returns c =
     rw (front-padded commentLimit (st .args .c .now) (z .result) (copy .last .0) (omega arith) (z .ensures) (copy .ensures))
 
 pub kept-comment-spec : {M : Type 1} → statement M
-kept-comment-spec = tie.close (tie.spec (λ c κs. search needs) (λ c. search needs) front copied returns)
+kept-comment-spec =
+    tie.close
+    (tie.spec
+    (λ c κs. search needs)
+    (λ c. search needs)
+    front
+    copied
+    returns)

@@ -23,4 +23,10 @@ unfolding gatewayOf
 returns c x = c .is-same .ensures
 
 pub is-passphrase-spec : {M : Type 1} → statement M
-is-passphrase-spec = tie.close (tie.spec inside front (λ c κs. search needs) returns)
+is-passphrase-spec =
+    tie.close
+    (tie.spec
+    inside
+    front
+    (λ c κs. search needs)
+    returns)

@@ -30,4 +30,11 @@ returns c =
     rw (front-padded passphraseLimit p (c .before .before .before .zeros .result) (c .before .copy-in .last .0) (omega arith) (c .before .before .before .zeros .ensures) (c .before .copy-in .ensures))
 
 pub locked-by-spec : {M : Type 1} → statement M
-locked-by-spec = tie.close (tie.spec (λ c κs. search needs) (λ c. search needs) front copied returns)
+locked-by-spec =
+    tie.close
+    (tie.spec
+    (λ c κs. search needs)
+    (λ c. search needs)
+    front
+    copied
+    returns)

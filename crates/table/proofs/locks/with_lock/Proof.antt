@@ -13,4 +13,8 @@ returns c =
     )
 
 pub with-lock-spec : {M : Type 1} → statement M
-with-lock-spec = tie.close (tie.spec (λ c κs. search needs) returns)
+with-lock-spec =
+    tie.close
+    (tie.spec
+    (λ c κs. search needs)
+    returns)

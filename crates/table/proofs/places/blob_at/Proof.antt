@@ -30,4 +30,11 @@ returns c =
     }
 
 pub blob-at-spec : {M : Type 1} → statement M
-blob-at-spec = tie.close (tie.spec (λ c. search needs) (λ c. search needs) (λ c κs. search needs) front returns)
+blob-at-spec =
+    tie.close
+    (tie.spec
+    (λ c. search needs)
+    (λ c. search needs)
+    (λ c κs. search needs)
+    front
+    returns)

@@ -9,4 +9,9 @@ returns : tie.Need-returns
 returns c = let st = c .before .before .before in (refl, λ x S. state-comment (st .args .state) x S (st .args .i) (st .pre))
 
 pub comment-at-spec : {M : Type 1} → statement M
-comment-at-spec = tie.close (tie.spec (λ c. search needs) (λ c. search needs) returns)
+comment-at-spec =
+    tie.close
+    (tie.spec
+    (λ c. search needs)
+    (λ c. search needs)
+    returns)

@@ -16,4 +16,10 @@ returns c =
     )
 
 pub confirm-at-spec : {M : Type 1} → statement M
-confirm-at-spec = tie.close (tie.spec (λ c. search needs) (λ c. search needs) (λ c κs. search needs) returns)
+confirm-at-spec =
+    tie.close
+    (tie.spec
+    (λ c. search needs)
+    (λ c. search needs)
+    (λ c κs. search needs)
+    returns)

@@ -16,4 +16,10 @@ returns-2 : tie.Need-returns-2
 returns-2 c = let a = c .before .before .before .before .before .before .args in rw (place-held (a .e) (a .p .now) (c .before .before .if1 .left)) (c .is-equal .ensures)
 
 pub is-holding-spec : {M : Type 1} → statement M
-is-holding-spec = tie.close (tie.spec returns front (λ c κs. search needs) returns-2)
+is-holding-spec =
+    tie.close
+    (tie.spec
+    returns
+    front
+    (λ c κs. search needs)
+    returns-2)

@@ -14,4 +14,9 @@ returns c x =
     rw (view-at (s .entries) x (eight-of s _ (st .good .0)) (st .args .i) (st .pre)) (place-number _ _)
 
 pub number-at-spec : {M : Type 1} → statement M
-number-at-spec = tie.close (tie.spec (λ c. search needs) (λ c. search needs) returns)
+number-at-spec =
+    tie.close
+    (tie.spec
+    (λ c. search needs)
+    (λ c. search needs)
+    returns)

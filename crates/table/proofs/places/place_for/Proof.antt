@@ -15,4 +15,10 @@ returns-2 c = rw (← c .before .before .before .find .ensures, c .before .enum-
 pub place-for-spec : {M : Type 1} → statement M
 place-for-spec =
     tie.close
-    (tie.spec (λ c κs. search needs) (λ c. search needs) (λ c. search needs) (λ c κs. search needs) returns returns-2)
+    (tie.spec
+    (λ c κs. search needs)
+    (λ c. search needs)
+    (λ c. search needs)
+    (λ c κs. search needs)
+    returns
+    returns-2)

@@ -7,4 +7,10 @@ use Rattle.table.proofs.soundness.are_flags_sound.Tie as tie
 
 pub are-flags-sound-spec : {M : Type 1} → statement M
 unfolding soundFlags
-are-flags-sound-spec = tie.close (tie.spec (λ c κs. search needs) (λ c. search tests) (λ c κs. search needs) (λ c. search tests))
+are-flags-sound-spec =
+    tie.close
+    (tie.spec
+    (λ c κs. search needs)
+    (λ c. search tests)
+    (λ c κs. search needs)
+    (λ c. search tests))

@@ -6,6 +6,25 @@ use Rattle.table.proofs.SoundnessLaws.{apart-free, apart-other-free, ap
 use Rattle.table.proofs.soundness.is_apart.Statement.{statement}
 use Rattle.table.proofs.soundness.is_apart.Tie as tie
 
+front : tie.Need-slice-aggregate-is-equal
+front c =
+    let one = c .before .before .before .before .before .before in
+    let st = one .before .before .before .before in
+    sym (length-take-le _ _ (st .pre .0))
+
+front-2 : tie.Need-slice-aggregate-is-equal-2
+front-2 c =
+    let other = c .before .before .before .before .before in
+    let st = other .before .before .before .before .before .before in
+    sym (length-take-le _ _ (st .pre .1))
+
+returns-4 : tie.Need-returns-4
+returns-4 c =
+    let number = c .before .before .before in
+    let other = number .before .before .before in
+    let one = other .before .before in
+    apart-blob _ _ _ _ (one .if1 .left) (other .if2 .left) (number .if3 .left) _ (c .is-equal .ensures)
+
 pub is-apart-spec : {M : Type 1} → statement M
 is-apart-spec =
     tie.close
@@ -13,7 +32,7 @@ is-apart-spec =
     (λ c. apart-free _ _ _ _ (c .if1 .taken))
     (λ c. apart-other-free _ _ _ _ (c .before .before .if1 .left) (c .if2 .taken))
     (λ c. apart-number _ _ _ _ (c .before .before .before .before .before .if1 .left) (c .before .before .before .if2 .left) (c .if3 .taken))
-    (λ c. sym (length-take-le _ _ (c .before .before .before .before .before .before .before .before .before .before .pre .0)))
-    (λ c. sym (length-take-le _ _ (c .before .before .before .before .before .before .before .before .before .before .before .pre .1)))
+    front
+    front-2
     (λ c κs. search needs)
-    (λ c. apart-blob _ _ _ _ (c .before .before .before .before .before .before .before .before .if1 .left) (c .before .before .before .before .before .before .if2 .left) (c .before .before .before .if3 .left) _ (c .is-equal .ensures)))
+    returns-4)

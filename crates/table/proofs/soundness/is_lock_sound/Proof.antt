@@ -16,4 +16,11 @@ returns-2 c = let st = c .before .before .before .before .before in let long = l
 
 pub is-lock-sound-spec : {M : Type 1} → statement M
 unfolding soundLock
-is-lock-sound-spec = tie.close (tie.spec (λ c. search tests depth 16) (λ c. search needs) part-is-zero-end (λ c κs. search needs) returns-2)
+is-lock-sound-spec =
+    tie.close
+    (tie.spec
+    (λ c. search tests depth 16)
+    (λ c. search needs)
+    part-is-zero-end
+    (λ c κs. search needs)
+    returns-2)

@@ -7,4 +7,10 @@ use Rattle.table.proofs.soundness.is_place_sound.Tie as tie
 
 pub is-place-sound-spec : {M : Type 1} → statement M
 unfolding soundPlace
-is-place-sound-spec = tie.close (tie.spec (λ c κs. search needs) (λ c. search tests) (λ c κs. search needs) (λ c. search tests))
+is-place-sound-spec =
+    tie.close
+    (tie.spec
+    (λ c κs. search needs)
+    (λ c. search tests)
+    (λ c κs. search needs)
+    (λ c. search tests))

@@ -1,0 +1,95 @@
+-- Sizes: "4,096 bytes each in the store", whatever a place holds. What layout, writing and changes know of that number stands here.
+use Prim.Native.Nat.{ℕ, zero, suc, _+_, _*_, _≤_, _<_}
+use mathlib.Core.Path.{_≡_, refl, sym, ap, _∙_}
+use mathlib.Core.Option.{none, some}
+use mathlib.Core.List.{List, [], _∷_, map}
+use native.Mathlib.Omega.{arith}
+use native.Mathlib.Nat.{not-suc-le-zero, le-of-suc-le-suc, le-refl, zero-mul, suc-mul}
+use lib.ListN.{length, getD, replicate, length-append, length-replicate}
+use Rattle.wire.specs.Limits.{placeSize, storeSize, blobLimit, fieldsLimit}
+use Rattle.rule.specs.Gateway.{Entry as Key, Place, vacate}
+use Rattle.rule.specs.Soundness.{EveryEntry, Fits}
+use Rattle.table.specs.declared.Entry.{Entry}
+use Rattle.table.specs.Bytes.{Zeros}
+use Rattle.table.specs.Each.{offset}
+use Rattle.table.specs.Meaning.{size, heldBytes, entryFor, bytesFor, laid}
+use Rattle.table.proofs.ByteLaws.{padded-size, zeros-append}
+use Rattle.table.proofs.EachLaws.{offset-even}
+use Rattle.table.proofs.LayoutLaws.{roomOf, startOf, laid-size, Spans}
+
+-- ## Entries
+
+-- place i begins behind i others
+pub place-start : (es : List Entry) (i : ℕ) → i ≤ length es → offset size es i ≡ i * placeSize
+place-start es i h = offset-even size placeSize (λ e. refl) es i h
+
+-- eight places fill the store
+pub entries-end : (es : List Entry) → length es ≡ 8 → offset size es (length es) ≡ storeSize
+entries-end es eight = place-start es (length es) (le-refl (length es)) ∙ ap (λ (n : ℕ). n * placeSize) eight
+
+-- ## What is written
+
+-- a key whose bytes have room in a place
+abbrev pub KeyFits : Key → Type 0
+KeyFits k = Fits (k .blob) (k .fields) (k .comment)
+
+held-size : (blob fields : List ℕ) → length blob ≤ blobLimit → length fields ≤ fieldsLimit → length (heldBytes blob fields) ≡ placeSize
+unfolding heldBytes
+held-size blob fields h g = rw (length-append, padded-size blobLimit blob h, padded-size fieldsLimit fields g)
+
+-- the bytes are as many as the entry's size says
+pub free-size : roomOf none ≡ size (entryFor none)
+unfolding bytesFor
+free-size = length-replicate {A = ℕ} placeSize 0
+
+pub key-size : (k : Key) → KeyFits k → roomOf (some k) ≡ size (entryFor (some k))
+unfolding bytesFor
+key-size k fits = held-size (k .blob) (k .fields) (fits .blob-fits) (fits .fields-fit)
+
+pub free-zeros : Zeros (bytesFor none)
+unfolding bytesFor
+free-zeros = ap (λ (n : ℕ). replicate n 0) (sym (length-replicate {A = ℕ} placeSize 0))
+
+pub laid-free : (ps : List Place) → Zeros (laid (map vacate ps))
+unfolding laid
+laid-free [] = refl
+laid-free (p ∷ ps) = zeros-append (bytesFor none) (laid (map vacate ps)) free-zeros (laid-free ps)
+
+-- the first place and the rest
+record FitsFirst (p : Place) (ps : List Place) : Type 0 where
+  first : roomOf p ≡ placeSize
+  rest : EveryEntry KeyFits ps
+
+fits-first : (p : Place) (ps : List Place) → EveryEntry KeyFits (p ∷ ps) → FitsFirst p ps
+fits-first none ps all = record { first = free-size; rest = all }
+fits-first (some k) ps all = record { first = key-size k (all .0); rest = all .1 }
+
+start-even : (ps : List Place) → EveryEntry KeyFits ps → (i : ℕ) → i ≤ length ps → startOf ps i ≡ i * placeSize
+unfolding offset
+start-even ps all zero h = sym (zero-mul placeSize)
+start-even [] all (suc i) h = absurd (not-suc-le-zero h)
+start-even (p ∷ ps) all (suc i) h =
+    let f = fits-first p ps all in
+    let r = start-even ps (f .rest) i (le-of-suc-le-suc h) in
+    omega (arith, f .first, r, suc-mul i placeSize)
+
+room-even : (ps : List Place) → EveryEntry KeyFits ps → (i : ℕ) → i < length ps → roomOf (getD ps i none) ≡ placeSize
+room-even [] all i h = absurd (not-suc-le-zero h)
+room-even (p ∷ ps) all zero h = fits-first p ps all .first
+room-even (p ∷ ps) all (suc i) h = room-even ps (fits-first p ps all .rest) i (le-of-suc-le-suc h)
+
+module _ (ps : List Place) (all : EveryEntry KeyFits ps) (eight : length ps ≡ 8) where
+  pub laid-store : length (laid ps) ≡ storeSize
+  laid-store = laid-size ps ∙ start-even ps all (length ps) (le-refl (length ps)) ∙ ap (λ (n : ℕ). n * placeSize) eight
+
+  -- place i, where the code looks for it
+  pub spanning : (i from to : ℕ) → i < 8 → from ≡ i * placeSize → to ≡ (i + 1) * placeSize → Spans ps i from to
+  spanning i from to h begins ends = record {
+    start = begins ∙ sym (start-even ps all i (omega arith));
+    span = let room = room-even ps all i (omega arith) in omega arith;
+  }
+
+  -- a place wiped is written as a free one
+  pub wiped : (i : ℕ) → i < 8 → (p : List ℕ) → p ≡ bytesFor (getD ps i none) → replicate (length p) 0 ≡ bytesFor none
+  unfolding bytesFor
+  wiped i h p is = ap (λ (n : ℕ). replicate n 0) (ap length is ∙ room-even ps all i (omega arith))
