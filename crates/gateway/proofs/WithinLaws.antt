@@ -8,7 +8,7 @@ use mathlib.Core.Logic.{⊎-elim}
 use mathlib.Core.Option.{Option, none, some}
 use mathlib.Core.List.{List}
 use borrow.Author.Tests.{leb-true}
-use lib.ListN.{length, getD}
+use lib.ListN.{length}
 use lib.Dec.{leb, ltb, eqb}
 use Rattle.wire.specs.Limits.{storeSize, passphraseLimit, replyRoom, lastNumber}
 use Rattle.wire.specs.Steps.{so}
@@ -17,9 +17,9 @@ use Rattle.wire.proofs.Reading.{le-or-lt, cut-past, cut-back, string-read}
 use Rattle.keys.specs.Kinds.{blobOf}
 use Rattle.keys.specs.Additions.{additionAt}
 use Rattle.rule.specs.declared.Millis.{Millis}
-use Rattle.rule.specs.Gateway.{Gateway, locked, opened, advance, seek, holds, placeFor, withEntry}
+use Rattle.rule.specs.Gateway.{Entry, Gateway, locked, opened, advance, seek, holds, entryWith, placeFor, withEntry}
 use Rattle.rule.specs.Soundness.{fit, sound}
-use Rattle.rule.specs.Rule.{Question, gate, check, confirmation, signature, Answer, Landing, reply, close, SUCCESS, Plan, land, ask, fails, listing, removing, removingAll, locking, unlocking, hashOf, signed, signingData, numberIn, confirmIn, confirming, signing, entryOf, storing, adding, gated, row, table, rule}
+use Rattle.rule.specs.Rule.{Question, gate, check, confirmation, signature, Answer, Landing, reply, close, SUCCESS, Plan, land, ask, fails, listing, removing, removingAll, locking, unlocking, hashOf, signed, signingData, confirming, signing, entryOf, storing, adding, gated, row, table, rule}
 use Rattle.rule.specs.Calls as rule
 use Rattle.rule.specs.Calls.{lent, lentLength, Call, refused, asks, lands, follow, served, refusalOf, refusal, call}
 use Rattle.rule.proofs.Cases.{so-cases, part-cases, number-cases, found-cases, added-cases, given-cases}
@@ -98,10 +98,13 @@ module _ (payload : List ℕ) where
     unfolding signing confirming
     signing-inside =
         part-cases Inside (stringAt payload 1) (λ _ _. land-inside _ g) λ f t k _.
-        found-cases Inside (seek (holds (cutOf payload f t)) 0 (g .places)) (λ _. land-inside _ g) λ i _.
-        let p = getD (g .places) i none in
-        let signer = data-inside (numberIn p) (k .at) in
-        so-cases Inside (confirmIn p) (λ _. ask-inside (confirmation (numberIn p)) _ tt (λ granted. so-inside granted _ signer)) (λ _. signer)
+        by-key (entryWith (cutOf payload f t) (g .places)) (k .at)
+      where
+        by-key : (o : Option Entry) (at : ℕ) → Inside (confirming g payload o at)
+        by-key none at = land-inside _ g
+        by-key (some e) at =
+            let signer = data-inside (e .number) at in
+            so-cases Inside (e .confirm) (λ _. ask-inside (confirmation (e .number)) _ tt (λ granted. so-inside granted _ signer)) (λ _. signer)
 
     adding-inside : (constrained : Bool) → Inside (adding constrained g payload)
     unfolding adding storing

@@ -7,7 +7,7 @@ use native.Mathlib.Omega.{arith}
 use lib.ListN.{length, drop, getD, drop-of-length-le}
 use lib.Seq.{drop-cons}
 use Rattle.rule.specs.Gateway.{Place}
-use Rattle.rule.specs.Rule.{numberIn}
+use Rattle.table.specs.Meaning.{numberIn}
 use Rattle.lookups.specs.Told.{nearer, leastAbove}
 
 -- ## The loop, from the last place on

@@ -12,11 +12,10 @@ use lib.ListN.{getD}
 use Rattle.wire.specs.Steps.{so}
 use Rattle.wire.proofs.Reading.{le-or-lt}
 use Rattle.rule.specs.Gateway.{Entry as Key, Place, Gateway}
-use Rattle.rule.specs.Rule.{numberIn}
 use Rattle.rule.proofs.Cases.{true-not-false, so-cases}
 use Rattle.rule.proofs.PlaceLaws.{some-not-none, same-entry, Holds}
 use Rattle.table.specs.declared.State.{State}
-use Rattle.table.specs.Meaning.{gatewayOf}
+use Rattle.table.specs.Meaning.{numberIn, gatewayOf}
 use Rattle.table.specs.Soundness.{soundState, Sound}
 use Rattle.table.proofs.TestLaws.{sound-state-rule}
 use Rattle.lookups.specs.Told.{nearer, leastAbove, nextTold}

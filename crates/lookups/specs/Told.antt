@@ -10,9 +10,8 @@ use Rattle.wire.specs.Steps.{so}
 use Rattle.keys.specs.declared.constraints.Lifetime.{Lifetime}
 use Rattle.keys.specs.declared.constraints.Lifetime.the-variants.{Forever, For}
 use Rattle.rule.specs.Gateway.{Entry as Key, Place, Gateway, millisOf, seek, found}
-use Rattle.rule.specs.Rule.{numberIn}
 use Rattle.table.specs.declared.State.{State}
-use Rattle.table.specs.Meaning.{gatewayOf, flagOf, limitedFlag, keptComment}
+use Rattle.table.specs.Meaning.{numberIn, gatewayOf, flagOf, limitedFlag, keptComment}
 use Rattle.table.specs.Soundness.{soundState}
 use Rattle.lookups.specs.declared.HeldKey.{HeldKey}
 

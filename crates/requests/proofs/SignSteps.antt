@@ -1,22 +1,25 @@
 -- The sign request: the answers that count for an insertion number, the signature's reply, and each end of `sign_data` and `try_sign`.
 use Prim.Native.Nat.{ℕ, _+_, _≤_}
-use mathlib.Core.Path.{_≡_, refl, sym, ap, _∙_}
+use mathlib.Core.Path.{_≡_, refl, sym, ap, _∙_, subst}
 use mathlib.Core.Bool.{Bool, true, false}
-use mathlib.Core.Option.{none, some}
+use mathlib.Core.Option.{Option, none, some}
 use mathlib.Core.List.{List, [], _∷_, _++_}
 use native.Mathlib.Omega.{arith}
-use lib.ListN.{length}
+use lib.ListN.{length, getD}
 use Rattle.wire.specs.Numbers.{be32}
 use Rattle.wire.specs.Steps.{so}
 use Rattle.wire.specs.Write.{string, write}
 use Rattle.wire.proofs.Writing.{write-behind}
 use Rattle.rule.specs.declared.Hash.{Hash}
-use Rattle.rule.specs.Gateway.{Place}
-use Rattle.rule.specs.Rule.{Plan, ask, close, FAILURE, fails, confirmation, signature, signatureReply, signed, signingData, numberIn, confirmIn, confirming}
+use Rattle.rule.specs.declared.Found.{Found}
+use Rattle.rule.specs.declared.Found.the-variants.{At, Nothing}
+use Rattle.rule.specs.Gateway.{Entry as Key, Place, Gateway, seek, holds, entryWith}
+use Rattle.rule.specs.Rule.{Question, Answer, Plan, ask, close, FAILURE, fails, confirmation, signature, signatureReply, signed, signingData, confirming}
 use Rattle.rule.specs.Calls.{lands, forNumber, lent, lentLength, follow}
+use Rattle.rule.proofs.PlaceLaws.{found-at as found-entry, entry-found, entry-absent}
 use Rattle.rule.proofs.SignLaws.{own-number}
 use Rattle.table.specs.declared.State.{State}
-use Rattle.table.specs.Meaning.{gatewayOf}
+use Rattle.table.specs.Meaning.{numberIn, gatewayOf}
 use Rattle.table.specs.Soundness.{Sound}
 use Rattle.requests.specs.declared.Said.{Said}
 use Rattle.requests.specs.declared.Said.the-variants.{Missing, No, Yes}
@@ -75,13 +78,13 @@ module _ (answers : Answers) (bytes : List ℕ) (n : ℕ) (w : Said) (says : (b 
 
 -- ## The confirmation
 
-module _ (answers : Answers) (bytes : List ℕ) (s : State) (x buffer : List ℕ) (r : Called) (out payload : List ℕ) (p : Place) (at n : ℕ) (number : n ≡ numberIn p)
+module _ (answers : Answers) (bytes : List ℕ) (s : State) (x buffer : List ℕ) (r : Called) (out payload : List ℕ) (p : Place) (e : Key) (there : p ≡ some e) (at n : ℕ) (number : n ≡ numberIn p)
     (w : Said) (says : agreed p (confirmationOf (answers .confirmation)) ≡ grantOf w) where
   abbrev Confirms : Plan → Type 0
   Confirms plan = Ends buffer r x out (follow (lent (lentOf answers bytes)) (gatewayOf s x) plan)
 
   abbrev here : Plan
-  here = confirming (gatewayOf s x) payload p at
+  here = confirming (gatewayOf s x) payload (some e) at
 
   abbrev onwards : Plan
   onwards = signingData (gatewayOf s x) payload n at
@@ -89,43 +92,68 @@ module _ (answers : Answers) (bytes : List ℕ) (s : State) (x buffer : List ℕ
   abbrev asking : Plan
   asking = ask (confirmation n) λ granted. so (fails (gatewayOf s x)) granted onwards
 
-  -- with Confirm the confirmation that counts is what is said
-  confirmer-says : (v : Said) → confirmIn p ≡ true → w ≡ v → lent (lentOf answers bytes) (confirmation n) ≡ grantOf v
-  unfolding agreed so lent lentOf
-  confirmer-says v must e = rw number ((rw must at says) ∙ ap grantOf e)
+  own : n ≡ e .number
+  own = number ∙ ap numberIn there
 
-  confirmer-next : confirmIn p ≡ true → Confirms asking → Confirms here
+  said : agreed (some e) (confirmationOf (answers .confirmation)) ≡ grantOf w
+  said = subst (λ (p : Place). agreed p (confirmationOf (answers .confirmation)) ≡ grantOf w) there says
+
+  -- with Confirm the confirmation that counts is what is said
+  confirmer-says : (v : Said) → e .confirm ≡ true → w ≡ v → lent (lentOf answers bytes) (confirmation n) ≡ grantOf v
+  unfolding agreed so lent lentOf
+  confirmer-says v must is = rw own ((rw must at said) ∙ ap grantOf is)
+
+  confirmer-next : e .confirm ≡ true → Confirms asking → Confirms here
   unfolding confirming
-  confirmer-next must h = rw (← number) (so-yes _ _ _ _ _ _ _ _ _ (sym must) h)
+  confirmer-next must h = rw (← own) (so-yes _ _ _ _ _ _ _ _ _ (sym must) h)
 
   -- without it, yes is said
-  unconfirmed-says : confirmIn p ≡ false → grantOf w ≡ some true
+  unconfirmed-says : e .confirm ≡ false → grantOf w ≡ some true
   unfolding agreed so
-  unconfirmed-says free = sym (rw free at says)
+  unconfirmed-says free = sym (rw free at said)
 
   pub confirmer-asked : w ≡ Missing → r ≡ record { outcome = Confirm n; state = s } → out ≡ buffer → Sound s x → Confirms here
   unfolding code
-  confirmer-asked e f o h = by-confirm (confirmIn p) refl
+  confirmer-asked is f o h = by-confirm (e .confirm) refl
     where
-      by-confirm : (b : Bool) → confirmIn p ≡ b → Confirms here
+      by-confirm : (b : Bool) → e .confirm ≡ b → Confirms here
       by-confirm true must =
-          confirmer-next must (asked _ _ _ _ _ _ _ _ (confirmer-says Missing must e) (rw (f, o) (asked-ends buffer x (Confirm n) s (confirmation n) refl h)))
-      by-confirm false free = let never = rw e at (unconfirmed-says free) in let z : _≡_ {A = ℕ} 0 1 = cc in absurd (omega arith)
+          confirmer-next must (asked _ _ _ _ _ _ _ _ (confirmer-says Missing must is) (rw (f, o) (asked-ends buffer x (Confirm n) s (confirmation n) refl h)))
+      by-confirm false free = let never = rw is at (unconfirmed-says free) in let z : _≡_ {A = ℕ} 0 1 = cc in absurd (omega arith)
 
   pub confirmer-denies : w ≡ No → Ends buffer r x out (record { outcome = lands FAILURE; gateway = gatewayOf s x }) → Confirms here
-  confirmer-denies e h = by-confirm (confirmIn p) refl
+  confirmer-denies is h = by-confirm (e .confirm) refl
     where
-      by-confirm : (b : Bool) → confirmIn p ≡ b → Confirms here
+      by-confirm : (b : Bool) → e .confirm ≡ b → Confirms here
       by-confirm true must =
-          confirmer-next must (answered _ _ _ _ _ _ _ _ false (confirmer-says No must e) (so-no _ _ _ _ _ _ _ _ _ refl (landed _ _ _ _ _ _ _ _ h)))
-      by-confirm false free = let never = rw e at (unconfirmed-says free) in let z : _≡_ {A = ℕ} 0 1 = cc in absurd (omega arith)
+          confirmer-next must (answered _ _ _ _ _ _ _ _ false (confirmer-says No must is) (so-no _ _ _ _ _ _ _ _ _ refl (landed _ _ _ _ _ _ _ _ h)))
+      by-confirm false free = let never = rw is at (unconfirmed-says free) in let z : _≡_ {A = ℕ} 0 1 = cc in absurd (omega arith)
 
   pub confirmer-grants : w ≡ Yes → Confirms onwards → Confirms here
   unfolding confirming
-  confirmer-grants e h = by-confirm (confirmIn p) refl
+  confirmer-grants is h = by-confirm (e .confirm) refl
     where
-      by-confirm : (b : Bool) → confirmIn p ≡ b → Confirms here
-      by-confirm true must = confirmer-next must (answered _ _ _ _ _ _ _ _ true (confirmer-says Yes must e) (so-yes _ _ _ _ _ _ _ _ _ refl h))
-      by-confirm false free = rw (← number) (so-no _ _ _ _ _ _ _ _ _ (sym free) h)
+      by-confirm : (b : Bool) → e .confirm ≡ b → Confirms here
+      by-confirm true must = confirmer-next must (answered _ _ _ _ _ _ _ _ true (confirmer-says Yes must is) (so-yes _ _ _ _ _ _ _ _ _ refl h))
+      by-confirm false free = rw (← own) (so-no _ _ _ _ _ _ _ _ _ (sym free) h)
 
-pub ruleset signs = (ends, signer-asked, signer-silent, signer-signs, confirmer-asked, confirmer-denies, confirmer-grants)
+-- ## The key
+
+-- where the search for a blob ended says which entry the rule goes on with
+module _ (buffer : List ℕ) (r : Called) (store out : List ℕ) (answers : (q : Question) → Option (Answer q)) (g : Gateway) (payload : List ℕ) (at : ℕ) where
+  abbrev Keyed : Option Key → Type 0
+  Keyed o = Ends buffer r store out (follow answers g (confirming g payload o at))
+
+  pub key-absent : (v : List ℕ) (w : Found) → w ≡ Nothing → w ≡ seek (holds v) 0 (g .places) → Ends buffer r store out (follow answers g (fails g))
+      → Keyed (entryWith v (g .places))
+  unfolding confirming
+  key-absent v w e f h = rw (entry-absent v (g .places) (sym f ∙ e)) h
+
+  pub key-found : (v : List ℕ) (w : Found) (i : ℕ) → w ≡ At i → w ≡ seek (holds v) 0 (g .places) → ((k : Key) → getD (g .places) i none ≡ some k → Keyed (some k))
+      → Keyed (entryWith v (g .places))
+  key-found v w i e f h =
+      let at-i : seek (holds v) 0 (g .places) ≡ At i = sym f ∙ e in
+      let held = found-entry v (g .places) i at-i in
+      rw (entry-found v (g .places) i at-i, held .there) (h (held .entry) (held .there))
+
+pub ruleset signs = (ends, key-absent, key-found, signer-asked, signer-silent, signer-signs, confirmer-asked, confirmer-denies, confirmer-grants)

@@ -13,9 +13,10 @@ use Rattle.wire.specs.Write.{write}
 use Rattle.rule.specs.declared.Hash.{Hash}
 use Rattle.rule.specs.declared.Hash.the-variants.{Plain, Sha256, Sha512}
 use Rattle.rule.specs.Gateway.{Place}
-use Rattle.rule.specs.Rule.{gate, check, confirmation, signature, reply, close, numberIn, confirmIn}
+use Rattle.rule.specs.Rule.{gate, check, confirmation, signature, reply, close}
 use Rattle.rule.specs.Calls as rule
 use Rattle.rule.specs.Calls.{Numbered, forNumber, refused, asks, lands}
+use Rattle.table.specs.Meaning.{numberIn, confirmIn}
 use Rattle.requests.specs.declared.Said.{Said}
 use Rattle.requests.specs.declared.Said.the-variants as said
 use Rattle.requests.specs.declared.Confirmed.{Confirmed}

@@ -23,11 +23,12 @@ use wire::write::put_number;
 use wire::write::put_string;
 ghost use mathlib.Core.Path.{_≡_};
 ghost use mathlib.Core.List.{List};
-ghost use mathlib.Core.Option.{none};
+ghost use mathlib.Core.Option.{none, some};
 ghost use Prim.Native.Nat.{ℕ, _≤_, _<_};
 ghost use lib.ListN.{length, getD};
 ghost use Rattle.wire.specs.Limits.{signatureLimit, replyRoom};
 ghost use Rattle.wire.specs.Write.{write};
+ghost use Rattle.rule.specs.Gateway.{Entry as Key};
 ghost use Rattle.rule.specs.Rule.{hashOf, signatureReply, signingData, confirming, signing};
 ghost use Rattle.rule.specs.Calls.{lent, forNumber, lentLength, follow};
 ghost use Rattle.table.specs.Meaning.{gatewayOf};
@@ -163,7 +164,7 @@ fn sign_with(
     reply: &mut [u8],
 ) -> Called
     requires { ⌜ (i < 8) × (replyRoom ≤ length (now reply)) × (lentLength (lentOf answers (now signature) .signature) ≤ signatureLimit) × Sound state (now store) ⌝ }
-    ensures { λ r. ⌜ Ends (now (reply .entry)) r (now (store .entry)) (now (reply .exit)) (follow (lent (lentOf answers (now (signature .entry)))) (gatewayOf state (now (store .entry))) (confirming (gatewayOf state (now (store .entry))) (now (payload .entry)) (getD (gatewayOf state (now (store .entry)) .places) i none) (at .at))) ⌝ }
+    ensures { λ r. ⌜ ((k : Key) → getD (gatewayOf state (now (store .entry)) .places) i none ≡ some k → Ends (now (reply .entry)) r (now (store .entry)) (now (reply .exit)) (follow (lent (lentOf answers (now (signature .entry)))) (gatewayOf state (now (store .entry))) (confirming (gatewayOf state (now (store .entry))) (now (payload .entry)) (some k) (at .at)))) ⌝ }
 {
     let number = places::number_at(state, i);
     let given = answers.confirmation;

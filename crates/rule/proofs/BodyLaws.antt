@@ -18,8 +18,9 @@ use Rattle.keys.specs.declared.addition.Carried.{Carried}
 use Rattle.keys.specs.declared.addition.Addition.{Addition}
 use Rattle.keys.specs.Kinds.{blobOf}
 use Rattle.keys.specs.Additions.{additionAt}
-use Rattle.rule.specs.declared.Found.the-variants.{Nothing}
-use Rattle.rule.specs.Gateway.{Entry, Gateway, locked, seek, holds, placeFor, withLock, without, withEntry}
+use Rattle.rule.specs.declared.Found.{Found}
+use Rattle.rule.specs.declared.Found.the-variants.{At, Nothing}
+use Rattle.rule.specs.Gateway.{Entry, Gateway, locked, seek, holds, entryWith, placeFor, withLock, without, withEntry}
 use Rattle.rule.specs.Soundness.{fit}
 use Rattle.rule.specs.Rule.{Question, gate, check, confirmation, signature, Answer, Landing, reply, close, FAILURE, SUCCESS, Plan, land, fails, closes, listing, removing, removingAll, locking, unlocking, hashOf, signatureReply, signed, signingData, confirming, signing, entryOf, storing, adding}
 use Rattle.rule.specs.Calls.{lent, Call, asks, lands, Result, follow, call}
@@ -27,7 +28,7 @@ use Rattle.rule.specs.Words.{Begins, Carries, HeldAt, atCall, payloadOf,
 use Rattle.rule.specs.Rows.{Row, list, add, add-constrained, remove, remove-all, sign, lock, unlock}
 use Rattle.rule.specs.Adding.{addByte}
 use Rattle.rule.proofs.Cases.{so-cases, part-cases, number-cases, found-cases, added-cases, true-not-false}
-use Rattle.rule.proofs.PlaceLaws.{found-at}
+use Rattle.rule.proofs.PlaceLaws.{found-at, entry-found, entry-absent}
 use Rattle.rule.proofs.Effects.{Storable}
 use Rattle.rule.proofs.Leavings.{lands-not-asks}
 use Rattle.rule.proofs.RowLaws.{bodyResult, question-beyond, through-some}
@@ -135,21 +136,7 @@ module _ (answer : (q : Question) → Option (Answer q)) (g : Gateway) (payload 
   unfolding signing confirming signingData signed
   signing-cases failing closing confirms asking signs =
       part-cases Follows (stringAt payload 1) (λ _ cut. closed (no-key (λ v s. whole-not-fault (s .read) cut))) λ f t k read.
-      found-cases Follows (seek (holds (cutOf payload f t)) 0 (g .places))
-      (λ absent. failed (not-found (cutOf payload f t) (record { from = f; to = t; next = k; read = read; is = refl }) absent)) λ i at.
-      let held = found-at (cutOf payload f t) (g .places) i at in
-      let e = held .entry in
-      let key : Chosen g payload i e = record { there = held .there; carries = record { from = f; to = t; next = k; read = read; is = sym (held .is) } } in
-      rw (held .there)
-      (so-cases Follows (e .confirm)
-      (λ confirm.
-      ask-gives answer g P (confirmation (e .number)) _
-      (λ _. confirms i e key confirm)
-      (λ granted says.
-      so-cases Follows granted
-      (λ agreed. by-data i e key (λ _. says ∙ ap some agreed))
-      (λ denied. failed (said-no i e key confirm (says ∙ ap some denied)))))
-      (λ free. by-data i e key (λ confirm. absurd (true-not-false (sym confirm ∙ free)))))
+      by-search (record { from = f; to = t; next = k; read = read; is = refl }) (seek (holds (cutOf payload f t)) 0 (g .places)) refl
     where
       failed : Failing answer g payload → Follows (fails g)
       failed why = land-gives answer g P FAILURE g (failing why)
@@ -172,6 +159,23 @@ module _ (answer : (q : Question) → Option (Answer q)) (g : Gateway) (payload 
           ask-gives answer g P (signature (e .number) from to (hashOf flags)) (signed g)
           (λ _. asking i e from to flags k order allowed)
           (by-signer i e from to flags k order allowed)
+
+      by-search : {v : List ℕ} (s : Carries v payload) (found : Found) → seek (holds v) 0 (g .places) ≡ found → Follows (confirming g payload (entryWith v (g .places)) (s .next .at))
+      by-search {v} s Nothing absent = rw (entry-absent v (g .places) absent) (failed (not-found v s absent))
+      by-search {v} s (At i) at =
+          let held = found-at v (g .places) i at in
+          let e = held .entry in
+          let key : Chosen g payload i e = record { there = held .there; carries = record { from = s .from; to = s .to; next = s .next; read = s .read; is = s .is ∙ sym (held .is) } } in
+          rw (entry-found v (g .places) i at, held .there)
+          (so-cases Follows (e .confirm)
+          (λ confirm.
+          ask-gives answer g P (confirmation (e .number)) _
+          (λ _. confirms i e key confirm)
+          (λ granted says.
+          so-cases Follows granted
+          (λ agreed. by-data i e key (λ _. says ∙ ap some agreed))
+          (λ denied. failed (said-no i e key confirm (says ∙ ap some denied)))))
+          (λ free. by-data i e key (λ confirm. absurd (true-not-false (sym confirm ∙ free)))))
 
 -- ## Questions behind the gate
 

@@ -9,7 +9,7 @@ use mathlib.Core.List.{List}
 use Rattle.wire.specs.Numbers.{Bytes}
 use Rattle.wire.specs.Read.{cutOf, stringAt, numberAt}
 use Rattle.wire.specs.Steps.{so, part}
-use Rattle.rule.specs.Gateway.{Gateway, locked, found}
+use Rattle.rule.specs.Gateway.{Gateway, locked}
 use Rattle.rule.specs.Rule.{gate, reply, close, FAILURE, SUCCESS, Plan, listing, removingAll, signatureReply, signed, signingData, confirming, signing}
 use Rattle.rule.specs.Calls.{lent, Call, lands, Result, follow, call}
 use Rattle.rule.specs.Words.{Begins, atCall, payloadOf, PastGate}
@@ -17,7 +17,7 @@ use Rattle.rule.specs.Rows.{Row, list, add, add-constrained, remove, rem
 use Rattle.rule.specs.Signing.{Closes, no-blob, no-data, no-signature, CloseRule, SignFails, absent, denied, SignFailRule}
 use Rattle.rule.proofs.Cases.{part-cases, number-cases}
 use Rattle.rule.proofs.Plans.{asks-not-lands, refused-not-lands}
-use Rattle.rule.proofs.PlaceLaws.{every-at, every-of, absent-differs, differs-absent}
+use Rattle.rule.proofs.PlaceLaws.{every-at, every-of, absent-differs, differs-absent, entry-absent}
 use Rattle.rule.proofs.RefusalLaws.{accepted}
 use Rattle.rule.proofs.AnswerLaws.{numbered-answers}
 use Rattle.rule.proofs.RowLaws.{same-landing, past-gate, bodyResult, rows-cases, landing-beyond, Through, through-some}
@@ -156,10 +156,10 @@ module _ (g : Gateway) (c : Call) where
       denied e (i, k .there) (k .carries) confirm (own-number (e .number) (c .answers .confirmation) false says)
 
   fails-fail : PastGate g c → locked g ≡ false → Begins 13 (payloadOf c) → SignFails g c → call g c .outcome ≡ lands FAILURE
-  unfolding signing confirming part found so follow
+  unfolding signing confirming part so follow
   fails-fail past state begins (absent v s others) =
       let nothing = differs-absent v (atCall g c .places) (every-of (λ x. x .blob ≢ v) (atCall g c .places) (λ i e held. others e (i, held))) in
-      rw (past-gate sign g c past state begins, s .read, s .is, nothing)
+      rw (past-gate sign g c past state begins, s .read, s .is, entry-absent v (atCall g c .places) nothing)
   fails-fail past state begins (denied e (i, held) s confirm says) =
       let no = numbered-answers (c .answers) .confirmations (e .number) .own false says in
       rw (comes-to-key g c past state i e held begins s, confirm, no)

@@ -6,7 +6,7 @@ use mathlib.Core.Bool.{Bool, true, false}
 use mathlib.Core.Option.{Option, none, some}
 use mathlib.Core.List.{List, []}
 use borrow.Author.Tests.{leb-true, ltb-true}
-use lib.ListN.{length, getD}
+use lib.ListN.{length}
 use lib.Dec.{leb, ltb, eqb}
 use Rattle.wire.specs.Limits.{passphraseLimit, lastNumber}
 use Rattle.wire.specs.Read.{cutOf, same, stringAt, numberAt}
@@ -15,9 +15,9 @@ use Rattle.wire.proofs.Format.{part-length}
 use Rattle.keys.specs.Kinds.{blobOf}
 use Rattle.keys.specs.Additions.{additionAt}
 use Rattle.rule.specs.declared.Found.the-variants.{At}
-use Rattle.rule.specs.Gateway.{Entry, Gateway, locked, opened, seek, holds, placeFor, withLock, without, withoutAll, withEntry}
+use Rattle.rule.specs.Gateway.{Entry, Gateway, locked, opened, seek, holds, entryWith, placeFor, withLock, without, withoutAll, withEntry}
 use Rattle.rule.specs.Soundness.{fit}
-use Rattle.rule.specs.Rule.{Landing, FAILURE, SUCCESS, Plan, listing, removing, removingAll, locking, unlocking, signed, signingData, numberIn, confirmIn, confirming, signing, entryOf, storing, adding, gated, row, table, rule}
+use Rattle.rule.specs.Rule.{Landing, FAILURE, SUCCESS, Plan, listing, removing, removingAll, locking, unlocking, signed, signingData, confirming, signing, entryOf, storing, adding, gated, row, table, rule}
 use Rattle.rule.proofs.Cases.{so-cases, part-cases, number-cases, found-cases, added-cases}
 use Rattle.rule.proofs.Plans.{EveryLanding}
 
@@ -80,10 +80,13 @@ module _ (g : Gateway) where
   unfolding signing confirming
   signing-effect payload =
       part-cases Lands (stringAt payload 1) (λ _ _. leaves refl) λ f t k _.
-      found-cases Lands (seek (holds (cutOf payload f t)) 0 (g .places)) (λ _. leaves refl) λ i _.
-      let p = getD (g .places) i none in
-      let signer = data-effect payload (numberIn p) (k .at) in
-      so-cases Lands (confirmIn p) (λ _ granted. so-cases Lands granted (λ _. signer) (λ _. leaves refl)) (λ _. signer)
+      by-key (entryWith (cutOf payload f t) (g .places)) (k .at)
+    where
+      by-key : (o : Option Entry) (at : ℕ) → Lands (confirming g payload o at)
+      by-key none at = leaves refl
+      by-key (some e) at =
+          let signer = data-effect payload (e .number) at in
+          so-cases Lands (e .confirm) (λ _ granted. so-cases Lands granted (λ _. signer) (λ _. leaves refl)) (λ _. signer)
 
   adding-effect : (constrained : Bool) (payload : List ℕ) → Lands (adding constrained g payload)
   unfolding adding storing

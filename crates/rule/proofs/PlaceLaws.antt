@@ -14,7 +14,7 @@ use Rattle.wire.specs.Read.{same}
 use Rattle.wire.specs.Steps.{so}
 use Rattle.wire.proofs.Reading.{same-rule}
 use Rattle.rule.specs.declared.Found.the-variants.{At, Nothing}
-use Rattle.rule.specs.Gateway.{Entry, Place, dueAt, lasting, seek, holds, isFree, placeFor, vacate}
+use Rattle.rule.specs.Gateway.{Entry, Place, dueAt, lasting, seek, holds, isFree, entryWith, placeFor, vacate}
 use Rattle.rule.specs.Soundness.{EveryEntry, Apart, Distinct}
 use Rattle.rule.proofs.Cases.{so-cases, found-cases, true-not-false}
 
@@ -266,6 +266,26 @@ differs a b n = by-test (same a b) refl
 
 pub found-at : (blob : List ℕ) (ps : List Place) (i : ℕ) → seek (holds blob) 0 ps ≡ At i → FoundAt blob ps i
 found-at blob ps i e = let (x, h, s) = holds-true blob (getD ps i none) (seek-first (holds blob) ps i e .passes) in record { entry = x; there = h; is = s }
+
+-- the entry that has the blob stands where the search ends
+first-entry : (blob : List ℕ) (ps : List Place) (i : ℕ) → First (holds blob) ps i → entryWith blob ps ≡ getD ps i none
+unfolding entryWith so
+first-entry blob [] i f = absurd (let h = f .inside in omega arith)
+first-entry blob (p ∷ ps) zero f = rw (f .passes)
+first-entry blob (p ∷ ps) (suc i) f =
+    let rest : First (holds blob) ps i = record { inside = let h = f .inside in omega arith; passes = f .passes; earlier = λ j h. f .earlier (suc j) (omega arith) } in
+    rw (f .earlier 0 (omega arith)) (first-entry blob ps i rest)
+
+pub entry-found : (blob : List ℕ) (ps : List Place) (i : ℕ) → seek (holds blob) 0 ps ≡ At i → entryWith blob ps ≡ getD ps i none
+entry-found blob ps i e = first-entry blob ps i (seek-first (holds blob) ps i e)
+
+none-entry : (blob : List ℕ) (ps : List Place) → NonePasses (holds blob) ps → entryWith blob ps ≡ none
+unfolding entryWith so
+none-entry blob [] f = refl
+none-entry blob (p ∷ ps) f = rw (f 0 (omega arith)) (none-entry blob ps (λ j h. f (suc j) (omega arith)))
+
+pub entry-absent : (blob : List ℕ) (ps : List Place) → seek (holds blob) 0 ps ≡ Nothing → entryWith blob ps ≡ none
+entry-absent blob ps e = none-entry blob ps (seek-none (holds blob) 0 ps e)
 
 -- what stands at place j, if anything, has another blob
 not-held : (blob : List ℕ) (p : Place) → ((x : Entry) → p ≡ some x → x .blob ≢ blob) → holds blob p ≡ false

@@ -5,16 +5,16 @@ use mathlib.Core.Path.{_≡_, sym, subst}
 use mathlib.Core.Bool.{Bool, true, false}
 use mathlib.Core.Option.{Option, none, some}
 use mathlib.Core.List.{List}
-use lib.ListN.{length, getD}
+use lib.ListN.{length}
 use lib.Dec.{leb, ltb, eqb}
 use Rattle.wire.specs.Limits.{passphraseLimit, lastNumber}
 use Rattle.wire.specs.Read.{cutOf, same, stringAt, numberAt}
 use Rattle.wire.specs.Steps.{so}
 use Rattle.keys.specs.Kinds.{blobOf}
 use Rattle.keys.specs.Additions.{additionAt}
-use Rattle.rule.specs.Gateway.{Gateway, locked, opened, advance, seek, holds, placeFor}
+use Rattle.rule.specs.Gateway.{Entry, Gateway, locked, opened, advance, seek, holds, entryWith, placeFor}
 use Rattle.rule.specs.Soundness.{fit}
-use Rattle.rule.specs.Rule.{Question, gate, check, confirmation, signature, Answer, Landing, Plan, land, ask, fails, listing, removing, removingAll, locking, unlocking, hashOf, signed, signingData, numberIn, confirmIn, confirming, signing, entryOf, storing, adding, gated, row, table, rule}
+use Rattle.rule.specs.Rule.{Question, gate, check, confirmation, signature, Answer, Landing, Plan, land, ask, fails, listing, removing, removingAll, locking, unlocking, hashOf, signed, signingData, confirming, signing, entryOf, storing, adding, gated, row, table, rule}
 use Rattle.rule.specs.Calls.{given, lent, asks, Result, follow, served, refusal, call}
 use Rattle.rule.specs.Runs.{Oracle}
 use Rattle.rule.specs.Order.{Needs, here, behind, QuestionRule, questions, AtMostThree}
@@ -53,10 +53,13 @@ module _ (oracle : Oracle) (g : Gateway) where
   unfolding signing confirming
   signing-asks payload =
       part-cases (AtMost 2) (stringAt payload 1) (λ _ _. land-asks 2 _ g) λ f t k _.
-      found-cases (AtMost 2) (seek (holds (cutOf payload f t)) 0 (g .places)) (λ _. land-asks 2 _ g) λ i _.
-      let p = getD (g .places) i none in
-      let signer = data-asks payload (numberIn p) (k .at) in
-      so-cases (AtMost 2) (confirmIn p) (λ _. ask-asks 1 (confirmation (numberIn p)) _ (λ granted. so-asks 1 granted _ signer)) (λ _. le-step signer)
+      by-key (entryWith (cutOf payload f t) (g .places)) (k .at)
+    where
+      by-key : (o : Option Entry) (at : ℕ) → AtMost 2 (confirming g payload o at)
+      by-key none at = land-asks 2 _ g
+      by-key (some e) at =
+          let signer = data-asks payload (e .number) at in
+          so-cases (AtMost 2) (e .confirm) (λ _. ask-asks 1 (confirmation (e .number)) _ (λ granted. so-asks 1 granted _ signer)) (λ _. le-step signer)
 
   adding-asks : (constrained : Bool) (payload : List ℕ) → AtMost 2 (adding constrained g payload)
   unfolding adding storing

@@ -5,7 +5,7 @@ use mathlib.Core.Path.{_≡_, refl, sym, ap, _∙_, subst}
 use mathlib.Core.Bool.{Bool, true, false}
 use mathlib.Core.Option.{Option, none, some}
 use mathlib.Core.List.{List, [], _∷_}
-use lib.ListN.{length, getD, length-append}
+use lib.ListN.{length, length-append}
 use lib.Dec.{leb, ltb, eqb}
 use Rattle.wire.specs.Limits.{passphraseLimit, signatureLimit, replyRoom, itemRoom, lastNumber}
 use Rattle.wire.specs.Read.{cutOf, same, stringAt, numberAt}
@@ -14,9 +14,9 @@ use Rattle.wire.specs.Write.{string}
 use Rattle.keys.specs.Kinds.{blobOf}
 use Rattle.keys.specs.Additions.{additionAt}
 use Rattle.rule.specs.declared.Hash.{Hash}
-use Rattle.rule.specs.Gateway.{Place, Gateway, locked, opened, advance, seek, holds, placeFor, withEntry}
+use Rattle.rule.specs.Gateway.{Entry, Place, Gateway, locked, opened, advance, seek, holds, entryWith, placeFor, withEntry}
 use Rattle.rule.specs.Soundness.{EveryEntry, SoundEntry, Sound, fit}
-use Rattle.rule.specs.Rule.{Question, gate, check, confirmation, signature, Answer, Landing, reply, close, FAILURE, SUCCESS, Plan, land, ask, fails, closes, live, items, listed, listing, removing, removingAll, locking, unlocking, hashOf, signatureReply, signed, signingData, numberIn, confirmIn, confirming, signing, entryOf, storing, adding, gated, row, table, rule}
+use Rattle.rule.specs.Rule.{Question, gate, check, confirmation, signature, Answer, Landing, reply, close, FAILURE, SUCCESS, Plan, land, ask, fails, closes, live, items, listed, listing, removing, removingAll, locking, unlocking, hashOf, signatureReply, signed, signingData, confirming, signing, entryOf, storing, adding, gated, row, table, rule}
 use Rattle.rule.specs.Calls.{given, Numbered, forNumber, lent, lentLength, Call, lands, Result, follow, served, refusal, call}
 use Rattle.rule.specs.Order.{RepliesFit}
 use Rattle.rule.proofs.Cases.{so-cases, part-cases, number-cases, found-cases, added-cases, given-cases}
@@ -97,10 +97,13 @@ module _ (lent : (q : Question) → Option (Answer q)) (g : Gateway)
   unfolding signing confirming
   signing-fits payload =
       part-cases Fits (stringAt payload 1) (λ _ _. closes-fits) λ f t k _.
-      found-cases Fits (seek (holds (cutOf payload f t)) 0 (g .places)) (λ _. fails-fits) λ i _.
-      let p = getD (g .places) i none in
-      let signer = data-fits payload (numberIn p) (k .at) in
-      so-cases Fits (confirmIn p) (λ _. ask-fits (confirmation (numberIn p)) _ (λ granted _. so-fits granted _ signer)) (λ _. signer)
+      by-key (entryWith (cutOf payload f t) (g .places)) (k .at)
+    where
+      by-key : (o : Option Entry) (at : ℕ) → Fits (confirming g payload o at)
+      by-key none at = fails-fits
+      by-key (some e) at =
+          let signer = data-fits payload (e .number) at in
+          so-cases Fits (e .confirm) (λ _. ask-fits (confirmation (e .number)) _ (λ granted _. so-fits granted _ signer)) (λ _. signer)
 
   adding-fits : (constrained : Bool) (payload : List ℕ) → Fits (adding constrained g payload)
   unfolding adding storing

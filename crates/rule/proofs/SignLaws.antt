@@ -12,14 +12,14 @@ use Rattle.wire.specs.Numbers.{Bytes}
 use Rattle.wire.specs.Read.{cutOf}
 use Rattle.wire.specs.Steps.{so, part, number}
 use Rattle.wire.specs.Write.{string}
-use Rattle.rule.specs.Gateway.{Entry, Gateway, locked, found}
+use Rattle.rule.specs.Gateway.{Entry, Gateway, locked}
 use Rattle.rule.specs.Rule.{Question, gate, confirmation, signature, Answer, reply, hashOf, signatureReply, signed, signingData, confirming, signing}
 use Rattle.rule.specs.Calls.{Numbered, forNumber, lent, Call, asks, lands, Result, follow, call}
 use Rattle.rule.specs.Words.{Begins, Carries, HeldAt, Held, atCall, payloadOf, PastGate}
 use Rattle.rule.specs.Rows.{sign}
 use Rattle.rule.specs.Signing.{SignRequest, HashTable, Confirmed, SignatureAsks, ConfirmationAsks, SignsOnly, SignsAlways}
 use Rattle.rule.proofs.Cases.{so-cases}
-use Rattle.rule.proofs.PlaceLaws.{some-not-none, held-found}
+use Rattle.rule.proofs.PlaceLaws.{some-not-none, held-found, entry-found}
 use Rattle.rule.proofs.RefusalLaws.{accepted}
 use Rattle.rule.proofs.SoundLaws.{sound-advance, sound-rule}
 use Rattle.rule.proofs.AnswerLaws.{numbered-answers}
@@ -132,11 +132,11 @@ module _ (g : Gateway) (c : Call) (past : PastGate g c) (state : locked g ≡ fa
   module _ (begins : Begins 13 (payloadOf c)) (s : Carries (e .blob) (payloadOf c)) where
     -- the request comes to the key that it names
     pub comes-to-key : call g c ≡ follow (lent (c .answers)) (atCall g c) (confirming (atCall g c) (payloadOf c) (some e) (s .next .at))
-    unfolding signing part found
+    unfolding signing part
     comes-to-key =
         let sound = sound-rule g .0 (accepted g c (past .accepted) .state) in
         let at = held-found (atCall g c .places) (sound-advance (c .reading) g sound .distinct) i e held in
-        rw (past-gate sign g c past state begins, s .read, s .is, at, held)
+        rw (past-gate sign g c past state begins, s .read, s .is, entry-found (e .blob) (atCall g c .places) i at, held)
 
     -- and, with the yes that the key needs, to its data
     pub comes-to-data : Confirmed c e → call g c ≡ follow (lent (c .answers)) (atCall g c) (signingData (atCall g c) (payloadOf c) (e .number) (s .next .at))

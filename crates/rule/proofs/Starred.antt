@@ -4,7 +4,7 @@ use Rattle.wire.specs.Numbers.{beAt}
 use Rattle.wire.specs.Read.{cutOf, same, numberAt, stringAt}
 use Rattle.wire.specs.Steps.{so, part, number}
 use Rattle.wire.specs.Frames.{splitOf}
-use Rattle.rule.specs.Gateway.{dueAt, lasting, atClock, advance, found}
+use Rattle.rule.specs.Gateway.{dueAt, lasting, atClock, advance, found, entryWith}
 use Rattle.rule.specs.Soundness.{everyEntry, distinct, fit, sound}
 use Rattle.rule.specs.Rule.{live, items, listed, listing, removing, removingAll, locking, unlocking, hashOf, signed, signingData, confirming, signing, gated, row, table, rule}
 use Rattle.rule.specs.Calls.{forNumber, lent, lentLength, refusalOf, follow, served, refusal, call}
@@ -13,7 +13,7 @@ use Rattle.rule.specs.Examples.{StarredExamples, lockedAb, oneKey, Sound
 use Rattle.rule.proofs.SoundLaws.{fresh-sound, sound-rule}
 
 pub starred-examples : StarredExamples
-unfolding beAt cutOf same numberAt stringAt so part number splitOf dueAt lasting atClock advance found everyEntry distinct fit sound live items listed listing removing removingAll locking unlocking hashOf signed signingData confirming signing gated row table rule forNumber lent lentLength refusalOf follow served refusal call events endOf isAccepted heard heardIn turn turnsFrom
+unfolding beAt cutOf same numberAt stringAt so part number splitOf dueAt lasting atClock advance found entryWith everyEntry distinct fit sound live items listed listing removing removingAll locking unlocking hashOf signed signingData confirming signing gated row table rule forNumber lent lentLength refusalOf follow served refusal call events endOf isAccepted heard heardIn turn turnsFrom
 starred-examples = record {
   fresh-sound = fresh-sound;
   locked-sound = sound-rule lockedAb .0 refl;

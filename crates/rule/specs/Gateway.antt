@@ -87,6 +87,11 @@ unfoldable pub found : {A : Type 0} → A → Found → (ℕ → A) → A
 found z (At i) next = next i
 found z Nothing next = z
 
+-- the entry that has a blob, if one has it
+unfoldable pub entryWith : List ℕ → List Place → Option Entry
+entryWith blob [] = none
+entryWith blob (p ∷ ps) = so (entryWith blob ps) (holds blob p) p
+
 -- "A held blob is replaced in its place ..; a new one takes the lowest free place."
 unfoldable pub placeFor : List ℕ → List Place → Found
 placeFor blob ps = found (seek isFree 0 ps) (seek (holds blob) 0 ps) At

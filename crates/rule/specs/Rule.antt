@@ -16,7 +16,7 @@ use Rattle.keys.specs.Kinds.{blobOf}
 use Rattle.keys.specs.Additions.{additionAt}
 use Rattle.rule.specs.declared.Hash.{Hash}
 use Rattle.rule.specs.declared.Hash.the-variants.{Plain, Sha256, Sha512}
-use Rattle.rule.specs.Gateway.{Entry, Place, Gateway, locked, opened, seek, holds, found, placeFor, withLock, without, withoutAll, NewKey, newEntry, withEntry}
+use Rattle.rule.specs.Gateway.{Entry, Place, Gateway, locked, opened, seek, holds, found, entryWith, placeFor, withLock, without, withoutAll, NewKey, newEntry, withEntry}
 use Rattle.rule.specs.Soundness.{fit}
 
 -- ## Questions, landings, plans ("One call, six outcomes")
@@ -119,27 +119,18 @@ signingData g payload n at =
     number (λ _. closes g) (numberAt payload (next .at)) λ flags end.
     ask (signature n from to (hashOf flags)) (signed g)
 
--- what a place says of its entry; a free place is never asked
-abbrev pub numberIn : Place → ℕ
-numberIn none = 0
-numberIn (some e) = e .number
+-- "Absent: FAILURE. If Confirm: ask; no is FAILURE."
+unfoldable pub confirming : Gateway → List ℕ → Option Entry → ℕ → Plan
+confirming g payload none at = fails g
+confirming g payload (some e) at =
+    so (signingData g payload (e .number) at) (e .confirm)
+    (ask (confirmation (e .number)) λ granted. so (fails g) granted (signingData g payload (e .number) at))
 
-abbrev pub confirmIn : Place → Bool
-confirmIn none = false
-confirmIn (some e) = e .confirm
-
--- "If Confirm: ask; no is FAILURE."
-unfoldable pub confirming : Gateway → List ℕ → Place → ℕ → Plan
-confirming g payload p at =
-    so (signingData g payload (numberIn p) at) (confirmIn p)
-    (ask (confirmation (numberIn p)) λ granted. so (fails g) granted (signingData g payload (numberIn p) at))
-
--- 13: "blob malformed: close. Absent: FAILURE."
+-- 13: "blob malformed: close."
 unfoldable pub signing : Gateway → List ℕ → Plan
 signing g payload =
     part (λ _. closes g) (stringAt payload 1) λ from to next.
-    found (fails g) (seek (holds (cutOf payload from to)) 0 (g .places)) λ i.
-    confirming g payload (getD (g .places) i none) (next .at)
+    confirming g payload (entryWith (cutOf payload from to) (g .places)) (next .at)
 
 -- going on with what an add request carries
 unfoldable pub added : {A : Type 0} → A → Addition → (Carried → A) → A

@@ -36,6 +36,6 @@ UsableUntil =
     (g : Gateway) (c : Call) (e : Entry) → Bytes (payloadOf c) → Held g e
     → Held (call g c .gateway) e ⊎ Leaves g c e
 
--- and in its place
+-- an entry that is still held stands where it stood
 abbrev pub PlacesStay : Type 0
 PlacesStay = (g : Gateway) (c : Call) (i : ℕ) (e : Entry) → HeldAt g i e → Held (call g c .gateway) e → HeldAt (call g c .gateway) i e

@@ -12,13 +12,12 @@ use lib.Seq.{length-take-le}
 use Rattle.wire.specs.Limits.{placeSize, storeSize, blobLimit}
 use Rattle.wire.specs.Steps.{so}
 use Rattle.rule.specs.Gateway.{isFree}
-use Rattle.rule.specs.Rule.{numberIn, confirmIn}
 use Rattle.rule.proofs.Cases.{so-cases}
 use Rattle.table.specs.declared.Entry.{Entry}
 use Rattle.table.specs.declared.State.{State}
 use Rattle.table.specs.Each.{Each}
 use Rattle.table.specs.Bytes.{padded}
-use Rattle.table.specs.Meaning.{size, isSet, keyOf, placeOf, blobIn, commentIn, view, gatewayOf, noEntry, keptComment, entryFor}
+use Rattle.table.specs.Meaning.{size, isSet, keyOf, placeOf, numberIn, confirmIn, blobIn, commentIn, view, gatewayOf, noEntry, keptComment, entryFor}
 use Rattle.table.specs.Soundness.{soundPlace, soundPlaces, SoundPlace, free, held, Housed, Sound}
 use Rattle.table.proofs.EachLaws.{each-length, each-at, every-at, each-says}
 use Rattle.table.proofs.SizeLaws.{place-start}

@@ -53,7 +53,15 @@ keyOf e p = record {
 unfoldable pub placeOf : Entry → List ℕ → Place
 placeOf e p = so (some (keyOf e p)) (eqb (e .number) 0) none
 
--- what a free place has for a blob, and for a comment
+-- what a place says of its entry, and what a free one has for it
+abbrev pub numberIn : Place → ℕ
+numberIn none = 0
+numberIn (some k) = k .number
+
+abbrev pub confirmIn : Place → Bool
+confirmIn none = false
+confirmIn (some k) = k .confirm
+
 abbrev pub blobIn : Place → List ℕ
 blobIn none = []
 blobIn (some k) = k .blob

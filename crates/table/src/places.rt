@@ -16,8 +16,7 @@ ghost use lib.ListN.{length, getD, take, drop};
 ghost use Rattle.wire.specs.Limits.{placeSize, storeSize};
 ghost use Rattle.wire.specs.Parts.{PartOf};
 ghost use Rattle.rule.specs.Gateway.{seek, holds, isFree, placeFor};
-ghost use Rattle.rule.specs.Rule.{numberIn, confirmIn};
-ghost use Rattle.table.specs.Meaning.{isSet, gatewayOf, placeOf, blobIn, commentIn, noEntry, keptComment};
+ghost use Rattle.table.specs.Meaning.{isSet, gatewayOf, placeOf, numberIn, confirmIn, blobIn, commentIn, noEntry, keptComment};
 ghost use Rattle.table.specs.Soundness.{Sound};
 
 // Where the bytes of place i begin; those of the last end where a ninth place would begin.

@@ -1,4 +1,4 @@
--- The plan goes by the same answer; number and Confirm are those of the place. Assumes nothing.
+-- The plan goes by the same answer; number and Confirm are those of the key in the place. Assumes nothing.
 use Rattle.requests.proofs.EndSteps.{answering}
 use Rattle.requests.proofs.SignSteps.{signs}
 use borrow.Author.Needs.{needs}
@@ -6,26 +6,26 @@ use Rattle.requests.proofs.sign.sign_with.Statement.{statement}
 use Rattle.requests.proofs.sign.sign_with.Tie as tie
 
 returns : tie.Need-returns
-returns c =
+returns c = λ k there.
     let asked = c .before .before in
     let st = asked .before .before .before .before .before .before in
-    search (signs, c .enum-told .given .1, asked .consent .ensures _ (st .pre .3), asked .before .number-at .ensures (st .args .store .now), st .pre .3) depth 16
+    search (signs, c .enum-told .given .1, there, asked .consent .ensures _ (st .pre .3), asked .before .number-at .ensures (st .args .store .now), st .pre .3) depth 16
 
 returns-2 : tie.Need-returns-2
-returns-2 c =
+returns-2 c = λ k there.
     let failed = c .before .before in
     let said = failed .before .before in
     let asked = said .before .before in
     let st = asked .before .before .before .before .before .before in
-    search (signs, answering (failed .failure .ensures), said .enum-told2 .given .1, asked .consent .ensures _ (st .pre .3), asked .before .number-at .ensures (st .args .store .now), st .pre .3) depth 16
+    search (signs, answering (failed .failure .ensures), said .enum-told2 .given .1, there, asked .consent .ensures _ (st .pre .3), asked .before .number-at .ensures (st .args .store .now), st .pre .3) depth 16
 
 returns-3 : tie.Need-returns-3
-returns-3 c =
+returns-3 c = λ k there.
     let signed = c .before .before in
     let said = signed .before .before in
     let asked = said .before .before in
     let st = asked .before .before .before .before .before .before in
-    search (signs, signed .sign-data .ensures, said .enum-told3 .given .1, asked .consent .ensures _ (st .pre .3), asked .before .number-at .ensures (st .args .store .now)) depth 16
+    search (signs, signed .sign-data .ensures, said .enum-told3 .given .1, there, asked .consent .ensures _ (st .pre .3), asked .before .number-at .ensures (st .args .store .now)) depth 16
 
 pub sign-with-spec : {M : Type 1} → statement M
 sign-with-spec =
