@@ -1,6 +1,6 @@
 -- A sound state and store are written in one way: place by place, entry and bytes are those of what they mean, and a sound gateway written
 -- so is sound and means itself.
-use Prim.Native.Nat.{ℕ, zero, suc, _+_, _-_, _≤_}
+use Prim.Native.Nat.{ℕ, zero, suc, _≤_}
 use mathlib.Core.Path.{_≡_, refl, sym, ap, _∙_}
 use mathlib.Core.Bool.{Bool, true, false}
 use mathlib.Core.Option.{none, some}

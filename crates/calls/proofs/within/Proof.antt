@@ -9,4 +9,8 @@ returns-2 : tie.Need-returns-2
 returns-2 c = (c .if1 .left, sym (length-take-le _ _ (c .if1 .left)))
 
 pub within-spec : {M : Type 1} → statement M
-within-spec = tie.close (tie.spec (λ c. search needs) returns-2)
+within-spec =
+    tie.close
+    (tie.spec
+    (λ c. search needs)
+    returns-2)

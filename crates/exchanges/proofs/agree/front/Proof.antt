@@ -10,4 +10,9 @@ slice-aggregate-result : tie.Need-slice-aggregate-result
 slice-aggregate-result c = sym (length-take-le _ _ (omega arith))
 
 pub front-spec : {M : Type 1} → statement M
-front-spec = tie.close (tie.spec (λ c. search needs) slice-aggregate-result (λ c. search needs))
+front-spec =
+    tie.close
+    (tie.spec
+    (λ c. search needs)
+    slice-aggregate-result
+    (λ c. search needs))

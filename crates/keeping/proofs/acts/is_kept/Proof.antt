@@ -28,4 +28,15 @@ size c =
     sym (length-take-le (st .args .c .len) (st .args .c .bytes) (omega arith))
 
 pub is-kept-spec : {M : Type 1} → statement M
-is-kept-spec = tie.close (tie.spec (λ c. search needs) (λ c. search needs) behind (λ c κs. search needs) (λ c. search needs) inside size (λ c κs. search needs) (λ c. search needs))
+is-kept-spec =
+    tie.close
+    (tie.spec
+    (λ c. search needs)
+    (λ c. search needs)
+    behind
+    (λ c κs. search needs)
+    (λ c. search needs)
+    inside
+    size
+    (λ c κs. search needs)
+    (λ c. search needs))

@@ -14,4 +14,11 @@ returns-2 c = rw (← c .before .before .before .key-at .ensures, c .before .fie
 
 pub addition-at-spec : {M : Type 1} → statement M
 addition-at-spec =
-    tie.close (tie.spec (λ c κs. search needs) (λ c. search needs) (λ c κs. search needs) (λ c. search needs) returns returns-2)
+    tie.close
+    (tie.spec
+    (λ c κs. search needs)
+    (λ c. search needs)
+    (λ c κs. search needs)
+    (λ c. search needs)
+    returns
+    returns-2)

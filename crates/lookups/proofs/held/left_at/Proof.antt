@@ -21,7 +21,8 @@ returns-2 c =
 returns-3 : tie.Need-returns-3
 unfolding leftAt so
 returns-3 c =
-    let limited = c .before .before .before .before .before .before .before in
+    let lifetime = c .before .before .before .before .before in
+    let limited = lifetime .before .before in
     let asked = limited .before .is-set in
     rw (← asked .ensures, not-false (asked .result) (limited .if1 .left)) (omega arith)
 

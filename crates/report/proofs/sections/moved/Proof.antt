@@ -9,4 +9,8 @@ unfolding movedOf
 returns c = cc
 
 pub moved-spec : {M : Type 1} → statement M
-moved-spec = tie.close (tie.spec (λ c κs. search needs) returns)
+moved-spec =
+    tie.close
+    (tie.spec
+    (λ c κs. search needs)
+    returns)

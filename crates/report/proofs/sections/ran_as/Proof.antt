@@ -6,4 +6,8 @@ use Rattle.report.proofs.sections.ran_as.Tie as tie
 
 pub ran-as-spec : {M : Type 1} → statement M
 unfolding ranAs so
-ran-as-spec = tie.close (tie.spec (λ c. simp (c .if1 .taken)) (λ c. simp (c .if1 .left)))
+ran-as-spec =
+    tie.close
+    (tie.spec
+    (λ c. simp (c .if1 .taken))
+    (λ c. simp (c .if1 .left)))
