@@ -3,13 +3,12 @@ use Prim.Native.Nat.{ℕ, _+_, _≤_, _<_}
 use mathlib.Core.Path.{_≡_, refl, sym, ap, _∙_}
 use mathlib.Core.List.{List, _∷_, _++_, append-assoc}
 use native.Mathlib.Omega.{arith}
-use borrow.Author.Tests.{le-leb, lt-leb, eq-eqb, ne-eqb}
+use borrow.Author.Tests.{eq-eqb, ne-eqb, le-ltb, lt-ltb}
 use lib.ListN.{length, take, length-append}
 use lib.Seq.{length-take-le}
 use Rattle.wire.specs.declared.Constraint.{Constraint}
 use Rattle.wire.specs.Numbers.{be32}
 use Rattle.wire.specs.Utf8.{utf8End}
-use Rattle.wire.specs.Steps.{so}
 use Rattle.wire.specs.Write.{write, string}
 use Rattle.wire.specs.Constraints.{constraintForms}
 use Rattle.wire.specs.declared.refusal.Refusal.{Refusal}
@@ -33,31 +32,31 @@ two-whole kind a b out r m e = counted _ _ out r m e (simp length-append (omega 
 
 module _ (id pin out : List ℕ) (end : ℕ) (e : end ≡ utf8End id) where
   pub remove-malformed : (end ≡ length id → ⊥) → Removed id pin out (Refused (Malformed end)) out
-  unfolding removeSmartcardAnswer removeSmartcardLeft so
+  unfolding removeSmartcardAnswer removeSmartcardLeft
   remove-malformed h = rw (← e, ne-eqb end (length id) h) (refl, refl)
 
   pub remove-written : end ≡ length id → (r : Wrote) (m : List ℕ) → Met (length (removeSmartcard id pin)) (removeSmartcard id pin) out r m → Removed id pin out r m
-  unfolding removeSmartcardAnswer removeSmartcardLeft so
+  unfolding removeSmartcardAnswer removeSmartcardLeft
   remove-written h r m f = rw (← e, eq-eqb end (length id) h) f
 
   module _ (cs : List Constraint) (count : ℕ) where
     pub add-malformed : count ≤ 4 → (end ≡ length id → ⊥) → Added id pin cs count out (Refused (Malformed end)) out
-    unfolding addSmartcardAnswer addSmartcardLeft so
-    add-malformed k h = rw (le-leb count 4 k, ← e, ne-eqb end (length id) h) (refl, refl)
+    unfolding addSmartcardAnswer addSmartcardLeft
+    add-malformed k h = rw (le-ltb 4 count k, ← e, ne-eqb end (length id) h) (refl, refl)
 
     module _ (k : count ≤ 4) (h : end ≡ length id) (r : Wrote) (m : List ℕ) where
       pub add-plain : count ≡ 0 → Met (length (plainSmartcard id pin)) (plainSmartcard id pin) out r m → Added id pin cs count out r m
-      unfolding addSmartcardAnswer addSmartcardLeft addSmartcard so
-      add-plain z f = rw (le-leb count 4 k, ← e, eq-eqb end (length id) h, eq-eqb count 0 z) f
+      unfolding addSmartcardAnswer addSmartcardLeft addSmartcard
+      add-plain z f = rw (le-ltb 4 count k, ← e, eq-eqb end (length id) h, eq-eqb count 0 z) f
 
       pub add-constrained : (count ≡ 0 → ⊥) → Met (length (constrainedSmartcard id pin (take count cs))) (constrainedSmartcard id pin (take count cs)) out r m
           → Added id pin cs count out r m
-      unfolding addSmartcardAnswer addSmartcardLeft addSmartcard so
-      add-constrained z f = rw (le-leb count 4 k, ← e, eq-eqb end (length id) h, ne-eqb count 0 z) f
+      unfolding addSmartcardAnswer addSmartcardLeft addSmartcard
+      add-constrained z f = rw (le-ltb 4 count k, ← e, eq-eqb end (length id) h, ne-eqb count 0 z) f
 
 pub too-many : (id pin : List ℕ) (cs : List Constraint) (count : ℕ) (out : List ℕ) → 4 < count → Added id pin cs count out (Refused TooManyConstraints) out
-unfolding addSmartcardAnswer addSmartcardLeft so
-too-many id pin cs count out h = rw (lt-leb count 4 h) (refl, refl)
+unfolding addSmartcardAnswer addSmartcardLeft
+too-many id pin cs count out h = rw (lt-ltb 4 count h) (refl, refl)
 
 -- ## Constraints behind the two strings
 

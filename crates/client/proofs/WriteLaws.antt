@@ -4,11 +4,10 @@ use mathlib.Core.Path.{_≡_, refl, sym, ap, _∙_}
 use mathlib.Core.List.{List, _∷_, _++_, append-assoc}
 use mathlib.Core.Logic.{⊎-elim}
 use native.Mathlib.Omega.{arith}
-use borrow.Author.Tests.{le-leb, lt-leb}
+use borrow.Author.Tests.{le-ltb, lt-ltb}
 use lib.ListN.{length, length-append}
 use Rattle.wire.specs.Limits.{payloadLimit}
 use Rattle.wire.specs.Numbers.{be32}
-use Rattle.wire.specs.Steps.{so}
 use Rattle.wire.specs.Write.{write, string}
 use Rattle.wire.specs.declared.refusal.Refusal.{Refusal}
 use Rattle.wire.specs.declared.refusal.Refusal.the-variants.{OutputTooShort, PayloadTooLong}
@@ -31,17 +30,17 @@ pub record Stage (n : ℕ) (head out : List ℕ) (at : ℕ) (m : List ℕ) : Typ
 
 module _ (n : ℕ) (head out : List ℕ) where
   pub too-long : payloadLimit < n → Met n head out (Refused PayloadTooLong) out
-  unfolding headAnswer headLeft so
-  too-long h = rw (lt-leb n payloadLimit h) (refl, refl)
+  unfolding headAnswer headLeft
+  too-long h = rw (lt-ltb payloadLimit n h) (refl, refl)
 
   pub too-short : n ≤ payloadLimit → length out < 4 + n → Met n head out (Refused OutputTooShort) out
-  unfolding headAnswer headLeft so
-  too-short h k = rw (le-leb n payloadLimit h, lt-leb (4 + n) (length out) k) (refl, refl)
+  unfolding headAnswer headLeft
+  too-short h k = rw (le-ltb payloadLimit n h, lt-ltb (length out) (4 + n) k) (refl, refl)
 
   -- a stage is what the writer so far ensures
   pub met : (at : ℕ) (m : List ℕ) → Stage n head out at m → Met n head out (Written at) m
-  unfolding headAnswer headLeft so
-  met at m s = rw (le-leb n payloadLimit (s .small), le-leb (4 + n) (length out) (s .fits)) (ap Written (s .place), s .holds)
+  unfolding headAnswer headLeft
+  met at m s = rw (le-ltb payloadLimit n (s .small), le-ltb (length out) (4 + n) (s .fits)) (ap Written (s .place), s .holds)
 
 -- the three ways out of a writer
 data Way (n : ℕ) (head out : List ℕ) : Wrote → List ℕ → Type 0 where

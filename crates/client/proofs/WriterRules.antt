@@ -1,15 +1,17 @@
 -- The promises of the writers: the splitter finds what one wrote, and any reader finds in a request what was given.
+use Rattle.wire.specs.Utf8.{utf8End}
+use Rattle.wire.specs.declared.refusal.Refusal.the-variants.{Malformed, TooManyConstraints}
+use lib.Dec.{ltb, eqb}
 use Prim.Native.Nat.{ℕ, _+_, _^_, _<_}
 use mathlib.Core.Path.{_≡_, refl, ap, subst, _∙_}
 use mathlib.Core.List.{List, [], _∷_, _++_, append-nil}
-use mathlib.Core.Bool.{Bool, true, false}
+use mathlib.Core.Bool.{Bool, true, false, cond}
 use native.Mathlib.Omega.{arith}
 use lib.ListN.{length, take, drop}
 use lib.Seq.{take-at, drop-at}
 use Rattle.wire.specs.declared.Constraint.{Constraint}
 use Rattle.wire.specs.declared.Constraint.the-variants.{KeyLifetime, Confirm}
 use Rattle.wire.specs.Numbers.{Bytes, be32}
-use Rattle.wire.specs.Steps.{so}
 use Rattle.wire.specs.Write.{write, string}
 use Rattle.wire.specs.Constraints.{constraintForm, constraintForms}
 use Rattle.wire.specs.declared.refusal.Refusal.{Refusal}
@@ -19,7 +21,7 @@ use Rattle.wire.proofs.Laws.{byte-rule, string-rule}
 use Rattle.wire.proofs.FrameLaws.{splits}
 use Rattle.wire.proofs.ByteLaws.{bytes-none, bytes-cons, bytes-append, be32-bytes, bytes-string}
 use Rattle.wire.proofs.RefusalLaws.{not-granted, wrote-written, wrote-refused}
-use Rattle.client.specs.Requests.{removeSmartcardAnswer, removeSmartcardLeft, addSmartcardAnswer, addSmartcardLeft}
+use Rattle.client.specs.Requests.{removeSmartcardAnswer, removeSmartcardLeft, addSmartcardAnswer, addSmartcardLeft, addSmartcard}
 use Rattle.client.specs.Promises.{Sent, Writes, WriterRule, RemoveSmartcardRule, AddSmartcardRule, Strings, none, one, RequestReads, ListFound, LockFound, UnlockFound, SignFound, SmartcardRead}
 use Rattle.client.proofs.WriteLaws.{Met, Stage, stage, untouched}
 
@@ -55,18 +57,23 @@ pub writer-rule : WriterRule
 writer-rule p out = writes p out _ _ (refl, refl)
 
 -- a test before a writer
-tested : (p out : List ℕ) (r : Refusal) (b : Bool) (answer : Wrote) (left : List ℕ) → Writes p out answer left → Writes p out (so (Refused r) b answer) (so out b left)
-unfolding so
+tested : (p out : List ℕ) (r : Refusal) (b : Bool) (answer : Wrote) (left : List ℕ) → Writes p out answer left → Writes p out (cond b answer (Refused r)) (cond b left out)
 tested p out r true answer left w = w
 tested p out r false answer left w = record { sent = λ n e. not-granted e; untouched = λ n w e. refl }
 
 pub remove-smartcard-rule : RemoveSmartcardRule
 unfolding removeSmartcardAnswer removeSmartcardLeft
-remove-smartcard-rule id pin out = tested _ out _ _ _ _ (writer-rule _ out)
+remove-smartcard-rule id pin out = tested _ out (Malformed (utf8End id)) (eqb (utf8End id) (length id)) _ _ (writer-rule _ out)
 
 pub add-smartcard-rule : AddSmartcardRule
 unfolding addSmartcardAnswer addSmartcardLeft
-add-smartcard-rule id pin cs count out = tested _ out _ _ _ _ (tested _ out _ _ _ _ (writer-rule _ out))
+add-smartcard-rule id pin cs count out =
+    unless-many (ltb 4 count) (tested _ out (Malformed (utf8End id)) (eqb (utf8End id) (length id)) _ _ (writer-rule _ out))
+  where
+    unless-many : (b : Bool) {answer : Wrote} {left : List ℕ} → Writes (addSmartcard id pin cs count) out answer left
+        → Writes (addSmartcard id pin cs count) out (cond b (Refused TooManyConstraints) answer) (cond b out left)
+    unless-many true w = record { sent = λ n e. not-granted e; untouched = λ n w e. refl }
+    unless-many false w = w
 
 -- ## What any reader finds
 

@@ -3,12 +3,11 @@ use Prim.Native.Nat.{ℕ, _+_}
 use mathlib.Core.Path.{_≡_}
 use mathlib.Core.List.{List}
 use native.Mathlib.Omega.{arith}
-use borrow.Author.Tests.{le-leb, lt-leb, eq-eqb, ne-eqb}
+use borrow.Author.Tests.{eq-eqb, ne-eqb, le-ltb, lt-ltb}
 use lib.ListN.{length, take}
 use Rattle.wire.specs.Limits.{payloadLimit}
 use Rattle.wire.specs.Abnf.{Octets}
 use Rattle.wire.specs.Utf8.{utf8End}
-use Rattle.wire.specs.Steps.{so}
 use Rattle.wire.specs.Promises.{Longest}
 use Rattle.wire.proofs.Abnf.{utf8-rule}
 use Rattle.wire.proofs.Longest.{utf8-end-whole, utf8-end, longest-one}
@@ -18,11 +17,11 @@ use Rattle.client.specs.Promises.{WriterTable, RemoveSmartcardTable, Add
 -- ## Frames
 
 pub writer-table : WriterTable
-unfolding headAnswer so
+unfolding headAnswer
 writer-table p out = record {
-  too-long = λ h. rw (lt-leb (length p) payloadLimit h);
-  too-short = λ h k. rw (le-leb (length p) payloadLimit h, lt-leb (4 + length p) (length out) k);
-  written = λ h k. rw (le-leb (length p) payloadLimit h, le-leb (4 + length p) (length out) k);
+  too-long = λ h. rw (lt-ltb payloadLimit (length p) h);
+  too-short = λ h k. rw (le-ltb payloadLimit (length p) h, lt-ltb (length out) (4 + length p) k);
+  written = λ h k. rw (le-ltb payloadLimit (length p) h, le-ltb (length out) (4 + length p) k);
 }
 
 -- ## Smartcards
@@ -40,20 +39,20 @@ module _ (id : List ℕ) where
   longest-end n l = longest-one id (utf8End id) n (utf8-end id) l
 
 pub remove-smartcard-table : RemoveSmartcardTable
-unfolding removeSmartcardAnswer so
+unfolding removeSmartcardAnswer
 remove-smartcard-table id pin out = record {
   no-text = λ n never l. rw (ne-eqb (utf8End id) (length id) (no-text-whole id never), longest-end id n l);
   framed = λ o. rw (eq-eqb (utf8End id) (length id) (text-whole id o)) (writer-table (removeSmartcard id pin) out);
 }
 
 pub add-smartcard-table : AddSmartcardTable
-unfolding addSmartcardAnswer addSmartcard so
+unfolding addSmartcardAnswer addSmartcard
 add-smartcard-table id pin cs count out = record {
   none-given = λ z. rw (eq-eqb count 0 z);
   some-given = λ s. rw (ne-eqb count 0 (λ z. omega arith));
-  too-many = λ h. rw (lt-leb count 4 h);
-  no-text = λ n h never l. rw (le-leb count 4 h, ne-eqb (utf8End id) (length id) (no-text-whole id never), longest-end id n l);
-  plain = λ z o. rw (le-leb count 4 (omega arith), eq-eqb (utf8End id) (length id) (text-whole id o), eq-eqb count 0 z) (writer-table (plainSmartcard id pin) out);
+  too-many = λ h. rw (lt-ltb 4 count h);
+  no-text = λ n h never l. rw (le-ltb 4 count h, ne-eqb (utf8End id) (length id) (no-text-whole id never), longest-end id n l);
+  plain = λ z o. rw (le-ltb 4 count (omega arith), eq-eqb (utf8End id) (length id) (text-whole id o), eq-eqb count 0 z) (writer-table (plainSmartcard id pin) out);
   constrained = λ s h o.
-      rw (le-leb count 4 h, eq-eqb (utf8End id) (length id) (text-whole id o), ne-eqb count 0 (λ z. omega arith)) (writer-table (constrainedSmartcard id pin (take count cs)) out);
+      rw (le-ltb 4 count h, eq-eqb (utf8End id) (length id) (text-whole id o), ne-eqb count 0 (λ z. omega arith)) (writer-table (constrainedSmartcard id pin (take count cs)) out);
 }

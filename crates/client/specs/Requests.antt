@@ -1,13 +1,13 @@
 -- Requests as the draft writes them, and what a writer answers and leaves.
+use mathlib.Core.Bool.{cond}
 use Prim.Native.Nat.{ℕ, _+_}
 use mathlib.Core.List.{List, [], _∷_, _++_}
 use lib.ListN.{length, take}
-use lib.Dec.{leb, eqb}
+use lib.Dec.{eqb, ltb}
 use Rattle.wire.specs.Limits.{payloadLimit}
 use Rattle.wire.specs.declared.Constraint.{Constraint}
 use Rattle.wire.specs.Numbers.{be32}
 use Rattle.wire.specs.Utf8.{utf8End}
-use Rattle.wire.specs.Steps.{so}
 use Rattle.wire.specs.Write.{write, string}
 use Rattle.wire.specs.Constraints.{constraintForms}
 use Rattle.wire.specs.declared.refusal.Refusal.the-variants.{OutputTooShort, Malformed, PayloadTooLong, TooManyConstraints}
@@ -43,11 +43,11 @@ removeSmartcard id pin = 21 ∷ (string id ++ string pin)
 -- the room for a payload of n bytes, and its first bytes written: a payload over 262,144 bytes is refused, and an output too short for its frame
 unfoldable pub headAnswer : ℕ → List ℕ → List ℕ → Wrote
 headAnswer n head out =
-    so (Refused PayloadTooLong) (leb n payloadLimit)
-    (so (Refused OutputTooShort) (leb (4 + n) (length out)) (Written (4 + length head)))
+    cond (ltb payloadLimit n) (Refused PayloadTooLong)
+    (cond (ltb (length out) (4 + n)) (Refused OutputTooShort) (Written (4 + length head)))
 
 unfoldable pub headLeft : ℕ → List ℕ → List ℕ → List ℕ
-headLeft n head out = so out (leb n payloadLimit) (so out (leb (4 + n) (length out)) (write out 0 (be32 n ++ head)))
+headLeft n head out = cond (ltb payloadLimit n) out (cond (ltb (length out) (4 + n)) out (write out 0 (be32 n ++ head)))
 
 -- a payload written whole: the frame stands at the front of the output, or the output is untouched
 abbrev pub answered : List ℕ → List ℕ → Wrote
@@ -59,20 +59,19 @@ filled payload out = headLeft (length payload) payload out
 -- ## Smartcards: "writers 18, 12, 17, 11"
 
 unfoldable pub removeSmartcardAnswer : List ℕ → List ℕ → List ℕ → Wrote
-removeSmartcardAnswer id pin out = so (Refused (Malformed (utf8End id))) (eqb (utf8End id) (length id)) (answered (removeSmartcard id pin) out)
+removeSmartcardAnswer id pin out = cond (eqb (utf8End id) (length id)) (answered (removeSmartcard id pin) out) (Refused (Malformed (utf8End id)))
 
 unfoldable pub removeSmartcardLeft : List ℕ → List ℕ → List ℕ → List ℕ
-removeSmartcardLeft id pin out = so out (eqb (utf8End id) (length id)) (filled (removeSmartcard id pin) out)
+removeSmartcardLeft id pin out = cond (eqb (utf8End id) (length id)) (filled (removeSmartcard id pin) out) out
 
 -- "no constraints gives 20"
 unfoldable pub addSmartcard : List ℕ → List ℕ → List Constraint → ℕ → List ℕ
-addSmartcard id pin cs count = so (constrainedSmartcard id pin (take count cs)) (eqb count 0) (plainSmartcard id pin)
+addSmartcard id pin cs count = cond (eqb count 0) (plainSmartcard id pin) (constrainedSmartcard id pin (take count cs))
 
 unfoldable pub addSmartcardAnswer : List ℕ → List ℕ → List Constraint → ℕ → List ℕ → Wrote
 addSmartcardAnswer id pin cs count out =
-    so (Refused TooManyConstraints) (leb count 4)
-    (so (Refused (Malformed (utf8End id))) (eqb (utf8End id) (length id))
-    (answered (addSmartcard id pin cs count) out))
+    cond (ltb 4 count) (Refused TooManyConstraints)
+    (cond (eqb (utf8End id) (length id)) (answered (addSmartcard id pin cs count) out) (Refused (Malformed (utf8End id))))
 
 unfoldable pub addSmartcardLeft : List ℕ → List ℕ → List Constraint → ℕ → List ℕ → List ℕ
-addSmartcardLeft id pin cs count out = so out (leb count 4) (so out (eqb (utf8End id) (length id)) (filled (addSmartcard id pin cs count) out))
+addSmartcardLeft id pin cs count out = cond (ltb 4 count) out (cond (eqb (utf8End id) (length id)) (filled (addSmartcard id pin cs count) out) out)

@@ -3,7 +3,6 @@ use Prim.Native.Nat.{ℕ}
 use mathlib.Core.Path.{_≡_, refl, sym, ap, _∙_, subst}
 use mathlib.Core.List.{List}
 use Rattle.wire.specs.Limits.{storeSize}
-use Rattle.wire.specs.Steps.{so}
 use Rattle.rule.specs.declared.Hash.{Hash}
 use Rattle.rule.specs.Gateway.{Gateway}
 use Rattle.rule.specs.Calls as rule
@@ -43,7 +42,7 @@ export-promises = code-promises ByExport export-calls
 
 module _ (flags : ℕ) (hash : Hash) (rules : call oneKey (pastGate (signWith flags)) ≡ record { outcome = asksHash hash; gateway = oneKey }) where
   tells : TellsBits flags (hashBits hash)
-  unfolding code flatOf lentOf answersOf saidOf confirmedOf signedOf so
+  unfolding code flatOf lentOf answersOf saidOf confirmedOf signedOf
   tells state store signature buffer outcome after storeAfter reply means long m =
       let d : Done = callOf state store (signWith flags) (record { count = 0 }) (answersOf gateYes) signature buffer in
       let k : Step = record {

@@ -7,7 +7,6 @@ use mathlib.Core.Logic.{_⊎_, inl, inr}
 use native.Mathlib.Omega.{arith}
 use Rattle.wire.specs.declared.frame.Split.{Split}
 use Rattle.wire.specs.declared.frame.Split.the-variants.{MoreNeeded, TooLong, Frame}
-use Rattle.wire.specs.Steps.{so}
 use Rattle.wire.specs.Frames.{splitOf, framePayload}
 use Rattle.wire.proofs.Format.{part-length}
 use Rattle.wire.proofs.FrameLaws.{frame-read}
@@ -34,19 +33,19 @@ others-missing = record {
 }
 
 said-back : (x : Said) → saidOf (saidNumber x) ≡ x
-unfolding saidOf so
+unfolding saidOf
 said-back said.Missing = refl
 said-back said.No = refl
 said-back said.Yes = refl
 
 confirmed-back : (x : Confirmed) → confirmedOf (confirmedNumber x) (confirmedFor x) ≡ x
-unfolding confirmedOf so
+unfolding confirmedOf
 confirmed-back confirmed.Missing = refl
 confirmed-back (confirmed.Given n true) = refl
 confirmed-back (confirmed.Given n false) = refl
 
 signed-back : (x : Signed) → signedOf (signedNumber x) (signedFor x) ≡ x
-unfolding signedOf so
+unfolding signedOf
 signed-back signed.Missing = refl
 signed-back (signed.Nothing n) = refl
 signed-back (signed.Given n) = refl
@@ -58,7 +57,7 @@ every-answer a = rw (said-back (a .gate), said-back (a .check), confirmed-back (
 -- ## The outcome
 
 pub same-values : SameValues
-unfolding flatOf so
+unfolding flatOf
 same-values (Refused n) = refl
 same-values (Gate class) = refl
 same-values (Check from to) = refl

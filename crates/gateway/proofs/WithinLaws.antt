@@ -3,15 +3,14 @@
 use Prim.Native.Nat.{ℕ, _-_, _≤_, _<_}
 use native.Mathlib.Omega.{arith}
 use mathlib.Core.Path.{_≡_, refl, sym, ap, _∙_, subst}
-use mathlib.Core.Bool.{Bool, true, false}
+use mathlib.Core.Bool.{Bool, true, false, cond, not}
 use mathlib.Core.Logic.{⊎-elim}
 use mathlib.Core.Option.{Option, none, some}
 use mathlib.Core.List.{List}
-use borrow.Author.Tests.{leb-true}
+use borrow.Author.Tests.{ltb-false, not-false}
 use lib.ListN.{length}
 use lib.Dec.{leb, ltb, eqb}
 use Rattle.wire.specs.Limits.{storeSize, passphraseLimit, replyRoom, lastNumber}
-use Rattle.wire.specs.Steps.{so}
 use Rattle.wire.specs.Read.{cutOf, same, stringAt, numberAt}
 use Rattle.wire.proofs.Reading.{le-or-lt, cut-past, cut-back, string-read}
 use Rattle.keys.specs.Kinds.{blobOf}
@@ -22,7 +21,7 @@ use Rattle.rule.specs.Soundness.{fit, sound}
 use Rattle.rule.specs.Rule.{Question, gate, check, confirmation, signature, Answer, Landing, reply, close, SUCCESS, Plan, land, ask, fails, listing, removing, removingAll, locking, unlocking, hashOf, signed, signingData, confirming, signing, entryOf, storing, adding, gated, row, table, rule}
 use Rattle.rule.specs.Calls as rule
 use Rattle.rule.specs.Calls.{lent, lentLength, Call, refused, asks, lands, follow, served, refusalOf, refusal, call}
-use Rattle.rule.proofs.Cases.{so-cases, part-cases, number-cases, found-cases, added-cases, given-cases}
+use Rattle.rule.proofs.Cases.{cond-cases, part-cases, number-cases, found-cases, added-cases, given-cases}
 use Rattle.rule.proofs.Plans.{asks-not-lands}
 use Rattle.rule.proofs.PlaceLaws.{some-not-none}
 use Rattle.rule.proofs.SoundLaws.{fit-says, sound-rule}
@@ -78,8 +77,8 @@ module _ (payload : List ℕ) where
         same-question : (q q′ : Question) → asks q ≡ asks q′ → q ≡ q′
         same-question q q′ e = cc
 
-    so-inside : (b : Bool) (plan : Plan) → Inside plan → Inside (so (fails g) b plan)
-    so-inside b plan h = so-cases Inside b (λ _. h) (λ _. land-inside _ g)
+    cond-inside : (b : Bool) (plan : Plan) → Inside plan → Inside (cond b plan (fails g))
+    cond-inside b plan h = cond-cases Inside b (λ _. h) (λ _. land-inside _ g)
 
     signed-inside : (a : Option (List ℕ)) → Inside (signed g a)
     unfolding signed
@@ -104,7 +103,7 @@ module _ (payload : List ℕ) where
         by-key none at = land-inside _ g
         by-key (some e) at =
             let signer = data-inside (e .number) at in
-            so-cases Inside (e .confirm) (λ _. ask-inside (confirmation (e .number)) _ tt (λ granted. so-inside granted _ signer)) (λ _. signer)
+            cond-cases Inside (e .confirm) (λ _. ask-inside (confirmation (e .number)) _ tt (λ granted. cond-inside granted _ signer)) (λ _. signer)
 
     adding-inside : (constrained : Bool) → Inside (adding constrained g payload)
     unfolding adding storing
@@ -112,12 +111,12 @@ module _ (payload : List ℕ) where
         added-cases Inside (additionAt payload 1 constrained) (land-inside _ g) λ c _.
         let end = c .places .end in
         let e = entryOf g payload c (blobOf payload 1 (c .places)) in
-        so-cases Inside (fit (e .blob) (e .fields) (e .comment))
+        cond-cases Inside (fit (e .blob) (e .fields) (e .comment))
         (λ fits.
         let lengths = fit-says (e .blob) (e .fields) (e .comment) .0 fits in
-        so-inside (ltb (g .next) lastNumber) _
+        cond-inside (ltb (g .next) lastNumber) _
         (found-cases Inside (placeFor (e .blob) (g .places)) (λ _. land-inside _ g) λ i _.
-        ask-inside (check 1 end) _ (fields-within payload end (lengths .fields-some)) (λ granted. so-inside granted _ (land-inside SUCCESS (withEntry i e g)))))
+        ask-inside (check 1 end) _ (fields-within payload end (lengths .fields-some)) (λ granted. cond-inside granted _ (land-inside SUCCESS (withEntry i e g)))))
         (λ _. land-inside _ g)
 
     removing-inside : Inside (removing g payload)
@@ -130,23 +129,23 @@ module _ (payload : List ℕ) where
     unfolding locking
     locking-inside =
         part-cases Inside (stringAt payload 1) (λ _ _. land-inside _ g) λ f t k _.
-        so-inside (leb (t - f) passphraseLimit) _ (land-inside _ _)
+        cond-inside (leb (t - f) passphraseLimit) _ (land-inside _ _)
 
     unlocking-inside : Inside (unlocking g payload)
     unfolding unlocking
     unlocking-inside =
         part-cases Inside (stringAt payload 1) (λ _ _. land-inside _ g) λ f t k _.
-        so-inside (same (g .lock) (cutOf payload f t)) _ (land-inside _ _)
+        cond-inside (same (g .lock) (cutOf payload f t)) _ (land-inside _ _)
 
     row-inside : (first byte : ℕ) (fit : Bool) (class : ℕ) (body below : Plan) → Inside body → Inside below → Inside (row g first byte fit class body below)
     unfolding row gated
     row-inside first byte fit class body below h k =
-        so-cases Inside (eqb first byte) (λ _. so-inside fit _ (ask-inside (gate class) _ tt (λ granted. so-inside granted body h))) (λ _. k)
+        cond-cases Inside (eqb first byte) (λ _. cond-inside fit _ (ask-inside (gate class) _ tt (λ granted. cond-inside granted body h))) (λ _. k)
 
     rule-inside : Inside (rule g payload)
     unfolding rule table listing removingAll
     rule-inside =
-        so-inside (ltb 0 (length payload)) _
+        cond-inside (ltb 0 (length payload)) _
         (row-inside _ 11 (opened g) 1 _ _ (land-inside _ _)
         (row-inside _ 17 (opened g) 2 _ _ (adding-inside false)
         (row-inside _ 25 (opened g) 2 _ _ (adding-inside true)
@@ -167,12 +166,10 @@ record Passed (buffer : ℕ) (isSound : Bool) : Type 0 where
 passed : (buffer store : ℕ) (isSound : Bool) (payload lentBytes : ℕ) → refusalOf buffer store isSound payload lentBytes ≡ none → Passed buffer isSound
 unfolding refusalOf
 passed buffer store isSound payload lentBytes =
-    so-cases None (leb replyRoom buffer)
-    (λ room.
-    so-cases None (eqb store storeSize)
-    (λ _. so-cases None isSound (λ found _. record { room = leb-true _ _ room; sound-found = found }) (λ _. some-refusal 3))
-    (λ _. some-refusal 2))
-    (λ _. some-refusal 1)
+    cond-cases None (ltb buffer replyRoom) (λ _. some-refusal 1) λ room.
+    cond-cases None (not (eqb store storeSize)) (λ _. some-refusal 2) λ _.
+    cond-cases None (not isSound) (λ _. some-refusal 3) λ found _.
+    record { room = ltb-false _ _ room; sound-found = not-false _ found }
   where
     None : Option ℕ → Type 0
     None o = o ≡ none → Passed buffer isSound

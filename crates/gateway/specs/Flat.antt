@@ -1,12 +1,11 @@
 -- What the flat values stand for: 01's numbers and values in the place of each enum.
 use Prim.Native.Nat.{ℕ}
 use mathlib.Core.Path.{_≡_}
-use mathlib.Core.Bool.{true, false}
+use mathlib.Core.Bool.{true, false, cond}
 use mathlib.Core.List.{List}
 use lib.Dec.{eqb}
 use Rattle.wire.specs.declared.frame.Split.{Split}
 use Rattle.wire.specs.declared.frame.Split.the-variants.{MoreNeeded, TooLong, Frame}
-use Rattle.wire.specs.Steps.{so}
 use Rattle.wire.specs.Frames.{splitOf}
 use Rattle.rule.specs.declared.Millis.{Millis}
 use Rattle.table.specs.declared.State.{State}
@@ -30,7 +29,7 @@ use Rattle.gateway.specs.declared.flat.FlatSplit.{FlatSplit}
 
 -- what a number comes to, of three
 abbrev pub told : {A : Type 0} → ℕ → A → A → A → A
-told n denied granted missing = so (so missing (eqb n 2) granted) (eqb n 1) denied
+told n denied granted missing = cond (eqb n 1) denied (cond (eqb n 2) granted missing)
 
 unfoldable pub saidOf : ℕ → Said
 saidOf n = told n said.No said.Yes said.Missing

@@ -3,13 +3,12 @@
 use Prim.Native.Nat.{ℕ, _+_, _≤_}
 use mathlib.Core.Path.{_≡_}
 use mathlib.Core.Logic.{_⊎_, _≢_}
-use mathlib.Core.Bool.{Bool, true, false}
+use mathlib.Core.Bool.{Bool, true, false, cond}
 use mathlib.Core.List.{List, [], _∷_}
 use lib.ListN.{length}
 use lib.Dec.{eqb}
 use Rattle.wire.specs.Limits.{passphraseLimit, replyRoom}
 use Rattle.wire.specs.Numbers.{Bytes}
-use Rattle.wire.specs.Steps.{so}
 use Rattle.wire.specs.Read.{cutOf}
 use Rattle.wire.specs.Frames.{splitOf, splitNumber, framePayload}
 use Rattle.wire.specs.Promises.{OneToOne}
@@ -90,11 +89,10 @@ EveryAnswer = (a : Answers) → answersOf (flatAnswers a) ≡ a
 -- 01's number and values of an outcome, read from the fields that its kind uses
 abbrev pub flatValues : FlatOutcome → List ℕ
 flatValues o =
-    so (so (so (so (o .kind ∷ o .number ∷ [])
-    (eqb (o .kind) 2) (o .kind ∷ o .from ∷ o .to ∷ []))
-    (eqb (o .kind) 4) (o .kind ∷ o .number ∷ o .from ∷ o .to ∷ o .hash ∷ []))
-    (eqb (o .kind) 5) (o .kind ∷ o .to ∷ []))
-    (eqb (o .kind) 6) (o .kind ∷ [])
+    cond (eqb (o .kind) 6) (o .kind ∷ [])
+    (cond (eqb (o .kind) 5) (o .kind ∷ o .to ∷ [])
+    (cond (eqb (o .kind) 4) (o .kind ∷ o .number ∷ o .from ∷ o .to ∷ o .hash ∷ [])
+    (cond (eqb (o .kind) 2) (o .kind ∷ o .from ∷ o .to ∷ []) (o .kind ∷ o .number ∷ []))))
 
 abbrev pub SameValues : Type 0
 SameValues = (o : Outcome) → flatValues (flatOf o) ≡ outcomeValues o

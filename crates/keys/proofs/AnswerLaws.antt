@@ -11,7 +11,6 @@ use Rattle.keys.specs.declared.constraints.Lifetime.the-variants.{Foreve
 use Rattle.keys.specs.declared.constraints.Walk.{Walk}
 use Rattle.keys.specs.declared.constraints.Walk.the-variants.{Done, Duplicate, Unknown, Cut}
 use Rattle.wire.specs.Read.{same}
-use Rattle.wire.specs.Steps.{so}
 use Rattle.keys.specs.Kinds.{kindOf}
 use Rattle.keys.specs.Values.{typeOf, blobSays, secondsIn, Limits, Walked, ended, second-lifetime, unknown-byte, cut-seconds, walkSays}
 use Rattle.keys.specs.Promises.{KeyAnswersApart}
@@ -25,7 +24,7 @@ kindBack none = Kind.Other
 kindBack (some name) = kindOf name
 
 kind-again : (k : Kind) → kindBack (typeOf k) ≡ k
-unfolding kindOf same so
+unfolding kindOf same
 kind-again Kind.Ed25519 = refl
 kind-again Kind.Nistp256 = refl
 kind-again Kind.Nistp384 = refl

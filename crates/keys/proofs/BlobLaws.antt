@@ -6,7 +6,6 @@ use native.Mathlib.Omega.{arith}
 use borrow.Author.Tests.{le-leb, lt-leb}
 use lib.ListN.{length, length-append}
 use Rattle.wire.specs.Read.{cutOf}
-use Rattle.wire.specs.Steps.{so}
 use Rattle.wire.specs.Write.{write}
 use Rattle.wire.proofs.Writing.{write-behind}
 use Rattle.keys.specs.declared.kinds.Places.{Places}
@@ -23,13 +22,13 @@ module _ (s : List ℕ) (at : ℕ) (p : Places) (out a b c : List ℕ) (ea : a �
   blob-size = rw blob-parts (simp length-append)
 
   pub blob-long : length out < length a + (length b + length c) → (TooLong ≡ blobAnswer s at p out) × (out ≡ blobLeft s at p out)
-  unfolding blobAnswer blobLeft so
+  unfolding blobAnswer blobLeft
   blob-long h = rw (lt-leb (length (blobOf s at p)) (length out) (omega (arith, blob-size))) (refl, refl)
 
   pub blob-fits : (m n o : List ℕ) (x y z : ℕ) → m ≡ write out 0 a → x ≡ 0 + length a → n ≡ write m x b → y ≡ x + length b
       → o ≡ write n y c → z ≡ y + length c → length a + (length b + length c) ≤ length out
       → (Length z ≡ blobAnswer s at p out) × (o ≡ blobLeft s at p out)
-  unfolding blobAnswer blobLeft so
+  unfolding blobAnswer blobLeft
   blob-fits m n o x y z em ex en ey eo ez h =
       let q₁ = write-behind out 0 a m x b n em en ex (omega arith) in
       let q₂ = write-behind out 0 (a ++ b) n y c o q₁ eo (simp length-append (omega arith)) (simp length-append (omega arith)) in
@@ -38,7 +37,7 @@ module _ (s : List ℕ) (at : ℕ) (p : Places) (out a b c : List ℕ) (ea : a �
       (ap Length w, q₂ ∙ ap (write out 0) (append-assoc a b c ∙ sym blob-parts))
 
 pub blob-rule : BlobRule
-unfolding blobAnswer blobLeft so
+unfolding blobAnswer blobLeft
 blob-rule s at p out = record {
   fits = λ h. rw (le-leb (length (blobOf s at p)) (length out) h) (refl, refl);
   too-long = λ h. rw (lt-leb (length (blobOf s at p)) (length out) h) (refl, refl);

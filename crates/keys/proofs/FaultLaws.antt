@@ -2,7 +2,7 @@
 use Prim.Native.Nat.{ℕ, _+_, _^_, _<_}
 use mathlib.Core.Path.{_≡_, refl, sym, ap, subst, _∙_}
 use mathlib.Core.List.{List, [], _∷_, _++_}
-use mathlib.Core.Bool.{Bool, true, false}
+use mathlib.Core.Bool.{Bool, true, false, cond}
 use mathlib.Core.Logic.{_≢_, _⊎_, inl, inr}
 use mathlib.Core.Option.{some}
 use native.Mathlib.Omega.{arith}
@@ -12,8 +12,8 @@ use Rattle.wire.specs.declared.read.Part.{Part}
 use Rattle.wire.specs.declared.read.Part.the-variants.{Whole}
 use Rattle.wire.specs.Numbers.{Bytes}
 use Rattle.wire.specs.Values.{read, fault, partReads}
-use Rattle.wire.specs.Read.{cutOf, stringAt, mpintAt}
-use Rattle.wire.specs.Steps.{so, part}
+use Rattle.wire.specs.Read.{cutOf, stringAt, mpintAt, same}
+use Rattle.wire.specs.Steps.{part}
 use Rattle.wire.specs.Write.{string}
 use Rattle.wire.proofs.Laws.{mpint-fault}
 use Rattle.wire.proofs.Strings.{lies-cut, behind, found, At, inside, Reads, string-stands, string-reads, mpint-reads}
@@ -75,10 +75,9 @@ same-string {s} {at} {v} {w} a b =
     let ends : behind at v ≡ behind at w = (let e = sym (a .read) ∙ b .read in cc) in
     sym (lies-cut (inside a)) ∙ ap (cutOf s (at + 4)) ends ∙ lies-cut (inside b)
 
-not-so : (q : Bool) (x place : ℕ) (y : Places) → so (Key.Fault x) q (Key.Whole y) ≡ Key.Fault place → (q ≢ true) × (x ≡ place)
-unfolding so
-not-so true x place y e = let z : _≡_ {A = ℕ} 0 1 = cc in absurd (omega arith)
-not-so false x place y e = ((λ never. let z : _≡_ {A = ℕ} 0 1 = cc in omega arith), (cc))
+not-cond : (q : Bool) (x place : ℕ) (y : Places) → cond q (Key.Whole y) (Key.Fault x) ≡ Key.Fault place → (q ≢ true) × (x ≡ place)
+not-cond true x place y e = let z : _≡_ {A = ℕ} 0 1 = cc in absurd (omega arith)
+not-cond false x place y e = ((λ never. let z : _≡_ {A = ℕ} 0 1 = cc in omega arith), (cc))
 
 pair-size : (a v : List ℕ) → length a ≡ 32 → Asked Kind.Ed25519 (a ∷ []) v → length v ≡ 64
 pair-size a v size (seed, seed-size, is) = rw is (simp length-append (omega arith))
@@ -90,7 +89,7 @@ module _ {s : List ℕ} (bytes : Bytes s) (small : length s < 2 ^ 32) (at place 
       field bytes small Kind.Ed25519 [] at (sized-reads bytes 32) (λ v h. h) (λ _. at) _ (λ _ _. refl) e λ a a-at a-size e.
       goes-on bytes small Kind.Ed25519 [] at a a-at a-size
       (field bytes small Kind.Ed25519 (a ∷ []) (behind at a) (sized-reads bytes 64) (λ v. pair-size a v a-size) (λ _. behind at a) _ (λ _ _. refl) e λ x x-at x-size e.
-      let (differs, is) = not-so _ _ place _ e in
+      let (differs, is) = not-cond (same (cutOf s (behind at a + 4 + 32) (behind (behind at a) x)) (cutOf s (at + 4) (behind at a))) (behind at a) place _ e in
       stops-here bytes small Kind.Ed25519 (a ∷ []) (behind at a)
       (λ v v-at (seed, size, shape).
       differs (rw (lies-cut (inside a-at)) (pair-rule a x a-size x-at .1 (seed, size, same-string x-at v-at ∙ shape) .1)))

@@ -2,7 +2,7 @@
 use Prim.Native.Nat.{ℕ, _+_, _^_, _<_}
 use mathlib.Core.Path.{_≡_, refl, sym, ap, subst, _∙_}
 use mathlib.Core.List.{List, [], _∷_, _++_, append-nil, append-assoc}
-use mathlib.Core.Bool.{Bool, true, false}
+use mathlib.Core.Bool.{Bool, true, false, cond}
 use mathlib.Core.Logic.{_↔_, _≢_}
 use mathlib.Core.Option.{some}
 use native.Mathlib.Omega.{arith}
@@ -13,7 +13,7 @@ use Rattle.wire.specs.declared.read.Part.the-variants.{Whole}
 use Rattle.wire.specs.Numbers.{Bytes}
 use Rattle.wire.specs.Texts.{bytes}
 use Rattle.wire.specs.Read.{cutOf, same}
-use Rattle.wire.specs.Steps.{so, part}
+use Rattle.wire.specs.Steps.{part}
 use Rattle.wire.specs.Write.{string}
 use Rattle.wire.specs.Values.{read}
 use Rattle.wire.proofs.Reading.{same-true, same-refl}
@@ -40,10 +40,9 @@ took {r = r} {C = C} reads z F p e then = go r refl
     go (Whole f t k) h = let (v, a, passed) = reads .taken f t k h in then v a passed (rw (reads .takes a passed) at e)
     go (Part.Fault i) h = let x : _≡_ {A = ℕ} 0 1 = (let g = rw h at e in cc) in absurd (omega arith)
 
-took-so : (q : Bool) (x : ℕ) (y p : Places) → so (Key.Fault x) q (Key.Whole y) ≡ Key.Whole p → (q ≡ true) × (y ≡ p)
-unfolding so
-took-so true x y p e = (refl, cc)
-took-so false x y p e = let z : _≡_ {A = ℕ} 0 1 = cc in absurd (omega arith)
+took-cond : (q : Bool) (x : ℕ) (y p : Places) → cond q (Key.Whole y) (Key.Fault x) ≡ Key.Whole p → (q ≡ true) × (y ≡ p)
+took-cond true x y p e = (refl, cc)
+took-cond false x y p e = let z : _≡_ {A = ℕ} 0 1 = cc in absurd (omega arith)
 
 same-places : {y p : Places} → Key.Whole y ≡ Key.Whole p → y ≡ p
 same-places e = cc
@@ -133,12 +132,13 @@ module _ {s : List ℕ} (bytes-of : Bytes s) {at : ℕ} where
   ed25519-in p type-at e =
       took (sized-reads bytes-of 32) _ _ p e λ a a-at a-size e.
       took (sized-reads bytes-of 64) _ _ p e λ x x-at x-size e.
-      let q = took-so _ _ _ p e in
+      let front = behind (behind at (bytes "ssh-ed25519")) a in
+      let q = took-cond (same (cutOf s (front + 4 + 32) (behind front x)) (cutOf s (behind at (bytes "ssh-ed25519") + 4) front)) front (plain front (behind front x)) p e in
       let w = pair-rule a x a-size x-at .0 (x-size, rw (lies-cut (inside a-at)) at (q .0)) in
       rw (← q .1) (keyed (ed25519-laid (type-at .lies) (a-at .lies) (x-at .lies)) (rw (w .2) (ed25519-key a (w .0) a-size (w .1))))
 
   ed25519-out : {fields blob rest : List ℕ} → Ed25519 fields blob → Stand s at fields rest → (p : Places) × KeyFound s at fields blob p
-  unfolding kindOf same so part ed25519At
+  unfolding kindOf same part ed25519At
   ed25519-out (ed25519-key a seed a-size seed-size) r =
       first bytes-of (bytes "ssh-ed25519") _ r λ type-at r.
       first bytes-of a _ r λ a-at r.
@@ -203,7 +203,7 @@ module _ {s : List ℕ} (bytes-of : Bytes s) {at : ℕ} where
       (rsa-key n e d iqmp p q n-mpint e-mpint d-mpint iqmp-mpint p-mpint q-mpint))
 
   rsa-out : {fields blob rest : List ℕ} → Rsa fields blob → Stand s at fields rest → (p : Places) × KeyFound s at fields blob p
-  unfolding kindOf same so part rsaAt rsaSecretsAt
+  unfolding kindOf same part rsaAt rsaSecretsAt
   rsa-out (rsa-key n e d iqmp p q n-mpint e-mpint d-mpint iqmp-mpint p-mpint q-mpint) r =
       first bytes-of (bytes "ssh-rsa") _ r λ type-at r.
       first bytes-of n _ r λ n-at r.
@@ -233,11 +233,10 @@ Named Kind.Nistp521 v = v ≡ ecdsaType nistp521
 Named Kind.Rsa v = v ≡ bytes "ssh-rsa"
 Named Kind.Other v = Unit {0}
 
-chosen : (v name : List ℕ) (z k : Kind) → Named z v → (v ≡ name → Named k v) → Named (so z (same v name) k) v
-unfolding so
+chosen : (v name : List ℕ) (z k : Kind) → Named z v → (v ≡ name → Named k v) → Named (cond (same v name) k z) v
 chosen v name z k h g = go (same v name) refl
   where
-    go : (b : Bool) → same v name ≡ b → Named (so z b k) v
+    go : (b : Bool) → same v name ≡ b → Named (cond b k z) v
     go true e = g (same-true v name e)
     go false e = h
 
@@ -269,7 +268,7 @@ only-keys s at p bytes-of e =
     (fields, blob, form, laid .lies .shape, record { read-so = e; end = laid .lies .end; public = laid .public })
 
 every-form : {s : List ℕ} {at : ℕ} {fields blob rest : List ℕ} → Bytes s → KeyFields fields blob → Stand s at fields rest → (p : Places) × KeyFound s at fields blob p
-unfolding kindOf same so
+unfolding kindOf same
 every-form bytes-of (as-ed25519 k) = ed25519-out bytes-of k
 every-form bytes-of (as-nistp256 k) = ecdsa-out bytes-of nistp256 (λ next. refl) k
 every-form bytes-of (as-nistp384 k) = ecdsa-out bytes-of nistp384 (λ next. refl) k
@@ -315,7 +314,7 @@ kind-in Kind.Rsa v n e = ap some (sym e)
 kind-in Kind.Other v n e = absurd (n refl)
 
 pub kind-out : (k : Kind) (v : List ℕ) → typeOf k ≡ some v → kindOf v ≡ k
-unfolding kindOf same so
+unfolding kindOf same
 kind-out Kind.Ed25519 v e = let h : v ≡ bytes "ssh-ed25519" = cc in rw h
 kind-out Kind.Nistp256 v e = let h : v ≡ bytes "ecdsa-sha2-nistp256" = cc in rw h
 kind-out Kind.Nistp384 v e = let h : v ≡ bytes "ecdsa-sha2-nistp384" = cc in rw h

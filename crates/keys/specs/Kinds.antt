@@ -1,4 +1,5 @@
 -- The key fields of each kind, as a reader goes through them, and their blob.
+use mathlib.Core.Bool.{cond}
 use Prim.Native.Nat.{ℕ, _+_}
 use mathlib.Core.List.{List, _++_}
 use lib.ListN.{length}
@@ -7,7 +8,7 @@ use Rattle.wire.specs.declared.read.Part.{Part}
 use Rattle.wire.specs.declared.read.Part.the-variants.{Whole}
 use Rattle.wire.specs.Texts.{bytes}
 use Rattle.wire.specs.Read.{cutOf, same, stringAt, mpintAt}
-use Rattle.wire.specs.Steps.{so, part}
+use Rattle.wire.specs.Steps.{part}
 use Rattle.wire.specs.Write.{write}
 use Rattle.keys.specs.declared.kinds.Kind.{Kind}
 use Rattle.keys.specs.declared.kinds.Places.{Places}
@@ -17,19 +18,18 @@ use Rattle.keys.specs.Fields.{sizedAt, namedAt, pointAt, scalarAt}
 
 unfoldable pub kindOf : List ℕ → Kind
 kindOf name =
-    so (so (so (so (so Kind.Other
-    (same name (bytes "ssh-rsa")) Kind.Rsa)
-    (same name (bytes "ecdsa-sha2-nistp521")) Kind.Nistp521)
-    (same name (bytes "ecdsa-sha2-nistp384")) Kind.Nistp384)
-    (same name (bytes "ecdsa-sha2-nistp256")) Kind.Nistp256)
-    (same name (bytes "ssh-ed25519")) Kind.Ed25519
+    cond (same name (bytes "ssh-ed25519")) Kind.Ed25519
+    (cond (same name (bytes "ecdsa-sha2-nistp256")) Kind.Nistp256
+    (cond (same name (bytes "ecdsa-sha2-nistp384")) Kind.Nistp384
+    (cond (same name (bytes "ecdsa-sha2-nistp521")) Kind.Nistp521
+    (cond (same name (bytes "ssh-rsa")) Kind.Rsa Kind.Other))))
 
 -- behind the type: A of 32 bytes, and 64 bytes whose last 32 are A
 unfoldable pub ed25519At : List ℕ → ℕ → Key
 ed25519At s at =
     part (λ _. Key.Fault at) (sizedAt s at 32) λ af ae a.
     part (λ _. Key.Fault ae) (sizedAt s (a .at) 64) λ pf pe b.
-    so (Key.Fault ae) (same (cutOf s (pf + 32) pe) (cutOf s af ae)) (Key.Whole (record { front = ae; swap = ae; back = ae; end = pe }))
+    cond (same (cutOf s (pf + 32) pe) (cutOf s af ae)) (Key.Whole (record { front = ae; swap = ae; back = ae; end = pe })) (Key.Fault ae)
 
 -- behind the type: the curve, Q and d
 unfoldable pub ecdsaAt : List ℕ → ℕ → List ℕ → ℕ → ℕ → Key
@@ -73,7 +73,7 @@ blobOf s at p = cutOf s at (p .front) ++ (cutOf s (p .swap) (p .back) ++ cutOf s
 
 -- the blob stands at the front of an output that it fits in; else the output is untouched
 unfoldable pub blobAnswer : List ℕ → ℕ → Places → List ℕ → Blob
-blobAnswer s at p out = so Blob.TooLong (leb (length (blobOf s at p)) (length out)) (Blob.Length (length (blobOf s at p)))
+blobAnswer s at p out = cond (leb (length (blobOf s at p)) (length out)) (Blob.Length (length (blobOf s at p))) Blob.TooLong
 
 unfoldable pub blobLeft : List ℕ → ℕ → Places → List ℕ → List ℕ
-blobLeft s at p out = so out (leb (length (blobOf s at p)) (length out)) (write out 0 (blobOf s at p))
+blobLeft s at p out = cond (leb (length (blobOf s at p)) (length out)) (write out 0 (blobOf s at p)) out

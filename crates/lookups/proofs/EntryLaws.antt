@@ -1,4 +1,5 @@
 -- What a sound state keeps of a held key, entry by entry.
+use mathlib.Core.Bool.{cond}
 use Prim.Native.Nat.{ℕ, _+_, _*_, _≤_, _<_}
 use mathlib.Core.Path.{_≡_, refl, sym, ap, _∙_}
 use mathlib.Core.Option.{none, some}
@@ -6,7 +7,6 @@ use mathlib.Core.List.{List}
 use native.Mathlib.Omega.{arith}
 use lib.ListN.{getD}
 use Rattle.wire.specs.Limits.{placeSize, blobLimit, fieldsLimit, fieldsAt}
-use Rattle.wire.specs.Steps.{so}
 use Rattle.keys.specs.declared.constraints.Lifetime.{Lifetime}
 use Rattle.keys.specs.declared.constraints.Lifetime.the-variants.{Forever, For}
 use Rattle.rule.specs.Gateway.{Entry as Key}
@@ -57,8 +57,7 @@ module _ (s : State) (x : List ℕ) (S : Sound s x) (i : ℕ) (h : i < 8) where
 -- ## What is told of it
 
 -- a lifetime is read from what is kept of it
-lifetime-is : (l : Lifetime) → so Forever (isSet (limitedFlag l)) (For (keptSeconds l)) ≡ l
-unfolding so
+lifetime-is : (l : Lifetime) → cond (isSet (limitedFlag l)) (For (keptSeconds l)) Forever ≡ l
 lifetime-is Forever = refl
 lifetime-is (For seconds) = refl
 

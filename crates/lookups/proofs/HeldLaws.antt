@@ -14,7 +14,6 @@ use lib.Seq.{take-take, drop-drop, length-take-le}
 use Rattle.wire.specs.declared.Seconds.{Seconds}
 use Rattle.wire.specs.Limits.{placeSize, storeSize, blobLimit, fieldsLimit, fieldsAt, commentLimit, passphraseLimit}
 use Rattle.wire.specs.Read.{cutOf}
-use Rattle.wire.specs.Steps.{so}
 use Rattle.wire.proofs.Reading.{le-or-lt, cut-there}
 use Rattle.keys.specs.declared.constraints.Lifetime.{Lifetime}
 use Rattle.keys.specs.declared.constraints.Lifetime.the-variants.{Forever, For}
@@ -24,7 +23,7 @@ use Rattle.rule.specs.Gateway.{Entry as Key, Place, Gateway, millisOf, dueAt, l
 use Rattle.rule.specs.Soundness as rule
 use Rattle.rule.specs.Soundness.{Distinct, SoundEntry}
 use Rattle.rule.specs.Words.{HeldAt}
-use Rattle.rule.proofs.Cases.{true-not-false, so-cases}
+use Rattle.rule.proofs.Cases.{true-not-false, cond-cases}
 use Rattle.rule.proofs.PlaceLaws.{some-not-none, same-entry, Holds, every-at, distinct-at, getD-map, First, seek-first, seek-none}
 use Rattle.table.specs.declared.Comment.{Comment}
 use Rattle.table.specs.declared.Entry.{Entry}
@@ -171,11 +170,11 @@ key-rule s x i k S there = subst (Tells x k) (sym (told-held s x i k S there)) (
 -- ## What is left
 
 due-gone : (clock : ℕ) (k : Key) → dueAt clock (k .reading) (k .lifetime) ≡ true → lasting clock (some k) ≡ none
-unfolding lasting so
+unfolding lasting
 due-gone clock k t = rw t
 
 undue-stays : (clock : ℕ) (k : Key) → dueAt clock (k .reading) (k .lifetime) ≡ false → lasting clock (some k) ≡ some k
-unfolding lasting so
+unfolding lasting
 undue-stays clock k t = rw t
 
 module _ (g : Gateway) (i : ℕ) (k : Key) (there : HeldAt g i k) (past : k .reading ≤ g .clock) where

@@ -9,10 +9,9 @@ use native.Mathlib.Omega.{arith}
 use borrow.Author.Tests.{leb-true, leb-false, eqb-true, eqb-false, ltb-true, ltb-false}
 use lib.Dec.{leb, ltb, eqb}
 use lib.ListN.{getD}
-use Rattle.wire.specs.Steps.{so}
 use Rattle.wire.proofs.Reading.{le-or-lt}
 use Rattle.rule.specs.Gateway.{Entry as Key, Place, Gateway}
-use Rattle.rule.proofs.Cases.{true-not-false, so-cases}
+use Rattle.rule.proofs.Cases.{true-not-false, cond-cases}
 use Rattle.rule.proofs.PlaceLaws.{some-not-none, same-entry, Holds}
 use Rattle.table.specs.declared.State.{State}
 use Rattle.table.specs.Meaning.{numberIn, gatewayOf}
@@ -100,14 +99,14 @@ module _ (after : ℕ) (p : Place) (ps : List Place) where
   nearer-least : (m : ℕ) → Least after ps m → Least after (p ∷ ps) (nearer after n m)
   unfolding nearer
   nearer-least m l =
-      so-cases (Least after (p ∷ ps)) (leb n after)
+      cond-cases (Least after (p ∷ ps)) (leb n after)
       (λ t. passed m (leb-true n after t) l)
       (λ t.
       let over = leb-false n after t in
-      so-cases (Least after (p ∷ ps)) (eqb m 0)
+      cond-cases (Least after (p ∷ ps)) (eqb m 0)
       (λ u. taken m over (inl (eqb-true m 0 u)) l)
       (λ u.
-      so-cases (Least after (p ∷ ps)) (ltb n m)
+      cond-cases (Least after (p ∷ ps)) (ltb n m)
       (λ v. taken m over (inr (ltb-true n m v)) l)
       (λ v. kept m (eqb-false m 0 u) (ltb-false n m v) l)))
 

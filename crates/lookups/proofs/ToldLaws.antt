@@ -8,7 +8,6 @@ use native.Mathlib.Omega.{arith}
 use borrow.Author.Tests.{eqb-true, not-true, not-false}
 use lib.ListN.{length, getD}
 use Rattle.wire.specs.Limits.{passphraseLimit}
-use Rattle.wire.specs.Steps.{so}
 use Rattle.rule.specs.declared.Found.{Found}
 use Rattle.rule.specs.declared.Found.the-variants.{At, Nothing}
 use Rattle.rule.specs.Gateway.{Entry as Key, Place, seek, found}
@@ -42,16 +41,16 @@ number-there n (some k) t = record { key = k; there = refl; is = eqb-true (k .nu
 
 module _ (s : State) (x : List ℕ) (n : ℕ) where
   pub key-unsound : soundState s x ≡ false → nothing ≡ keyTold s x n
-  unfolding keyTold so
+  unfolding keyTold
   key-unsound e = rw e
 
   module _ (sound : soundState s x ≡ true) where
     pub key-absent : seek (hasNumber n) 0 (gatewayOf s x .places) ≡ Nothing → nothing ≡ keyTold s x n
-    unfolding keyTold so found
+    unfolding keyTold found
     key-absent e = rw (sound, e)
 
     pub key-found : (i : ℕ) (k : Key) → seek (hasNumber n) 0 (gatewayOf s x .places) ≡ At i → HeldAt (gatewayOf s x) i k → toldOf (s .clock .count) i k ≡ keyTold s x n
-    unfolding keyTold so found
+    unfolding keyTold found
     key-found i k e there = rw (sound, e, there)
 
   pub numbered-at : (i : ℕ) → seek (hasNumber n) 0 (gatewayOf s x .places) ≡ At i → Numbered n (getD (gatewayOf s x .places) i none)
@@ -68,9 +67,9 @@ module _ (s : State) (x : List ℕ) (n : ℕ) where
 
 module _ (s : State) (x : List ℕ) (after : ℕ) where
   pub next-unsound : soundState s x ≡ false → 0 ≡ nextTold s x after
-  unfolding nextTold so
+  unfolding nextTold
   next-unsound e = rw e
 
   pub next-sound : soundState s x ≡ true → leastAbove after (gatewayOf s x .places) ≡ nextTold s x after
-  unfolding nextTold so
+  unfolding nextTold
   next-sound e = rw e

@@ -1,12 +1,11 @@
 -- What is told of the held keys, over what state and store mean.
 use Prim.Native.Nat.{ℕ, _+_, _-_, _*_}
-use mathlib.Core.Bool.{Bool, false}
+use mathlib.Core.Bool.{Bool, false, cond}
 use mathlib.Core.Option.{none, some}
 use mathlib.Core.List.{List, [], _∷_}
 use lib.ListN.{length, getD}
 use lib.Dec.{leb, ltb, eqb}
 use Rattle.wire.specs.Limits.{placeSize, fieldsAt}
-use Rattle.wire.specs.Steps.{so}
 use Rattle.keys.specs.declared.constraints.Lifetime.{Lifetime}
 use Rattle.keys.specs.declared.constraints.Lifetime.the-variants.{Forever, For}
 use Rattle.rule.specs.Gateway.{Entry as Key, Place, Gateway, millisOf, seek, found}
@@ -60,19 +59,20 @@ toldIn clock i (some k) = toldOf clock i k
 
 unfoldable pub keyTold : State → List ℕ → ℕ → HeldKey
 keyTold s x n =
-    so nothing (soundState s x)
+    cond (soundState s x)
     (found nothing (seek (hasNumber n) 0 (gatewayOf s x .places)) λ i.
     toldIn (s .clock .count) i (getD (gatewayOf s x .places) i none))
+    nothing
 
 -- ## The next number
 
 -- of a number and the best one so far the lower that is above `after`; 0 is none
 unfoldable pub nearer : ℕ → ℕ → ℕ → ℕ
-nearer after n best = so (so (so best (ltb n best) n) (eqb best 0) n) (leb n after) best
+nearer after n best = cond (leb n after) best (cond (eqb best 0) n (cond (ltb n best) n best))
 
 unfoldable pub leastAbove : ℕ → List Place → ℕ
 leastAbove after [] = 0
 leastAbove after (p ∷ ps) = nearer after (numberIn p) (leastAbove after ps)
 
 unfoldable pub nextTold : State → List ℕ → ℕ → ℕ
-nextTold s x after = so 0 (soundState s x) (leastAbove after (gatewayOf s x .places))
+nextTold s x after = cond (soundState s x) (leastAbove after (gatewayOf s x .places)) 0

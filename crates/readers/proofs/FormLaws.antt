@@ -10,8 +10,7 @@ use lib.Dec.{leb}
 use lib.ListN.{length, take, drop, length-append, length-drop, take-append-drop}
 use lib.Seq.{take-all, drop-length, drop-at}
 use Rattle.wire.specs.Read.{cutOf, same}
-use Rattle.wire.specs.Steps.{so}
-use Rattle.wire.proofs.Cases.{so-cases}
+use Rattle.wire.proofs.Cases.{cond-cases}
 use Rattle.wire.proofs.Reading.{le-or-lt, cut-there, cut-past, same-rule}
 use Rattle.wire.proofs.Format.{part-shape}
 use Rattle.wire.proofs.Strings.{Lies, lies-at, lies-cut}
@@ -27,9 +26,9 @@ end-lies w v = record {
 }
 
 pub ends-rule : (v end : List ℕ) → (endsIn v end ≡ true) ↔ ((w : List ℕ) × (v ≡ w ++ end))
-unfolding endsIn so
+unfolding endsIn
 ends-rule v end = (
-  so-cases (λ (b : Bool). b ≡ true → (w : List ℕ) × (v ≡ w ++ end)) (leb (length end) (length v))
+  cond-cases (λ (b : Bool). b ≡ true → (w : List ℕ) × (v ≡ w ++ end)) (leb (length end) (length v))
       (λ (h : leb (length end) (length v) ≡ true) (e : same (cutOf v (length v - length end) (length v)) end ≡ true).
       let n = leb-true (length end) (length v) h in
       let f = length v - length end in

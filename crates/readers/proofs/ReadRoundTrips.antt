@@ -10,7 +10,7 @@ use lib.ListN.{length, getD, take, drop, length-append}
 use Rattle.wire.specs.Numbers.{Bytes, be32, beAt}
 use Rattle.wire.specs.Abnf.{Octets}
 use Rattle.wire.specs.Read.{numberAt, stringAt, textAt}
-use Rattle.wire.specs.Steps.{so, number, part}
+use Rattle.wire.specs.Steps.{number, part}
 use Rattle.wire.specs.Write.{string}
 use Rattle.wire.specs.declared.refusal.Refusal.the-variants.{Malformed}
 use Rattle.wire.specs.Refusals.{grants}
@@ -162,7 +162,7 @@ pub some-there : (b : ℕ) (p : List ℕ) → ltb 0 (length (b ∷ p)) ≡ true
 some-there b p = lt-ltb 0 (length (b ∷ p)) (omega arith)
 
 counted-lists : (p : List ℕ) (n : ℕ) → Bytes p → listingSays (countOf (12 ∷ p)) ≡ grants n → (blobs : List (List ℕ)) × ListForm p blobs × (length blobs ≡ n)
-unfolding countOf so
+unfolding countOf
 counted-lists p n small =
     let s : List ℕ = 12 ∷ p in
     let P : Listing → Type 0 = λ r. listingSays r ≡ grants n → (blobs : List (List ℕ)) × ListForm p blobs × (length blobs ≡ n) in
@@ -185,7 +185,7 @@ counted-lists p n small =
     ))
 
 pub lists-counted : (p : List ℕ) (blobs : List (List ℕ)) → Bytes p → ListForm p blobs → countOf (12 ∷ p) ≡ Listing.Count (length blobs)
-unfolding countOf itemsAt so number reach
+unfolding countOf itemsAt number reach
 lists-counted p blobs small l =
     let s : List ℕ = 12 ∷ p in
     let (e, r) = number-form s 1 (length blobs) (l .forms ++ l .rest) (twelve p small) (l .few) .0 (l .shape) in
@@ -193,7 +193,7 @@ lists-counted p blobs small l =
 
 -- a list that is malformed, by where
 pub lists-fault : (p : List ℕ) (place : ℕ) → Bytes p → ListFault p place → countOf (12 ∷ p) ≡ Listing.Refused (Malformed place)
-unfolding countOf so number reach
+unfolding countOf number reach
 lists-fault p place small (count-cut q h) = rw (some-there 12 q, ← number-cut (12 ∷ q) 1 (omega arith))
 lists-fault p place small (item-cut {blobs} {forms} {rest} n at l few whole f) =
     let q : List ℕ = be32 n ++ (forms ++ rest) in
@@ -208,7 +208,7 @@ pub count-rule : CountRule
 count-rule p n small = (counted-lists p n small, λ (blobs, l, e). rw (← e) (ap listingSays (lists-counted p blobs small l)))
 
 pub item-rule : ItemRule
-unfolding blobOfItem itemOf counted so reach itemAt part
+unfolding blobOfItem itemOf counted reach itemAt part
 item-rule p blobs small l i h =
     let s : List ℕ = 12 ∷ p in
     let (e, r) = number-form s 1 (length blobs) (l .forms ++ l .rest) (twelve p small) (l .few) .0 (l .shape) in

@@ -6,7 +6,7 @@ use mathlib.Core.Bool.{Bool}
 use native.Mathlib.Omega.{arith}
 use Rattle.wire.specs.Read.{same}
 use Rattle.wire.specs.declared.refusal.Refusal.{Refusal}
-use Rattle.wire.proofs.Steps.{so-yes, so-no, number-fault, number-value, part-fault, part-whole, plain, some-yes, some-no, eqb-yes, eqb-no, all as wire-all}
+use Rattle.wire.proofs.Steps.{cond-yes, cond-no, number-fault, number-value, part-fault, part-whole, plain, some-yes, some-no, eqb-yes, eqb-no, all as wire-all}
 use Rattle.readers.specs.declared.Reach.{Reach}
 use Rattle.readers.specs.declared.Reach.the-variants.{End, Fault}
 use Rattle.readers.specs.declared.identities.Listing.{Listing}
@@ -49,7 +49,7 @@ pub signature-by : (r : Signature) (x X : List ℕ) (at hash : ℕ) → r ≡ si
 signature-by r x X at hash e f = cc
 
 -- for a function with many tests: a larger set breaks off there
-pub ruleset reaches = (so-yes, so-no, number-fault, number-value, part-fault, part-whole, plain, some-yes, some-no, eqb-yes, eqb-no, reach-end, reach-fault, signature-by)
+pub ruleset reaches = (cond-yes, cond-no, number-fault, number-value, part-fault, part-whole, plain, some-yes, some-no, eqb-yes, eqb-no, reach-end, reach-fault, signature-by)
 
 pub ruleset all = (wire-all, reach-end, reach-fault, counted-count, counted-refused, same-by, ends-by, blob-by)
 

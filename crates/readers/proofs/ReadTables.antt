@@ -9,13 +9,13 @@ use lib.Dec.{ltb, eqb}
 use lib.ListN.{length, getD}
 use Rattle.wire.specs.Numbers.{Bytes, be32}
 use Rattle.wire.specs.Read.{numberAt}
-use Rattle.wire.specs.Steps.{so, part}
+use Rattle.wire.specs.Steps.{part}
 use Rattle.wire.specs.declared.refusal.Refusal.{Refusal}
 use Rattle.wire.specs.Refusals.{Where, no-place, at-place, refusalNumber, refusalPlace, grants, refuses}
 use Rattle.wire.proofs.Reading.{from-there}
 use Rattle.wire.proofs.Format.{number-form}
 use Rattle.wire.proofs.Strings.{lies-cut, behind, inside}
-use Rattle.wire.proofs.Cases.{so-cases, number-cases}
+use Rattle.wire.proofs.Cases.{cond-cases, number-cases}
 use Rattle.wire.proofs.RefusalLaws.{granted, not-granted, Why, why, refusals-apart}
 use Rattle.readers.specs.declared.identities.Listing.{Listing}
 use Rattle.readers.specs.declared.identities.Item.{Item}
@@ -64,15 +64,15 @@ count-or-fault : (payload : List ℕ)
 unfolding countOf
 count-or-fault payload =
     let P : Listing → Type 0 = λ r. ((n : ℕ) × (listingSays r ≡ grants n)) ⊎ ((place : ℕ) × (listingSays r ≡ refuses 12 (at-place place))) in
-    so-cases P (ltb 0 (length payload))
-    (λ _. so-cases P (eqb (getD payload 0 0) 12)
+    cond-cases P (ltb 0 (length payload))
+    (λ _. cond-cases P (eqb (getD payload 0 0) 12)
     (λ _. number-cases P (numberAt payload 1) (λ _ _. inr (_, refl)) λ n k _.
     reach-cases P (itemsAt n payload (k .at)) (λ at. inr (at, refl)) λ _ _. inl (n, refl))
     (λ _. inl (0, refl)))
     (λ _. inl (0, refl))
 
 other-type : (payload : List ℕ) → ((p : List ℕ) → payload ≡ 12 ∷ p → ⊥) → listingSays (countOf payload) ≡ grants 0
-unfolding countOf so
+unfolding countOf
 other-type [] never = refl
 other-type (b ∷ p) never = rw (some-there b p, ne-eqb b 12 (λ e. never p (ap (λ (c : ℕ). c ∷ p) e)))
 
@@ -96,12 +96,12 @@ unfolding itemOf counted
 item-refused payload i n w e = let (r, q, y) = listing-refused (countOf payload) n w e in rw q (ap₂ refuses (y .number) (y .place))
 
 item-beyond : (payload : List ℕ) (i n : ℕ) → listingSays (countOf payload) ≡ grants n → n ≤ i → itemSays (itemOf payload i) ≡ refuses 16 no-place
-unfolding itemOf counted so
+unfolding itemOf counted
 item-beyond payload i n e h = rw (listing-count (countOf payload) n e, le-ltb i n h)
 
 item-there : (p : List ℕ) (blobs : List (List ℕ)) (i : ℕ) → Bytes (12 ∷ p) → ListForm p blobs → i < length blobs
     → (from : ℕ) × ItemLies p blobs i from × HandsOut (12 ∷ p) i (getD blobs i []) from
-unfolding itemOf counted so reach itemAt part blobOfItem blobFrom
+unfolding itemOf counted reach itemAt part blobOfItem blobFrom
 item-there p blobs i small l h =
     let s : List ℕ = 12 ∷ p in
     let (e, r) = number-form s 1 (length blobs) (l .forms ++ l .rest) small (l .few) .0 (l .shape) in

@@ -14,14 +14,14 @@ use Rattle.wire.specs.declared.read.Part.{Part}
 use Rattle.wire.specs.Numbers.{Bytes}
 use Rattle.wire.specs.Texts.{bytes}
 use Rattle.wire.specs.Read.{cutOf, same, byteAt, numberAt, stringAt, textAt}
-use Rattle.wire.specs.Steps.{so, part}
+use Rattle.wire.specs.Steps.{part}
 use Rattle.wire.specs.Write.{write, string}
 use Rattle.wire.specs.declared.refusal.Refusal.{Refusal}
 use Rattle.wire.specs.declared.refusal.Refusal.the-variants.{OutputTooShort, Malformed, UnfitType}
 use Rattle.wire.specs.declared.refusal.Wrote.{Wrote}
 use Rattle.wire.proofs.Reading.{le-or-lt, cut-past, cut-back, string-read, number-read}
 use Rattle.wire.proofs.Format.{be-small, part-length}
-use Rattle.wire.proofs.Cases.{so-cases, part-cases, number-cases, byte-cases}
+use Rattle.wire.proofs.Cases.{cond-cases, part-cases, number-cases, byte-cases}
 use Rattle.readers.specs.declared.Reach.{Reach}
 use Rattle.readers.specs.declared.Reach.the-variants.{End, Fault}
 use Rattle.readers.specs.declared.signature.Signature.{Signature}
@@ -34,19 +34,19 @@ use Rattle.readers.proofs.ReadSteps.{reach-cases, fault}
 
 module _ (hash : ℕ) (t : List ℕ) where
   pub fits-any : hash ≡ 0 → true ≡ fits hash t
-  unfolding fits so
+  unfolding fits
   fits-any e = rw e
 
   pub fits-256 : (b : Bool) → hash ≡ 2 → b ≡ same t (bytes "rsa-sha2-256") → b ≡ fits hash t
-  unfolding fits so
+  unfolding fits
   fits-256 b e f = rw e f
 
   pub fits-512 : (b : Bool) → hash ≡ 4 → b ≡ same t (bytes "rsa-sha2-512") → b ≡ fits hash t
-  unfolding fits so
+  unfolding fits
   fits-512 b e f = rw e f
 
   pub fits-none : (hash ≡ 0 → ⊥) → (hash ≡ 2 → ⊥) → (hash ≡ 4 → ⊥) → false ≡ fits hash t
-  unfolding fits so
+  unfolding fits
   fits-none p q r = rw (ne-eqb _ _ p, ne-eqb _ _ q, ne-eqb _ _ r)
 
 -- ## The ways out of a signature at a place, by what its calls answered
@@ -58,13 +58,13 @@ module _ (s : List ℕ) (at hash : ℕ) (r : Part) (kind : r ≡ textAt s at) wh
 
   module _ (f t : ℕ) (k : Cursor) (e : r ≡ Part.Whole f t k) (v : List ℕ) (cut : v ≡ cutOf s f t) (fit : Bool) (tested : fit ≡ fits hash v) where
     pub unfit-type : not fit ≡ true → Signature.Refused UnfitType ≡ signatureAt s at hash
-    unfolding signatureAt part so
+    unfolding signatureAt part
     unfit-type h = rw (← kind, e, ← cut, ← tested, not-true fit h)
 
     module _ (h : not fit ≡ false) (w : List ℕ) (again : w ≡ cutOf s f t) (sk : Bool) (starts : sk ≡ startsIn w (bytes "sk-")) (end : Reach)
         (ended : end ≡ signatureEnd s (k .at) sk) where
       ends : reach (λ place. Signature.Refused (Malformed place)) end (λ behind. Whole at behind) ≡ signatureAt s at hash
-      unfolding signatureAt part so
+      unfolding signatureAt part
       ends = rw (← kind, e, ← again, ← starts, again, ← cut, ← tested, not-false fit h, ← ended)
 
       pub signature-cut : (place : ℕ) → end ≡ Fault place → Signature.Refused (Malformed place) ≡ signatureAt s at hash
@@ -81,12 +81,12 @@ pub ruleset signing = (no-type, unfit-type, signature-cut, signature-whole, need
 
 module _ (v out : List ℕ) where
   pub string-short : length out < 4 + length v → (Wrote.Refused OutputTooShort ≡ stringAnswer v out) × (out ≡ stringLeft v out)
-  unfolding stringAnswer stringLeft so
+  unfolding stringAnswer stringLeft
   string-short h = rw (lt-leb (4 + length v) (length out) h) (refl, refl)
 
   pub string-fits : (end : ℕ) (after : List ℕ) → 4 + length v ≤ length out → end ≡ 4 + length v → after ≡ write out 0 (string v)
       → (Wrote.Written end ≡ stringAnswer v out) × (after ≡ stringLeft v out)
-  unfolding stringAnswer stringLeft so
+  unfolding stringAnswer stringLeft
   string-fits end after h e f = rw (le-leb (4 + length v) (length out) h) (ap Wrote.Written e, f)
 
 -- ## How long a signature can be
@@ -110,7 +110,7 @@ unfolding signatureEnd
 end-within s at touched end =
     let P : Reach → Type 0 = λ r. r ≡ End end → end ≤ length s in
     part-cases P (stringAt s at) (λ _ _. fault) λ f t k e.
-    so-cases P touched (λ _. touched-within s t end) λ _ q.
+    cond-cases P touched (λ _. touched-within s t end) λ _ q.
     let w = string-read s at f t k e in
     let p : t ≡ end = cc in
     omega arith
@@ -125,7 +125,7 @@ unfolding signatureAt
 signature-within s at hash f t =
     let P : Signature → Type 0 = λ r. r ≡ Whole f t → Within s at f t in
     part-cases P (textAt s at) (λ _ _. refused) λ g u k _.
-    so-cases P (fits hash (cutOf s g u))
+    cond-cases P (fits hash (cutOf s g u))
     (λ _. reach-cases P (signatureEnd s (k .at) (startsIn (cutOf s g u) (bytes "sk-"))) (λ _. refused) λ end e q.
     let p : end ≡ t = cc in
     record { start = cc; end = omega (arith, end-within s (k .at) (startsIn (cutOf s g u) (bytes "sk-")) end e) })
@@ -142,9 +142,9 @@ pub reply-small : (payload : List ℕ) (hash f t : ℕ) → Bytes payload → re
 unfolding replyAt
 reply-small payload hash f t small =
     let P : Signature → Type 0 = λ r. r ≡ Whole f t → length (cutOf payload f t) < 2 ^ 32 in
-    so-cases P (ltb 0 (length payload))
-    (λ _. so-cases P (eqb (getD payload 0 0) 5) (λ _. refused)
-    (λ _. so-cases P (eqb (getD payload 0 0) 14)
+    cond-cases P (ltb 0 (length payload))
+    (λ _. cond-cases P (eqb (getD payload 0 0) 5) (λ _. refused)
+    (λ _. cond-cases P (eqb (getD payload 0 0) 14)
     (λ _. part-cases P (stringAt payload 1) (λ _ _. refused) λ g u k e q.
     let w = string-read payload 1 g u k e in
     let n = be-small payload 1 small in

@@ -14,7 +14,7 @@ use Rattle.wire.specs.Numbers.{Bytes, be32}
 use Rattle.wire.specs.Texts.{bytes}
 use Rattle.wire.specs.Abnf.{Octets}
 use Rattle.wire.specs.Read.{cutOf, same, byteAt, numberAt, stringAt, textAt}
-use Rattle.wire.specs.Steps.{so, byte, number, part}
+use Rattle.wire.specs.Steps.{byte, number, part}
 use Rattle.wire.specs.Write.{write, string}
 use Rattle.wire.specs.Values.{read, octetReads}
 use Rattle.wire.specs.Refusals.{grants, wroteSays}
@@ -23,7 +23,7 @@ use Rattle.wire.proofs.Format.{be-small, be-shape, number-form}
 use Rattle.wire.proofs.Laws.{byte-rule, answers-apart}
 use Rattle.wire.proofs.ByteLaws.{bytes-cons, string-bytes}
 use Rattle.wire.proofs.Strings.{Lies, lies-join, lies-cut, lies-split, lies-bytes, behind, found, At, inside, string-stands, string-reads, text-reads, took, lies-to}
-use Rattle.wire.proofs.Cases.{so-cases, part-cases, number-cases, true-not-false, byte-cases}
+use Rattle.wire.proofs.Cases.{cond-cases, part-cases, number-cases, true-not-false, byte-cases}
 use Rattle.wire.proofs.RefusalLaws.{not-granted}
 use Rattle.readers.specs.declared.Reach.{Reach}
 use Rattle.readers.specs.declared.Reach.the-variants.{End}
@@ -39,12 +39,12 @@ use Rattle.readers.proofs.FormLaws.{starts-rule}
 -- ## The hash
 
 pub fit-rule : FitRule
-unfolding fits so same
+unfolding fits same
 fit-rule hash t = (
   (let P : Bool → Type 0 = λ b. b ≡ true → Fitting hash t in
-      so-cases P (eqb hash 0) (λ e _. rw (eqb-true hash 0 e) (any t)) λ _.
-      so-cases P (eqb hash 2) (λ e q. rw (eqb-true hash 2 e, same-true t (bytes "rsa-sha2-256") q) sha256) λ _.
-      so-cases P (eqb hash 4) (λ e q. rw (eqb-true hash 4 e, same-true t (bytes "rsa-sha2-512") q) sha512) λ _ never. let z : _≡_ {A = ℕ} 0 1 = cc in absurd (omega arith)),
+      cond-cases P (eqb hash 0) (λ e _. rw (eqb-true hash 0 e) (any t)) λ _.
+      cond-cases P (eqb hash 2) (λ e q. rw (eqb-true hash 2 e, same-true t (bytes "rsa-sha2-256") q) sha256) λ _.
+      cond-cases P (eqb hash 4) (λ e q. rw (eqb-true hash 4 e, same-true t (bytes "rsa-sha2-512") q) sha512) λ _ never. let z : _≡_ {A = ℕ} 0 1 = cc in absurd (omega arith)),
   λ f. elim f [ any t ↦ refl | sha256 ↦ refl | sha512 ↦ refl ],
 )
 
@@ -70,7 +70,7 @@ module _ (s : List ℕ) (small : Bytes s) where
 
   signature-read : {t x : List ℕ} (at hash : ℕ) (rest : List ℕ) → SignatureForm t x → Fitting hash t → length x < 2 ^ 32 → drop at s ≡ x ++ rest
       → signatureAt s at hash ≡ Whole at (at + length x)
-  unfolding signatureAt signatureEnd part so reach
+  unfolding signatureAt signatureEnd part reach
   signature-read at hash rest (plain t sig o other) f l e =
       let n = simp length-append at l in
       let (a, r) = string-stands small {at = at} t (string sig ++ rest) (omega arith) (e ∙ append-assoc (string t) (string sig) rest) in
@@ -97,7 +97,7 @@ record Replied (payload : List ℕ) (hash : ℕ) (signature : List ℕ) : Type 0
 
 reply-read : (hash : ℕ) (t signature rest tail : List ℕ) → Bytes (14 ∷ (string (signature ++ rest) ++ tail)) → Fitting hash t → SignatureForm t signature
     → length (signature ++ rest) < 2 ^ 32 → Replied (14 ∷ (string (signature ++ rest) ++ tail)) hash signature
-unfolding replyAt so part
+unfolding replyAt part
 reply-read hash t signature rest tail small f form l =
     let y = signature ++ rest in
     let payload : List ℕ = 14 ∷ (string y ++ tail) in
@@ -173,7 +173,7 @@ module _ (s : List ℕ) (small : Bytes s) where
       let P : Reach → Type 0 = λ r. r ≡ End end → Formed s at t end in
       part-cases P (stringAt s m) (λ _ _. fault) λ f u k e.
       let y = took small (string-reads small) f u k e in
-      so-cases P (startsIn t (bytes "sk-"))
+      cond-cases P (startsIn t (bytes "sk-"))
       (λ h q.
       let (w, is) = starts-rule t (bytes "sk-") .0 h in
       let (flags, counter, c, z) = touched-taken u end q in
@@ -197,7 +197,7 @@ module _ (s : List ℕ) (small : Bytes s) where
       let P : Signature → Type 0 = λ r. r ≡ Whole f end → (t : List ℕ) × Fitting hash t × Formed s at t end in
       part-cases P (textAt s at) (λ _ _. refused) λ g u k e.
       let x = took small (text-reads small) g u k e in
-      so-cases P (fits hash (cutOf s g u))
+      cond-cases P (fits hash (cutOf s g u))
       (λ h. reach-cases P (signatureEnd s (k .at) (startsIn (cutOf s g u) (bytes "sk-"))) (λ _. refused) λ behind d q.
       let p : behind ≡ end = cc in
       (x .v, fit-rule hash (x .v) .0 (rw (x .part) at h), end-taken at (k .at) (x .v) end (x .holds) (lies-to (x .lies) (x .place)) (rw (x .part, p) at d)))
@@ -228,13 +228,13 @@ string-taken b p v g u hash f end small is l x from e =
     )
 
 reply-taken : (payload : List ℕ) (hash f end : ℕ) → Bytes payload → replyAt payload hash ≡ Whole f end → Answered hash payload
-unfolding replyAt so
+unfolding replyAt
 reply-taken [] hash f end small = refused
 reply-taken (b ∷ p) hash f end small =
     let P : Signature → Type 0 = λ r. r ≡ Whole f end → Answered hash (b ∷ p) in
-    so-cases P (ltb 0 (length (b ∷ p)))
-    (λ _. so-cases P (eqb b 5) (λ _. refused)
-    (λ _. so-cases P (eqb b 14)
+    cond-cases P (ltb 0 (length (b ∷ p)))
+    (λ _. cond-cases P (eqb b 5) (λ _. refused)
+    (λ _. cond-cases P (eqb b 14)
     (λ h. part-cases P (stringAt (b ∷ p) 1) (λ _ _. refused) λ g u k e.
     let y = took small {at = 1} (string-reads small) g u k e in
     string-taken b p (y .v) g u hash f end small (eqb-true b 14 h) (y .small) (y .lies) (y .from))

@@ -1,8 +1,9 @@
 -- When each answer of the signature reader comes: what was read up to a test has the draft's form, and the test then decides; bytes are below 256.
+use lib.Dec.{leb}
 use Prim.Native.Nat.{ℕ, _+_, _^_, _≤_, _<_}
 use mathlib.Core.Path.{_≡_, refl, sym, ap, _∙_}
 use mathlib.Core.List.{List, [], _∷_, _++_, append-nil}
-use mathlib.Core.Bool.{Bool, true, false}
+use mathlib.Core.Bool.{Bool, true, false, cond}
 use native.Mathlib.Omega.{arith}
 use borrow.Author.Tests.{lt-ltb, ne-eqb}
 use lib.ListN.{length, drop, length-append}
@@ -10,8 +11,8 @@ use Rattle.wire.specs.Numbers.{Bytes}
 use Rattle.wire.specs.Texts.{bytes}
 use Rattle.wire.specs.Abnf.{Octets}
 use Rattle.wire.specs.Read.{cutOf, stringAt, textAt}
-use Rattle.wire.specs.Steps.{so, byte, number, part}
-use Rattle.wire.specs.Write.{string}
+use Rattle.wire.specs.Steps.{byte, number, part}
+use Rattle.wire.specs.Write.{string, write}
 use Rattle.wire.specs.Promises.{NoString}
 use Rattle.wire.specs.declared.refusal.Refusal.the-variants.{OutputTooShort, Malformed, UnfitType}
 use Rattle.wire.specs.declared.refusal.Wrote.{Wrote}
@@ -41,11 +42,11 @@ module _ (hash : ℕ) (out : List ℕ) where
   -- ## The first byte
 
   failed : (p : List ℕ) → wroteSays (signatureAnswer (5 ∷ p) hash out) ≡ refuses 14 no-place
-  unfolding signatureAnswer replyAt so
+  unfolding signatureAnswer replyAt
   failed p = rw (lt-ltb 0 (length (5 ∷ p)) (omega arith))
 
   other-reply : (payload : List ℕ) → ((p : List ℕ) → payload ≡ 5 ∷ p → ⊥) → ((p : List ℕ) → payload ≡ 14 ∷ p → ⊥) → wroteSays (signatureAnswer payload hash out) ≡ refuses 15 no-place
-  unfolding signatureAnswer replyAt so
+  unfolding signatureAnswer replyAt
   other-reply [] f g = refl
   other-reply (b ∷ p) f g =
       rw (lt-ltb 0 (length (b ∷ p)) (omega arith), ne-eqb b 5 (λ e. f p (ap (λ (x : ℕ). x ∷ p) e)), ne-eqb b 14 (λ e. g p (ap (λ (x : ℕ). x ∷ p) e)))
@@ -72,7 +73,7 @@ module _ (hash : ℕ) (out : List ℕ) where
       })))
 
   fourteen : (p : List ℕ) → Bytes (14 ∷ p) → ((t : List ℕ) → Typed (14 ∷ p) t → ⊥) → (place : ℕ) × (wroteSays (signatureAnswer (14 ∷ p) hash out) ≡ refuses 12 (at-place place))
-  unfolding signatureAnswer replyAt so
+  unfolding signatureAnswer replyAt
   fourteen p small never =
       let payload : List ℕ = 14 ∷ p in
       rw (lt-ltb 0 (length payload) (omega arith))
@@ -90,7 +91,7 @@ record Enters (payload : List ℕ) (hash : ℕ) (y : List ℕ) : Type 0 where
   goes-in : replyAt payload hash ≡ signatureAt (14 ∷ string y) 5 hash
 
 enters : (hash : ℕ) (y tail : List ℕ) → length y < 2 ^ 32 → Bytes (14 ∷ (string y ++ tail)) → Enters (14 ∷ (string y ++ tail)) hash y
-unfolding replyAt so part
+unfolding replyAt part
 enters hash y tail l small =
     let payload : List ℕ = 14 ∷ (string y ++ tail) in
     let a : At payload 1 y = string-stands small y tail l refl .0 in
@@ -104,8 +105,9 @@ record Continues (payload : List ℕ) (hash : ℕ) (t rest : List ℕ) : Type 0 
   lies : Lies (14 ∷ string (string t ++ rest)) 5 (string t) (behind 5 t)
   next : drop (behind 5 t) (14 ∷ string (string t ++ rest)) ≡ rest
   goes-on : replyAt payload hash
-      ≡ so (Signature.Refused UnfitType) (fits hash t)
+      ≡ cond (fits hash t)
       (reach (λ place. Signature.Refused (Malformed place)) (signatureEnd (14 ∷ string (string t ++ rest)) (behind 5 t) (startsIn t (bytes "sk-"))) (λ end. Whole 5 end))
+      (Signature.Refused UnfitType)
 
 continues : (hash : ℕ) (t rest tail : List ℕ) → Octets t → length (string t ++ rest) < 2 ^ 32 → Bytes (14 ∷ (string (string t ++ rest) ++ tail))
     → Continues (14 ∷ (string (string t ++ rest) ++ tail)) hash t rest
@@ -122,11 +124,11 @@ module _ (payload : List ℕ) (hash : ℕ) (out : List ℕ) (small : Bytes paylo
   typed-continues = rw (typed .shape) (continues hash t (typed .rest) (typed .behind) (typed .text) (typed .small) (rw (typed .shape) at small))
 
   unfit-there : (Fitting hash t → ⊥) → wroteSays (signatureAnswer payload hash out) ≡ refuses 13 no-place
-  unfolding signatureAnswer so
+  unfolding signatureAnswer
   unfit-there never = rw (typed-continues .goes-on, not-fit hash t never)
 
   none-there : Fitting hash t → ((signature : List ℕ) → CarriesSignature payload t signature → ⊥) → (place : ℕ) × (wroteSays (signatureAnswer payload hash out) ≡ refuses 12 (at-place place))
-  unfolding signatureAnswer so
+  unfolding signatureAnswer
   none-there fit never =
       let s : List ℕ = 14 ∷ string (string t ++ typed .rest) in
       let c = typed-continues in
@@ -150,7 +152,7 @@ module _ (hash : ℕ) (t rest tail : List ℕ) (o : Octets t) (l : length (strin
     (fit : Fitting hash t) where
   stops : (touched : Bool) (place : ℕ) → startsIn t (bytes "sk-") ≡ touched → signatureEnd (14 ∷ string (string t ++ rest)) (behind 5 t) touched ≡ Fault place
       → replyAt (14 ∷ (string (string t ++ rest) ++ tail)) hash ≡ Signature.Refused (Malformed place)
-  unfolding so reach
+  unfolding reach
   stops touched place is e = continues hash t rest tail o l small .goes-on ∙ rw (fit-rule hash t .1 fit, is, e)
 
   no-signature-there : NoString rest → replyAt (14 ∷ (string (string t ++ rest) ++ tail)) hash ≡ Signature.Refused (Malformed (9 + length t))
@@ -174,7 +176,7 @@ module _ (hash : ℕ) (w sig rest more tail : List ℕ) (is : rest ≡ string si
         → replyAt (14 ∷ (string (string (touch w) ++ rest) ++ tail)) hash ≡ Signature.Refused (Malformed place)
 
   ends : Ends
-  unfolding signatureEnd part so
+  unfolding signatureEnd part
   ends =
       let c = continues hash (touch w) rest tail o l small in
       let n = simp length-append at l in
@@ -191,7 +193,7 @@ unfolding touchedEnd byte number
 touch-short s at flags rest e h = rw (octet-at s at flags rest e, ← number-cut s (at + 1) h)
 
 pub fault-there : (hash : ℕ) (p : List ℕ) (place : ℕ) → Bytes (14 ∷ p) → SignatureFault hash p place → replyAt (14 ∷ p) hash ≡ Signature.Refused (Malformed place)
-unfolding replyAt signatureAt so part
+unfolding replyAt signatureAt part
 fault-there hash p place small (string-cut q never) = rw (lt-ltb 0 (length (14 ∷ q)) (omega arith), string-missing (14 ∷ q) small 1 never)
 fault-there hash p place small (type-cut v tail l never) =
     let x = enters hash v tail l small in x .goes-in ∙ rw (text-missing (14 ∷ string v) (x .small) 5 never)
@@ -220,8 +222,7 @@ fault-there hash p place small (counter-cut w sig rest tail flags l o fit h) =
 -- ## Refusals
 
 module _ (payload : List ℕ) (hash : ℕ) (out : List ℕ) (n : ℕ) (w : Where) where
-  short-left : (b : Bool) (m : ℕ) (left : List ℕ) → wroteSays (so (Wrote.Refused OutputTooShort) b (Wrote.Written m)) ≡ refuses n w → so out b left ≡ out
-  unfolding so
+  short-left : (b : Bool) (m : ℕ) (left : List ℕ) → wroteSays (cond b (Wrote.Written m) (Wrote.Refused OutputTooShort)) ≡ refuses n w → cond b left out ≡ out
   short-left true m left e = granted e
   short-left false m left e = refl
 
@@ -230,7 +231,8 @@ module _ (payload : List ℕ) (hash : ℕ) (out : List ℕ) (n : ℕ) (w : Where
   refused-left = go (replyAt payload hash)
     where
       go : (r : Signature) → wroteSays (wroteOf payload out r) ≡ refuses n w → leftOf payload out r ≡ out
-      go (Whole f t) e = short-left _ _ _ e
+      go (Whole f t) e =
+          short-left (leb (4 + length (cutOf payload f t)) (length out)) (4 + length (cutOf payload f t)) (write out 0 (string (cutOf payload f t))) e
       go (Signature.Refused why) e = refl
 
 fault-answered : (hash : ℕ) (out p : List ℕ) (place : ℕ) → Bytes (14 ∷ p) → SignatureFault hash p place

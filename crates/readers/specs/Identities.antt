@@ -1,12 +1,12 @@
 -- The identities reader: "payload empty or not type 12: count 0. Else all items must be whole, comments UTF-8".
 use Prim.Native.Nat.{ℕ, zero, suc, _-_}
 use mathlib.Core.List.{List, []}
-use mathlib.Core.Bool.{Bool, false}
+use mathlib.Core.Bool.{Bool, false, cond}
 use lib.ListN.{length, getD}
 use lib.Dec.{leb, ltb, eqb}
 use Rattle.wire.specs.Texts.{bytes}
 use Rattle.wire.specs.Read.{cutOf, cutFrom, same, numberAt, stringAt, textAt}
-use Rattle.wire.specs.Steps.{so, number, part}
+use Rattle.wire.specs.Steps.{number, part}
 use Rattle.wire.specs.declared.refusal.Refusal.the-variants.{Malformed, NoSuchItem}
 use Rattle.readers.specs.declared.Reach.{Reach}
 use Rattle.readers.specs.declared.Reach.the-variants.{End, Fault}
@@ -25,11 +25,13 @@ itemsAt (suc n) s at =
 -- the number of items
 unfoldable pub countOf : List ℕ → Listing
 countOf payload =
-    so (Listing.Count 0) (ltb 0 (length payload))
-    (so (Listing.Count 0) (eqb (getD payload 0 0) 12)
+    cond (ltb 0 (length payload))
+    (cond (eqb (getD payload 0 0) 12)
     (number (λ _. Listing.Refused (Malformed 1)) (numberAt payload 1) λ n k.
     reach (λ at. Listing.Refused (Malformed at)) (itemsAt n payload (k .at)) λ end.
-    Listing.Count n))
+    Listing.Count n)
+    (Listing.Count 0))
+    (Listing.Count 0)
 
 -- going on with the number of items
 unfoldable pub counted : {A : Type 0} → (Listing → A) → Listing → (ℕ → A) → A
@@ -37,7 +39,7 @@ counted z (Listing.Count n) next = next n
 counted z (Listing.Refused r) next = z (Listing.Refused r)
 
 unfoldable pub endsIn : List ℕ → List ℕ → Bool
-endsIn v end = so false (leb (length end) (length v)) (same (cutOf v (length v - length end) (length v)) end)
+endsIn v end = cond (leb (length end) (length v)) (same (cutOf v (length v - length end) (length v)) end) false
 
 -- "a certificate mark if its first string is UTF-8 and ends in `-cert-v01@openssh.com`"
 abbrev pub certificateEnd : List ℕ
@@ -59,9 +61,10 @@ refusedItem (Listing.Refused r) = Item.Refused r
 unfoldable pub itemOf : List ℕ → ℕ → Item
 itemOf payload index =
     counted refusedItem (countOf payload) λ count.
-    so (Item.Refused NoSuchItem) (ltb index count)
+    cond (ltb index count)
     (reach (λ at. Item.Refused (Malformed at)) (itemsAt index payload 5) λ at.
     itemAt payload at)
+    (Item.Refused NoSuchItem)
 
 abbrev pub itemBlob : List ℕ → Item → List ℕ
 itemBlob payload (Item.Blob f t c) = cutOf payload f t

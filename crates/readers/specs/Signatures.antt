@@ -1,12 +1,12 @@
 -- The signature reader: "type 14, string; inside it string t (UTF-8). .. Then string sig, and if t starts `sk-` one byte and a u32."
 use Prim.Native.Nat.{ℕ, _+_}
 use mathlib.Core.List.{List}
-use mathlib.Core.Bool.{Bool, true, false}
+use mathlib.Core.Bool.{Bool, true, false, cond}
 use lib.ListN.{length, getD}
 use lib.Dec.{leb, ltb, eqb}
 use Rattle.wire.specs.Texts.{bytes}
 use Rattle.wire.specs.Read.{cutOf, same, byteAt, numberAt, stringAt, textAt}
-use Rattle.wire.specs.Steps.{so, byte, number, part}
+use Rattle.wire.specs.Steps.{byte, number, part}
 use Rattle.wire.specs.Write.{write, string}
 use Rattle.wire.specs.declared.refusal.Refusal.the-variants.{OutputTooShort, Malformed, UnfitType, AgentFailure, OtherReply}
 use Rattle.wire.specs.declared.refusal.Wrote.{Wrote}
@@ -19,10 +19,9 @@ use Rattle.readers.specs.Reaches.{reach}
 -- "Hash 2 needs t `rsa-sha2-256`, 4 needs `rsa-sha2-512`, 0 any, other values never."
 unfoldable pub fits : ℕ → List ℕ → Bool
 fits hash t =
-    so (so (so false
-    (eqb hash 4) (same t (bytes "rsa-sha2-512")))
-    (eqb hash 2) (same t (bytes "rsa-sha2-256")))
-    (eqb hash 0) true
+    cond (eqb hash 0) true
+    (cond (eqb hash 2) (same t (bytes "rsa-sha2-256"))
+    (cond (eqb hash 4) (same t (bytes "rsa-sha2-512")) false))
 
 unfoldable pub startsIn : List ℕ → List ℕ → Bool
 startsIn v start = same (cutOf v 0 (length start)) start
@@ -34,30 +33,33 @@ touchedEnd s at =
     End (l .at)
 
 unfoldable pub signatureEnd : List ℕ → ℕ → Bool → Reach
-signatureEnd s at touched = part (λ _. Fault at) (stringAt s at) λ f t k. so (End t) touched (touchedEnd s t)
+signatureEnd s at touched = part (λ _. Fault at) (stringAt s at) λ f t k. cond touched (touchedEnd s t) (End t)
 
 unfoldable pub signatureAt : List ℕ → ℕ → ℕ → Signature
 signatureAt s at hash =
     part (λ place. Signature.Refused (Malformed place)) (textAt s at) λ f t k.
-    so (Signature.Refused UnfitType) (fits hash (cutOf s f t))
+    cond (fits hash (cutOf s f t))
     (reach (λ place. Signature.Refused (Malformed place)) (signatureEnd s (k .at) (startsIn (cutOf s f t) (bytes "sk-"))) λ end.
     Whole at end)
+    (Signature.Refused UnfitType)
 
 -- "signature 14, 15, 12 (up to t), 13, 12"; inside the string, up to its end
 unfoldable pub replyAt : List ℕ → ℕ → Signature
 replyAt payload hash =
-    so (Signature.Refused OtherReply) (ltb 0 (length payload))
-    (so (so (Signature.Refused OtherReply) (eqb (getD payload 0 0) 14)
+    cond (ltb 0 (length payload))
+    (cond (eqb (getD payload 0 0) 5) (Signature.Refused AgentFailure)
+    (cond (eqb (getD payload 0 0) 14)
     (part (λ _. Signature.Refused (Malformed 1)) (stringAt payload 1) λ f t k.
-    signatureAt (cutOf payload 0 t) f hash))
-    (eqb (getD payload 0 0) 5) (Signature.Refused AgentFailure))
+    signatureAt (cutOf payload 0 t) f hash)
+    (Signature.Refused OtherReply)))
+    (Signature.Refused OtherReply)
 
 -- a string written to the front of an output that it fits in
 unfoldable pub stringAnswer : List ℕ → List ℕ → Wrote
-stringAnswer v out = so (Wrote.Refused OutputTooShort) (leb (4 + length v) (length out)) (Wrote.Written (4 + length v))
+stringAnswer v out = cond (leb (4 + length v) (length out)) (Wrote.Written (4 + length v)) (Wrote.Refused OutputTooShort)
 
 unfoldable pub stringLeft : List ℕ → List ℕ → List ℕ
-stringLeft v out = so out (leb (4 + length v) (length out)) (write out 0 (string v))
+stringLeft v out = cond (leb (4 + length v) (length out)) (write out 0 (string v)) out
 
 abbrev pub wroteOf : List ℕ → List ℕ → Signature → Wrote
 wroteOf payload out (Whole f t) = stringAnswer (cutOf payload f t) out

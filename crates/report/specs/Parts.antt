@@ -1,12 +1,12 @@
 -- What a flag, a place and a change are read as, and what a change makes of a base.
 use Prim.Native.Nat.{ℕ}
 use mathlib.Core.List.{List}
-use mathlib.Core.Bool.{true, false}
+use mathlib.Core.Bool.{true, false, cond}
 use lib.ListN.{length, set}
 use lib.Dec.{leb, ltb, eqb}
 use Rattle.wire.specs.declared.read.Cursor.{Cursor}
 use Rattle.wire.specs.Read.{byteAt, numberAt}
-use Rattle.wire.specs.Steps.{so, byte, number}
+use Rattle.wire.specs.Steps.{byte, number}
 use Rattle.wire.specs.Write.{write}
 use Rattle.report.specs.declared.parts.Flag.{Flag}
 use Rattle.report.specs.declared.parts.Place.{Place}
@@ -17,7 +17,7 @@ use Rattle.report.specs.declared.parts.Change.the-variants.{Of}
 unfoldable pub flagAt : List ℕ → ℕ → Flag
 flagAt s at =
     byte (λ _. Flag.Malformed) (byteAt s at) λ b k.
-    so (so Flag.Malformed (eqb b 1) (Flag.Value true k)) (eqb b 0) (Flag.Value false k)
+    cond (eqb b 0) (Flag.Value false k) (cond (eqb b 1) (Flag.Value true k) Flag.Malformed)
 
 unfoldable pub placeAt : List ℕ → ℕ → Place
 placeAt s at = number (λ _. Place.Malformed) (numberAt s at) λ n k. Place.Value n k
@@ -42,11 +42,13 @@ changeAt s at =
 unfoldable pub changedAt : List ℕ → ℕ → List ℕ → List ℕ → Place
 changedAt s at base room =
     change Place.Malformed (changeAt s at) λ n i v k.
-    so Place.Malformed (leb (length base) (length room))
-    (so Place.Malformed (ltb i (length base)) (Place.Value n k))
+    cond (leb (length base) (length room))
+    (cond (ltb i (length base)) (Place.Value n k) Place.Malformed)
+    Place.Malformed
 
 unfoldable pub changedLeft : List ℕ → ℕ → List ℕ → List ℕ → List ℕ
 changedLeft s at base room =
     change room (changeAt s at) λ n i v k.
-    so room (leb (length base) (length room))
-    (so room (ltb i (length base)) (set (write room 0 base) i v))
+    cond (leb (length base) (length room))
+    (cond (ltb i (length base)) (set (write room 0 base) i v) room)
+    room

@@ -1,12 +1,12 @@
 -- Which record is next.
 use Prim.Native.Nat.{ℕ, _+_, _%_, _^_}
 use mathlib.Core.List.{List}
-use mathlib.Core.Bool.{Bool}
+use mathlib.Core.Bool.{Bool, cond}
 use lib.ListN.{length}
 use lib.Dec.{ltb, eqb}
 use Rattle.wire.specs.declared.read.Cursor.{Cursor}
 use Rattle.wire.specs.Read.{byteAt, numberAt, stringAt}
-use Rattle.wire.specs.Steps.{so, byte, number, part}
+use Rattle.wire.specs.Steps.{byte, number, part}
 use Rattle.report.specs.declared.sections.Ran.{Ran}
 use Rattle.report.specs.declared.sections.Ran.the-variants.{Agrees, Differs}
 use Rattle.report.specs.declared.sections.Section.{Section}
@@ -14,7 +14,7 @@ use Rattle.report.specs.declared.sections.Step.{Step}
 use Rattle.report.specs.declared.sections.Step.the-variants.{Record, End}
 
 unfoldable pub ranAs : Bool → Cursor → Ran
-ranAs agrees k = so (Differs k) agrees (Agrees k)
+ranAs agrees k = cond agrees (Agrees k) (Differs k)
 
 -- a section: kind, name, base, and the number of its records
 unfoldable pub sectionAt : List ℕ → ℕ → Step
@@ -41,9 +41,10 @@ step z End next = z
 -- the first record from a place on; a section without records is malformed
 unfoldable pub firstAt : List ℕ → ℕ → Step
 firstAt s at =
-    so End (ltb at (length s))
+    cond (ltb at (length s))
     (step End (sectionAt s at) λ x.
-    so (Record x) (eqb (x .count) 0) End)
+    cond (eqb (x .count) 0) End (Record x))
+    End
 
 -- a section behind its next record
 unfoldable pub movedOf : Section → ℕ → Cursor → Section
@@ -60,7 +61,7 @@ movedOf x agreed k =
 
 -- the next record of the section, or the first behind it
 unfoldable pub afterOf : List ℕ → Section → Step
-afterOf s x = so (Record x) (eqb (x .ran) (x .count)) (firstAt s (x .next .at))
+afterOf s x = cond (eqb (x .ran) (x .count)) (firstAt s (x .next .at)) (Record x)
 
 unfoldable pub nextOf : List ℕ → Section → Ran → Step
 nextOf s x (Agrees k) = afterOf s (movedOf x ((x .agreed + 1) % 2 ^ 32) k)

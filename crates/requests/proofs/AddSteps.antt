@@ -2,7 +2,7 @@
 use Prim.Native.Nat.{ℕ, _+_, _≤_, _<_}
 use mathlib.Core.Path.{_≡_, refl, sym, ap, _∙_}
 use mathlib.Core.Logic.{⊎-elim}
-use mathlib.Core.Bool.{Bool, true, false, not, and-false}
+use mathlib.Core.Bool.{Bool, true, false, not, and-false, cond}
 use mathlib.Core.Option.{Option}
 use mathlib.Core.List.{List}
 use native.Mathlib.Omega.{arith}
@@ -11,7 +11,6 @@ use lib.Dec.{leb, ltb}
 use lib.ListN.{length, take, drop}
 use lib.Seq.{take-at}
 use Rattle.wire.specs.Limits.{blobLimit, lastNumber}
-use Rattle.wire.specs.Steps.{so}
 use Rattle.wire.specs.Write.{write}
 use Rattle.wire.proofs.Reading.{le-or-lt}
 use Rattle.wire.proofs.Steps.{ltb-yes, ltb-no}
@@ -109,16 +108,16 @@ pub record Stands (s : List ℕ) (at : ℕ) (p : Places) (n : ℕ) (left : List 
 module _ (s : List ℕ) (at : ℕ) (p : Places) (room : List ℕ) (w : Blob) (answer : w ≡ blobAnswer s at p room) where
   -- a blob that has no room is over the room's length
   pub blob-over : (n : ℕ) → length room ≡ n → w ≡ TooLong → n < length (blobOf s at p)
-  unfolding blobAnswer so
+  unfolding blobAnswer
   blob-over n l e = rw (← l) (go (leb (length (blobOf s at p)) (length room)) refl (sym answer ∙ e))
     where
-      go : (b : Bool) → leb (length (blobOf s at p)) (length room) ≡ b → so TooLong b (Length (length (blobOf s at p))) ≡ TooLong → length room < length (blobOf s at p)
+      go : (b : Bool) → leb (length (blobOf s at p)) (length room) ≡ b → cond b (Length (length (blobOf s at p))) TooLong ≡ TooLong → length room < length (blobOf s at p)
       go true t h = let z : _≡_ {A = ℕ} 0 1 = cc in absurd (omega arith)
       go false t h = leb-false _ _ t
 
   -- one that has room stands at its front
   pub blob-stands : (n : ℕ) (left : List ℕ) → left ≡ blobLeft s at p room → w ≡ Length n → Stands s at p n left
-  unfolding blobAnswer blobLeft so write
+  unfolding blobAnswer blobLeft write
   blob-stands n left f e = go (leb (length (blobOf s at p)) (length room)) refl (sym answer ∙ e) f
     where
       blob : List ℕ
@@ -130,7 +129,7 @@ module _ (s : List ℕ) (at : ℕ) (p : Places) (room : List ℕ) (w : Blob) (an
           let t : take n left ≡ blob = rw k (take-at blob (drop (0 + length blob) room) n q) in
           record { inside = omega arith; size = rw t (sym q); blob = t }
 
-      go : (b : Bool) → leb (length blob) (length room) ≡ b → so TooLong b (Length (length blob)) ≡ Length n → left ≡ so room b (write room 0 blob) → Stands s at p n left
+      go : (b : Bool) → leb (length blob) (length room) ≡ b → cond b (Length (length blob)) TooLong ≡ Length n → left ≡ cond b (write room 0 blob) room → Stands s at p n left
       go true t h k = let q : length blob ≡ n = cc in there (leb-true _ _ t) q k
       go false t h k = let z : _≡_ {A = ℕ} 0 1 = cc in absurd (omega arith)
 

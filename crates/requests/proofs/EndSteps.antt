@@ -1,7 +1,7 @@
 -- How a request's function follows its plan: one law for each step of a plan, and one for each way to land. `search ends` goes by them.
 use Prim.Native.Nat.{ℕ, _+_, _-_, _≤_, _<_}
 use mathlib.Core.Path.{_≡_, refl, sym, ap, _∙_}
-use mathlib.Core.Bool.{Bool, true, false}
+use mathlib.Core.Bool.{Bool, true, false, cond}
 use mathlib.Core.Logic.{⊎-elim}
 use mathlib.Core.Option.{Option, none, some}
 use mathlib.Core.List.{List, [], _∷_}
@@ -15,7 +15,7 @@ use Rattle.wire.specs.declared.read.Part.{Part}
 use Rattle.wire.specs.declared.read.Part.the-variants.{Whole}
 use Rattle.wire.specs.Numbers.{be32}
 use Rattle.wire.specs.Read.{cutOf, same}
-use Rattle.wire.specs.Steps.{so, part, number}
+use Rattle.wire.specs.Steps.{part, number}
 use Rattle.wire.specs.Write.{string, write}
 use Rattle.wire.proofs.Reading.{cut-there, cut-past, cut-back, le-or-lt}
 use Rattle.wire.proofs.Writing.{write-behind}
@@ -44,13 +44,11 @@ module _ (buffer : List ℕ) (r : Called) (store out : List ℕ) (answers : (q :
   abbrev E : Plan → Type 0
   E plan = Ends buffer r store out (follow answers g plan)
 
-  pub so-yes : (z : Plan) (b : Bool) (p : Plan) → true ≡ b → E p → E (so z b p)
-  unfolding so
-  so-yes z b p e h = rw (← e) h
+  pub cond-yes : (z : Plan) (b : Bool) (p : Plan) → true ≡ b → E p → E (cond b p z)
+  cond-yes z b p e h = rw (← e) h
 
-  pub so-no : (z : Plan) (b : Bool) (p : Plan) → false ≡ b → E z → E (so z b p)
-  unfolding so
-  so-no z b p e h = rw (← e) h
+  pub cond-no : (z : Plan) (b : Bool) (p : Plan) → false ≡ b → E z → E (cond b p z)
+  cond-no z b p e h = rw (← e) h
 
   pub part-fault : (z : ℕ → Plan) (p w : Part) (F : ℕ → ℕ → Cursor → Plan) (at : ℕ) → w ≡ Part.Fault at → w ≡ p → E (z at) → E (part z p F)
   unfolding part
@@ -174,4 +172,4 @@ place-within s x test w i h e f =
     let eight = eight-places s x (omega arith) in
     omega arith
 
-pub ruleset ends = (so-yes, so-no, part-fault, part-whole, number-fault, number-value, found-at, found-nothing, landed, means-itself, lock-means, open-means, sought, passphrase-of, cut-fits, place-within, leb-yes, leb-no, plain, string-order, needs)
+pub ruleset ends = (cond-yes, cond-no, part-fault, part-whole, number-fault, number-value, found-at, found-nothing, landed, means-itself, lock-means, open-means, sought, passphrase-of, cut-fits, place-within, leb-yes, leb-no, plain, string-order, needs)

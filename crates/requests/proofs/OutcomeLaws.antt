@@ -1,11 +1,11 @@
 -- The values of an outcome say it, since each can be read back from them; so do they and the reply buffer of the rule's.
+use mathlib.Core.Bool.{cond}
 use Prim.Native.Nat.{ℕ}
 use mathlib.Core.Path.{_≡_, refl, sym, ap, _∙_}
 use mathlib.Core.List.{List, [], _∷_}
 use lib.Dec.{eqb}
 use lib.ListN.{getD, length, take}
 use lib.Seq.{take-at}
-use Rattle.wire.specs.Steps.{so}
 use Rattle.wire.specs.Write.{write}
 use Rattle.rule.specs.declared.Hash.{Hash}
 use Rattle.rule.specs.declared.Hash.the-variants.{Plain, Sha256, Sha512}
@@ -17,7 +17,6 @@ use Rattle.requests.specs.declared.Outcome.the-variants.{Refused, Gate, 
 use Rattle.requests.specs.Outcomes.{hashBits, outcomeValues, OutcomesApart, code, written, OutcomesTold, hashIn, outcomeFor, outcomeIn, OutcomesRead}
 
 hash-in : (h : Hash) → hashIn (hashBits h) ≡ h
-unfolding so
 hash-in Plain = refl
 hash-in Sha256 = refl
 hash-in Sha512 = refl
@@ -25,19 +24,18 @@ hash-in Sha512 = refl
 -- the code's word by the kind, and the values behind it
 wordFor : ℕ → (ℕ → ℕ) → Outcome
 wordFor kind value =
-    so (so (so (so (so (so Close
-    (eqb kind 5) (Reply (value 1)))
-    (eqb kind 4) (Sign (value 1) (value 2) (value 3) (hashIn (value 4))))
-    (eqb kind 3) (Confirm (value 1)))
-    (eqb kind 2) (Check (value 1) (value 2)))
-    (eqb kind 1) (Gate (value 1)))
-    (eqb kind 0) (Refused (value 1))
+    cond (eqb kind 0) (Refused (value 1))
+    (cond (eqb kind 1) (Gate (value 1))
+    (cond (eqb kind 2) (Check (value 1) (value 2))
+    (cond (eqb kind 3) (Confirm (value 1))
+    (cond (eqb kind 4) (Sign (value 1) (value 2) (value 3) (hashIn (value 4)))
+    (cond (eqb kind 5) (Reply (value 1)) Close)))))
 
 wordIn : List ℕ → Outcome
 wordIn vs = wordFor (getD vs 0 0) (λ i. getD vs i 0)
 
 word-in : (o : Outcome) → wordIn (outcomeValues o) ≡ o
-unfolding so wordFor wordIn
+unfolding wordFor wordIn
 word-in (Refused n) = refl
 word-in (Gate class) = refl
 word-in (Check from to) = refl
@@ -55,7 +53,7 @@ unfolding write
 front buffer bytes = take-at bytes _ (length bytes) refl
 
 pub outcomes-read : OutcomesRead
-unfolding code written outcomeFor so
+unfolding code written outcomeFor
 outcomes-read (refused n) buffer = refl
 outcomes-read (asks (gate class)) buffer = refl
 outcomes-read (asks (check from to)) buffer = refl
@@ -74,7 +72,7 @@ module _ (o : rule.Outcome) where
   read values e = sym (outcomes-read o []) ∙ ap (λ (vs : List ℕ). outcomeIn vs (written o [])) e
 
 pub outcomes-told : OutcomesTold
-unfolding code outcomeFor so
+unfolding code outcomeFor
 outcomes-told o = record {
   refusal = λ n. (told o (refused n), read o (0 ∷ n ∷ []));
   gate-class = λ class. (told o (asks (gate class)), read o (1 ∷ class ∷ []));

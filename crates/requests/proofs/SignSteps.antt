@@ -1,13 +1,12 @@
 -- The sign request: the answers that count for an insertion number, the signature's reply, and each end of `sign_data` and `try_sign`.
 use Prim.Native.Nat.{ℕ, _+_, _≤_}
 use mathlib.Core.Path.{_≡_, refl, sym, ap, _∙_, subst}
-use mathlib.Core.Bool.{Bool, true, false}
+use mathlib.Core.Bool.{Bool, true, false, cond}
 use mathlib.Core.Option.{Option, none, some}
 use mathlib.Core.List.{List, [], _∷_, _++_}
 use native.Mathlib.Omega.{arith}
 use lib.ListN.{length, getD}
 use Rattle.wire.specs.Numbers.{be32}
-use Rattle.wire.specs.Steps.{so}
 use Rattle.wire.specs.Write.{string, write}
 use Rattle.wire.proofs.Writing.{write-behind}
 use Rattle.rule.specs.declared.Hash.{Hash}
@@ -28,7 +27,7 @@ use Rattle.requests.specs.declared.Called.{Called}
 use Rattle.requests.specs.declared.Outcome.the-variants.{Confirm, Sign, Reply}
 use Rattle.requests.specs.Outcomes.{grantOf, confirmationOf, agreed, signatureOf, lentOf, handed, code}
 use Rattle.requests.specs.Ends.{Ends}
-use Rattle.requests.proofs.EndSteps.{ends, so-yes, so-no, landed, asked, answered, replied, asked-ends, means-itself}
+use Rattle.requests.proofs.EndSteps.{ends, cond-yes, cond-no, landed, asked, answered, replied, asked-ends, means-itself}
 
 -- ## The reply
 
@@ -90,7 +89,7 @@ module _ (answers : Answers) (bytes : List ℕ) (s : State) (x buffer : List ℕ
   onwards = signingData (gatewayOf s x) payload n at
 
   abbrev asking : Plan
-  asking = ask (confirmation n) λ granted. so (fails (gatewayOf s x)) granted onwards
+  asking = ask (confirmation n) λ granted. cond granted onwards (fails (gatewayOf s x))
 
   own : n ≡ e .number
   own = number ∙ ap numberIn there
@@ -100,16 +99,16 @@ module _ (answers : Answers) (bytes : List ℕ) (s : State) (x buffer : List ℕ
 
   -- with Confirm the confirmation that counts is what is said
   confirmer-says : (v : Said) → e .confirm ≡ true → w ≡ v → lent (lentOf answers bytes) (confirmation n) ≡ grantOf v
-  unfolding agreed so lent lentOf
+  unfolding agreed lent lentOf
   confirmer-says v must is = rw own ((rw must at said) ∙ ap grantOf is)
 
   confirmer-next : e .confirm ≡ true → Confirms asking → Confirms here
   unfolding confirming
-  confirmer-next must h = rw (← own) (so-yes _ _ _ _ _ _ _ _ _ (sym must) h)
+  confirmer-next must h = rw (← own) (cond-yes _ _ _ _ _ _ _ _ _ (sym must) h)
 
   -- without it, yes is said
   unconfirmed-says : e .confirm ≡ false → grantOf w ≡ some true
-  unfolding agreed so
+  unfolding agreed
   unconfirmed-says free = sym (rw free at said)
 
   pub confirmer-asked : w ≡ Missing → r ≡ record { outcome = Confirm n; state = s } → out ≡ buffer → Sound s x → Confirms here
@@ -126,7 +125,7 @@ module _ (answers : Answers) (bytes : List ℕ) (s : State) (x buffer : List ℕ
     where
       by-confirm : (b : Bool) → e .confirm ≡ b → Confirms here
       by-confirm true must =
-          confirmer-next must (answered _ _ _ _ _ _ _ _ false (confirmer-says No must is) (so-no _ _ _ _ _ _ _ _ _ refl (landed _ _ _ _ _ _ _ _ h)))
+          confirmer-next must (answered _ _ _ _ _ _ _ _ false (confirmer-says No must is) (landed _ _ _ _ _ _ _ _ h))
       by-confirm false free = let never = rw is at (unconfirmed-says free) in let z : _≡_ {A = ℕ} 0 1 = cc in absurd (omega arith)
 
   pub confirmer-grants : w ≡ Yes → Confirms onwards → Confirms here
@@ -134,8 +133,8 @@ module _ (answers : Answers) (bytes : List ℕ) (s : State) (x buffer : List ℕ
   confirmer-grants is h = by-confirm (e .confirm) refl
     where
       by-confirm : (b : Bool) → e .confirm ≡ b → Confirms here
-      by-confirm true must = confirmer-next must (answered _ _ _ _ _ _ _ _ true (confirmer-says Yes must is) (so-yes _ _ _ _ _ _ _ _ _ refl h))
-      by-confirm false free = rw (← own) (so-no _ _ _ _ _ _ _ _ _ (sym free) h)
+      by-confirm true must = confirmer-next must (answered _ _ _ _ _ _ _ _ true (confirmer-says Yes must is) h)
+      by-confirm false free = rw (← own) (cond-no _ _ _ _ _ _ _ _ _ (sym free) h)
 
 -- ## The key
 

@@ -2,12 +2,11 @@
 use Prim.Native.Nat.{ℕ}
 use mathlib.Core.Path.{_≡_}
 use mathlib.Core.Logic.{_↔_}
-use mathlib.Core.Bool.{Bool, true, false}
+use mathlib.Core.Bool.{Bool, true, false, cond}
 use mathlib.Core.Option.{Option, none, some}
 use mathlib.Core.List.{List, [], _∷_}
 use lib.ListN.{length, getD, take}
 use lib.Dec.{eqb}
-use Rattle.wire.specs.Steps.{so}
 use Rattle.wire.specs.Promises.{OneToOne}
 use Rattle.wire.specs.Write.{write}
 use Rattle.rule.specs.declared.Hash.{Hash}
@@ -40,7 +39,7 @@ confirmationOf (confirmed.Given n granted) = some (record { number = n; answer =
 
 -- what is said of a signature with the key of a place: yes where it has no Confirm, else the confirmation that counts for it
 unfoldable pub agreed : Place → Option (Numbered Bool) → Option Bool
-agreed p c = so (some true) (confirmIn p) (forNumber (numberIn p) c)
+agreed p c = cond (confirmIn p) (forNumber (numberIn p) c) (some true)
 
 abbrev pub signatureOf : Signed → List ℕ → Option (Numbered (Option (List ℕ)))
 signatureOf signed.Missing bytes = none
@@ -115,18 +114,17 @@ OutcomesTold = (o : rule.Outcome) → InNumbers o (outcomeValues (code o))
 -- ## Read back
 
 abbrev pub hashIn : ℕ → Hash
-hashIn bits = so (so Plain (eqb bits 512) Sha512) (eqb bits 256) Sha256
+hashIn bits = cond (eqb bits 256) Sha256 (cond (eqb bits 512) Sha512 Plain)
 
 -- the rule's outcome, by the kind, the values behind it and the reply buffer
 unfoldable pub outcomeFor : ℕ → (ℕ → ℕ) → List ℕ → rule.Outcome
 outcomeFor kind value buffer =
-    so (so (so (so (so (so (refused (value 1))
-    (eqb kind 6) (lands close))
-    (eqb kind 5) (lands (reply (take (value 1) buffer))))
-    (eqb kind 4) (asks (signature (value 1) (value 2) (value 3) (hashIn (value 4)))))
-    (eqb kind 3) (asks (confirmation (value 1))))
-    (eqb kind 2) (asks (check (value 1) (value 2))))
-    (eqb kind 1) (asks (gate (value 1)))
+    cond (eqb kind 1) (asks (gate (value 1)))
+    (cond (eqb kind 2) (asks (check (value 1) (value 2)))
+    (cond (eqb kind 3) (asks (confirmation (value 1)))
+    (cond (eqb kind 4) (asks (signature (value 1) (value 2) (value 3) (hashIn (value 4))))
+    (cond (eqb kind 5) (lands (reply (take (value 1) buffer)))
+    (cond (eqb kind 6) (lands close) (refused (value 1)))))))
 
 abbrev pub outcomeIn : List ℕ → List ℕ → rule.Outcome
 outcomeIn values buffer = outcomeFor (getD values 0 0) (λ i. getD values i 0) buffer

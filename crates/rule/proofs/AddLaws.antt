@@ -10,7 +10,6 @@ use borrow.Author.Tests.{lt-ltb}
 use lib.ListN.{length}
 use lib.Seq.{getD-set-same, getD-set-other}
 use Rattle.wire.specs.Numbers.{Bytes}
-use Rattle.wire.specs.Steps.{so}
 use Rattle.keys.specs.declared.addition.Carried.{Carried}
 use Rattle.keys.specs.declared.addition.Addition.{Addition}
 use Rattle.keys.specs.Kinds.{blobOf}
@@ -164,7 +163,7 @@ room-place g blob room = by-place (placeFor blob (g .places)) refl
 
 storing-succeeds : (answer : (q : Question) → Option (Answer q)) (g : Gateway) (e : Entry) (i to : ℕ) → Storable g e i → answer (check 1 to) ≡ some true
     → follow answer g (storing g e to) .outcome ≡ lands SUCCESS
-unfolding storing so found follow
+unfolding storing found follow
 storing-succeeds answer g e i to s checked = rw (s .fits, lt-ltb _ _ (s .numbers-left), s .place, checked)
 
 pub added-always : AddedAlways

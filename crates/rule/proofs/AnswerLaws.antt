@@ -3,12 +3,11 @@ use Prim.Native.Nat.{ℕ}
 use mathlib.Core.Path.{refl}
 use mathlib.Core.Option.{Option}
 use borrow.Author.Tests.{eq-eqb, ne-eqb}
-use Rattle.wire.specs.Steps.{so}
 use Rattle.rule.specs.Calls.{Numbered, forNumber, lent}
 use Rattle.rule.specs.Refusals.{CountsFor, NumberedAnswers}
 
 counts-for : {A : Type 0} (given : Option (Numbered A)) (n : ℕ) → CountsFor given n (forNumber n given)
-unfolding forNumber so
+unfolding forNumber
 counts-for given n = record {
   own = λ a e. rw (e, eq-eqb n n refl);
   other = λ m a d e. rw (e, ne-eqb m n d);

@@ -27,13 +27,13 @@ use Rattle.rule.specs.Calls.{lent, Call, asks, lands, Result, follow, ca
 use Rattle.rule.specs.Words.{Begins, Carries, HeldAt, atCall, payloadOf, PastGate}
 use Rattle.rule.specs.Rows.{Row, list, add, add-constrained, remove, remove-all, sign, lock, unlock}
 use Rattle.rule.specs.Adding.{addByte}
-use Rattle.rule.proofs.Cases.{so-cases, part-cases, number-cases, found-cases, added-cases, true-not-false}
+use Rattle.rule.proofs.Cases.{cond-cases, part-cases, number-cases, found-cases, added-cases, true-not-false}
 use Rattle.rule.proofs.PlaceLaws.{found-at, entry-found, entry-absent}
 use Rattle.rule.proofs.Effects.{Storable}
 use Rattle.rule.proofs.Leavings.{lands-not-asks}
 use Rattle.rule.proofs.RowLaws.{bodyResult, question-beyond, through-some}
 use Rattle.rule.proofs.RequestLaws.{Ordered}
-use Rattle.rule.proofs.FollowLaws.{Gives, land-gives, ask-gives, so-gives}
+use Rattle.rule.proofs.FollowLaws.{Gives, land-gives, ask-gives, cond-gives}
 
 -- the key that a request names, held in place i
 pub record Chosen (g : Gateway) (payload : List ℕ) (i : ℕ) (e : Entry) : Type 0 where
@@ -98,13 +98,13 @@ module _ (answer : (q : Question) → Option (Answer q)) (g : Gateway) (payload 
     unfolding locking
     locking-cases locked =
         part-cases Follows (stringAt payload 1) (λ _ _. failure) λ f t k _.
-        so-gives answer g P (leb (t - f) passphraseLimit) _ failing λ _. success _ (locked (cutOf payload f t))
+        cond-gives answer g P (leb (t - f) passphraseLimit) _ failing λ _. success _ (locked (cutOf payload f t))
 
     pub unlocking-cases : ((passphrase : List ℕ) → Lands SUCCESS (withLock passphrase g)) → Follows (unlocking g payload)
     unfolding unlocking
     unlocking-cases unlocked =
         part-cases Follows (stringAt payload 1) (λ _ _. failure) λ f t k _.
-        so-gives answer g P (same (g .lock) (cutOf payload f t)) _ failing λ _. success _ (unlocked [])
+        cond-gives answer g P (same (g .lock) (cutOf payload f t)) _ failing λ _. success _ (unlocked [])
 
     abbrev made : Carried → Entry
     made c = entryOf g payload c (blobOf payload 1 (c .places))
@@ -118,13 +118,13 @@ module _ (answer : (q : Question) → Option (Answer q)) (g : Gateway) (payload 
     adding-cases constrained asking stored =
         added-cases Follows (additionAt payload 1 constrained) failure λ c read.
         let e = made c in
-        so-gives answer g P (fit (e .blob) (e .fields) (e .comment)) _ failing λ fits.
-        so-gives answer g P (ltb (g .next) lastNumber) _ failing λ left.
+        cond-gives answer g P (fit (e .blob) (e .fields) (e .comment)) _ failing λ fits.
+        cond-gives answer g P (ltb (g .next) lastNumber) _ failing λ left.
         found-cases Follows (placeFor (e .blob) (g .places)) (λ _. failure) λ i place.
         let storable : Storable g e i = record { fits = fits; numbers-left = ltb-true _ _ left; place = place; number = refl; reading = refl } in
         ask-gives answer g P (check 1 (c .places .end)) _
         (λ _. asking c i read storable)
-        (λ granted says. so-gives answer g P granted _ failing λ agreed. success _ (stored c i read storable (says ∙ ap some agreed)))
+        (λ granted says. cond-gives answer g P granted _ failing λ agreed. success _ (stored c i read storable (says ∙ ap some agreed)))
 
   pub signing-cases : (Failing answer g payload → Lands FAILURE g) → (Closing answer g payload → Lands close g)
       → ((i : ℕ) (e : Entry) → Chosen g payload i e → e .confirm ≡ true → Asks (confirmation (e .number)))
@@ -167,12 +167,12 @@ module _ (answer : (q : Question) → Option (Answer q)) (g : Gateway) (payload 
           let e = held .entry in
           let key : Chosen g payload i e = record { there = held .there; carries = record { from = s .from; to = s .to; next = s .next; read = s .read; is = s .is ∙ sym (held .is) } } in
           rw (entry-found v (g .places) i at, held .there)
-          (so-cases Follows (e .confirm)
+          (cond-cases Follows (e .confirm)
           (λ confirm.
           ask-gives answer g P (confirmation (e .number)) _
           (λ _. confirms i e key confirm)
           (λ granted says.
-          so-cases Follows granted
+          cond-cases Follows granted
           (λ agreed. by-data i e key (λ _. says ∙ ap some agreed))
           (λ denied. failed (said-no i e key confirm (says ∙ ap some denied)))))
           (λ free. by-data i e key (λ confirm. absurd (true-not-false (sym confirm ∙ free)))))

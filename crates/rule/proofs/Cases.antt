@@ -2,7 +2,7 @@
 use Prim.Native.Nat.{ℕ}
 use mathlib.Core.Path.{_≡_, refl}
 use mathlib.Core.Option.{Option, none, some}
-pub use Rattle.wire.proofs.Cases.{so-cases, part-cases, number-cases, true-not-false, and-left, and-right, both-true, not-true}
+pub use Rattle.wire.proofs.Cases.{cond-cases, part-cases, number-cases, true-not-false, and-left, and-right, both-true, not-true}
 use Rattle.keys.specs.declared.addition.Carried.{Carried}
 use Rattle.keys.specs.declared.addition.Addition.{Addition}
 use Rattle.rule.specs.declared.Found.{Found}

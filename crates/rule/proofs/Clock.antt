@@ -6,11 +6,10 @@ use mathlib.Core.Bool.{true}
 use mathlib.Core.Option.{none, some}
 use mathlib.Core.List.{List, [], _∷_, map}
 use borrow.Author.Tests.{le-leb, leb-true}
-use Rattle.wire.specs.Steps.{so}
 use Rattle.keys.specs.declared.constraints.Lifetime.{Lifetime}
 use Rattle.keys.specs.declared.constraints.Lifetime.the-variants.{Forever, For}
 use Rattle.rule.specs.Gateway.{Place, Gateway, millisOf, dueAt, lasting, atClock, advance}
-use Rattle.rule.proofs.Cases.{so-cases}
+use Rattle.rule.proofs.Cases.{cond-cases}
 
 due-later : (c d reading : ℕ) (l : Lifetime) → c ≤ d → dueAt c reading l ≡ true → dueAt d reading l ≡ true
 unfolding dueAt
@@ -21,10 +20,10 @@ due-later c d reading (For seconds) h e =
     le-leb _ _ r
 
 lasting-later : (c d : ℕ) → c ≤ d → (p : Place) → lasting d (lasting c p) ≡ lasting d p
-unfolding lasting so
+unfolding lasting
 lasting-later c d h none = refl
 lasting-later c d h (some e) =
-    so-cases (λ p. lasting d p ≡ lasting d (some e)) (dueAt c (e .reading) (e .lifetime)) (λ t. rw (due-later c d (e .reading) (e .lifetime) h t)) (λ t. refl)
+    cond-cases (λ p. lasting d p ≡ lasting d (some e)) (dueAt c (e .reading) (e .lifetime)) (λ t. rw (due-later c d (e .reading) (e .lifetime) h t)) (λ t. refl)
 
 all-lasting-later : (c d : ℕ) → c ≤ d → (ps : List Place) → map (lasting d) (map (lasting c) ps) ≡ map (lasting d) ps
 all-lasting-later c d h [] = refl

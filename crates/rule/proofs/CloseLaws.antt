@@ -8,7 +8,7 @@ use mathlib.Core.Option.{none}
 use mathlib.Core.List.{List}
 use Rattle.wire.specs.Numbers.{Bytes}
 use Rattle.wire.specs.Read.{cutOf, stringAt, numberAt}
-use Rattle.wire.specs.Steps.{so, part}
+use Rattle.wire.specs.Steps.{part}
 use Rattle.rule.specs.Gateway.{Gateway, locked}
 use Rattle.rule.specs.Rule.{gate, reply, close, FAILURE, SUCCESS, Plan, listing, removingAll, signatureReply, signed, signingData, confirming, signing}
 use Rattle.rule.specs.Calls.{lent, Call, lands, Result, follow, call}
@@ -156,7 +156,7 @@ module _ (g : Gateway) (c : Call) where
       denied e (i, k .there) (k .carries) confirm (own-number (e .number) (c .answers .confirmation) false says)
 
   fails-fail : PastGate g c → locked g ≡ false → Begins 13 (payloadOf c) → SignFails g c → call g c .outcome ≡ lands FAILURE
-  unfolding signing confirming part so follow
+  unfolding signing confirming part follow
   fails-fail past state begins (absent v s others) =
       let nothing = differs-absent v (atCall g c .places) (every-of (λ x. x .blob ≢ v) (atCall g c .places) (λ i e held. others e (i, held))) in
       rw (past-gate sign g c past state begins, s .read, s .is, entry-absent v (atCall g c .places) nothing)

@@ -5,7 +5,6 @@ use mathlib.Core.Path.{_≡_, refl, sym, ap, _∙_, subst}
 use mathlib.Core.Bool.{Bool, true, false}
 use mathlib.Core.Option.{Option, none, some}
 use mathlib.Core.List.{List, [], _∷_}
-use Rattle.wire.specs.Steps.{so}
 use Rattle.rule.specs.Gateway.{Gateway, advance}
 use Rattle.rule.specs.Rule.{Question, Answer, Plan, land, ask, rule}
 use Rattle.rule.specs.Calls.{given, lent, Frame, Call, refusal, refused, asks, lands, Result, follow, served, call}
@@ -125,7 +124,7 @@ module _ (frameOf : Call → Frame) (oracleOf : Call → Oracle) where
   From cs b m h c o r = Kept (events (r .gateway) cs) → Crosses b m h (eventBy c r ∷ events (r .gateway) cs) (endOf (r .gateway) cs)
 
   crossing : (cs : List Call) (b : Bool) (m : ℕ) (g h : Gateway) → Together b m g h → Kept (events g cs) → Crosses b m h (events g cs) (endOf g cs)
-  unfolding events turnsFrom heardIn endOf askedIn oneAtATime oneAtATimeEnd servedAlone heard isAccepted so turn asked From
+  unfolding events turnsFrom heardIn endOf askedIn oneAtATime oneAtATimeEnd servedAlone heard isAccepted turn asked From
   crossing [] b m g h t = λ _. record { replies = refl; end-state = t .same }
   crossing (c ∷ cs) b m g h t = λ keeps.
       let now : ℕ = max m (c .reading) in

@@ -4,13 +4,12 @@ use native.Mathlib.Omega.{arith}
 use mathlib.Core.Path.{_≡_, refl, ap, subst}
 use mathlib.Core.Bool.{true, false}
 use mathlib.Core.List.{List, [], _∷_, _++_}
-use Rattle.wire.specs.Steps.{so}
 use Rattle.rule.specs.Gateway.{Gateway, advance}
 use Rattle.rule.specs.Rule.{Landing}
 use Rattle.rule.specs.Calls.{Call, Outcome, refused, asks, lands, call}
 use Rattle.rule.specs.Runs.{Event, events, endOf, callsOf, RunsTo, Every, isAccepted, acceptedIn, heard, heardIn, Turn, turn, turnsFrom, alone, servedAlone, oneAtATime}
 use Rattle.rule.specs.Order.{EveryAccepted, Keeps, ownFrame, ownAnswers, AsLent, AloneFinds, Demand3, RefusedUnread, RefusedDropOut, NeverFall, OwnReadings}
-use Rattle.rule.proofs.Cases.{so-cases, true-not-false}
+use Rattle.rule.proofs.Cases.{cond-cases, true-not-false}
 use Rattle.rule.proofs.Plans.{asks-not-lands, refused-not-lands}
 use Rattle.rule.proofs.Crossing.{eventBy, planOf, own-cases, own-agrees, any-order}
 use Rattle.rule.proofs.RowLaws.{same-landing}
@@ -42,10 +41,10 @@ record Unread (m : ℕ) (few es : List Event) : Type 0 where
   same-heard : heardIn m few ≡ heardIn m es
 
 unread : (es : List Event) (m : ℕ) → Unread m (acceptedIn es) es
-unfolding acceptedIn isAccepted turnsFrom turn heardIn heard so
+unfolding acceptedIn isAccepted turnsFrom turn heardIn heard
 unread [] m = record { same-turns = refl; same-heard = refl }
 unread (e ∷ es) m =
-    so-cases (λ few. Unread m few (e ∷ es)) (isAccepted (e .outcome))
+    cond-cases (λ few. Unread m few (e ∷ es)) (isAccepted (e .outcome))
     (λ _. let rest = unread es (heard m e) in record { same-turns = ap (λ ts. turn (heard m e) (e .by) (e .outcome) ++ ts) (rest .same-turns); same-heard = rest .same-heard })
     (λ not-accepted. without (e .outcome) not-accepted (unread es m))
   where
@@ -69,7 +68,7 @@ pub refused-drop-out : RefusedDropOut
 unfolding events endOf acceptedIn
 refused-drop-out g [] = record { events-are = refl; end-is = refl }
 refused-drop-out g (c ∷ cs) =
-    so-cases (λ few. RunsTo g few (endOf (call g c .gateway) cs)) (isAccepted (call g c .outcome))
+    cond-cases (λ few. RunsTo g few (endOf (call g c .gateway) cs)) (isAccepted (call g c .outcome))
     (λ _. let rest = refused-drop-out (call g c .gateway) cs in record { events-are = ap (λ es. eventBy c (call g c) ∷ es) (rest .events-are); end-is = rest .end-is })
     (λ not-accepted. rw (refused-stays g c not-accepted) (refused-drop-out g cs))
 
@@ -79,7 +78,7 @@ abbrev Own : Turn → Type 0
 Own t = t .reading ≡ t .by .reading
 
 own-from : (es : List Event) (m : ℕ) → NeverFall m es → Every Own (turnsFrom m es)
-unfolding isAccepted turnsFrom turn heard so NeverFall
+unfolding isAccepted turnsFrom turn heard NeverFall
 own-from [] m _ = tt
 own-from (e ∷ es) m (low, rest) = by (e .outcome) low (own-from es (heard m e) rest)
   where

@@ -18,7 +18,7 @@ use Rattle.rule.specs.declared.Found.the-variants.{At}
 use Rattle.rule.specs.Gateway.{Entry, Gateway, locked, opened, seek, holds, entryWith, placeFor, withLock, without, withoutAll, withEntry}
 use Rattle.rule.specs.Soundness.{fit}
 use Rattle.rule.specs.Rule.{Landing, FAILURE, SUCCESS, Plan, listing, removing, removingAll, locking, unlocking, signed, signingData, confirming, signing, entryOf, storing, adding, gated, row, table, rule}
-use Rattle.rule.proofs.Cases.{so-cases, part-cases, number-cases, found-cases, added-cases}
+use Rattle.rule.proofs.Cases.{cond-cases, part-cases, number-cases, found-cases, added-cases}
 use Rattle.rule.proofs.Plans.{EveryLanding}
 
 -- an entry that may be stored, at a place for it
@@ -51,7 +51,7 @@ module _ (g : Gateway) where
   unfolding locking
   locking-effect payload =
       part-cases Lands (stringAt payload 1) (λ _ _. leaves refl) λ f t k e.
-      so-cases Lands (leb (t - f) passphraseLimit)
+      cond-cases Lands (leb (t - f) passphraseLimit)
       (λ fits.
       let w = string-read payload 1 f t k e in
       let l = part-length payload f t (omega arith) (w .within) in
@@ -63,7 +63,7 @@ module _ (g : Gateway) where
   unfolding unlocking
   unlocking-effect payload =
       part-cases Lands (stringAt payload 1) (λ _ _. leaves refl) λ f t k _.
-      so-cases Lands (same (g .lock) (cutOf payload f t)) (λ _. locks [] zero-le refl refl) (λ _. leaves refl)
+      cond-cases Lands (same (g .lock) (cutOf payload f t)) (λ _. locks [] zero-le refl refl) (λ _. leaves refl)
 
   data-effect : (payload : List ℕ) (n at : ℕ) → Lands (signingData g payload n at)
   unfolding signingData signed
@@ -86,19 +86,19 @@ module _ (g : Gateway) where
       by-key none at = leaves refl
       by-key (some e) at =
           let signer = data-effect payload (e .number) at in
-          so-cases Lands (e .confirm) (λ _ granted. so-cases Lands granted (λ _. signer) (λ _. leaves refl)) (λ _. signer)
+          cond-cases Lands (e .confirm) (λ _ granted. cond-cases Lands granted (λ _. signer) (λ _. leaves refl)) (λ _. signer)
 
   adding-effect : (constrained : Bool) (payload : List ℕ) → Lands (adding constrained g payload)
   unfolding adding storing
   adding-effect constrained payload =
       added-cases Lands (additionAt payload 1 constrained) (leaves refl) λ c _.
       let e = entryOf g payload c (blobOf payload 1 (c .places)) in
-      so-cases Lands (fit (e .blob) (e .fields) (e .comment))
+      cond-cases Lands (fit (e .blob) (e .fields) (e .comment))
       (λ fits.
-      so-cases Lands (ltb (g .next) lastNumber)
+      cond-cases Lands (ltb (g .next) lastNumber)
       (λ left.
       found-cases Lands (placeFor (e .blob) (g .places)) (λ _. leaves refl) λ i place granted.
-      so-cases Lands granted
+      cond-cases Lands granted
       (λ _. stores e i (record { fits = fits; numbers-left = ltb-true _ _ left; place = place; number = refl; reading = refl }) refl refl)
       (λ _. leaves refl))
       (λ _. leaves refl))
@@ -107,14 +107,14 @@ module _ (g : Gateway) where
   row-effect : (first byte : ℕ) (fit : Bool) (class : ℕ) (body below : Plan) → Lands body → Lands below → Lands (row g first byte fit class body below)
   unfolding row gated
   row-effect first byte fit class body below h k =
-      so-cases Lands (eqb first byte)
-      (λ _. so-cases Lands fit (λ _ granted. so-cases Lands granted (λ _. h) (λ _. leaves refl)) (λ _. leaves refl))
+      cond-cases Lands (eqb first byte)
+      (λ _. cond-cases Lands fit (λ _ granted. cond-cases Lands granted (λ _. h) (λ _. leaves refl)) (λ _. leaves refl))
       (λ _. k)
 
   pub rule-effect : (payload : List ℕ) → Lands (rule g payload)
   unfolding rule table listing removingAll
   rule-effect payload =
-      so-cases Lands (ltb 0 (length payload))
+      cond-cases Lands (ltb 0 (length payload))
       (λ _.
       row-effect _ 11 (opened g) 1 _ _ (leaves refl)
       (row-effect _ 17 (opened g) 2 _ _ (adding-effect false payload)

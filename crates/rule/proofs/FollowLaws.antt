@@ -1,12 +1,11 @@
 -- What holds of the result of a plan with lent answers, step by step.
 use mathlib.Core.Path.{_≡_}
-use mathlib.Core.Bool.{Bool, true}
+use mathlib.Core.Bool.{Bool, true, cond}
 use mathlib.Core.Option.{Option, none, some}
-use Rattle.wire.specs.Steps.{so}
 use Rattle.rule.specs.Gateway.{Gateway}
 use Rattle.rule.specs.Rule.{Question, Answer, Landing, FAILURE, Plan, land, ask, fails}
 use Rattle.rule.specs.Calls.{asks, lands, Result, follow}
-use Rattle.rule.proofs.Cases.{so-cases, given-cases}
+use Rattle.rule.proofs.Cases.{cond-cases, given-cases}
 
 module _ (answer : (q : Question) → Option (Answer q)) (g : Gateway) (P : Result → Type 0) where
   abbrev pub Gives : Plan → Type 0
@@ -21,5 +20,5 @@ module _ (answer : (q : Question) → Option (Answer q)) (g : Gateway) (P : Resu
   unfolding follow
   ask-gives q onwards asking onward = given-cases P (answer q) asking onward
 
-  pub so-gives : (b : Bool) (plan : Plan) → P (record { outcome = lands FAILURE; gateway = g }) → (b ≡ true → Gives plan) → Gives (so (fails g) b plan)
-  so-gives b plan failing h = so-cases Gives b h (λ _. land-gives FAILURE g failing)
+  pub cond-gives : (b : Bool) (plan : Plan) → P (record { outcome = lands FAILURE; gateway = g }) → (b ≡ true → Gives plan) → Gives (cond b plan (fails g))
+  cond-gives b plan failing h = cond-cases Gives b h (λ _. land-gives FAILURE g failing)

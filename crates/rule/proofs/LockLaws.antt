@@ -7,7 +7,7 @@ use borrow.Author.Tests.{leb-true, le-leb}
 use lib.ListN.{length}
 use lib.Dec.{leb}
 use Rattle.wire.specs.Limits.{passphraseLimit}
-use Rattle.wire.specs.Steps.{so, part}
+use Rattle.wire.specs.Steps.{part}
 use Rattle.wire.specs.Read.{cutOf, same, stringAt}
 use Rattle.wire.proofs.Reading.{string-read, same-rule}
 use Rattle.wire.proofs.Format.{part-length}
@@ -17,7 +17,7 @@ use Rattle.rule.specs.Calls.{lent, Call, lands, follow, call}
 use Rattle.rule.specs.Words.{Begins, Carries, atCall, payloadOf}
 use Rattle.rule.specs.Rows.{lock, unlock}
 use Rattle.rule.specs.Locking.{LockRule, LockHolds, UnlockRule, UnlockOpens}
-use Rattle.rule.proofs.Cases.{so-cases, part-cases}
+use Rattle.rule.proofs.Cases.{cond-cases, part-cases}
 use Rattle.rule.proofs.RequestLaws.{one-carried}
 use Rattle.rule.proofs.RowLaws.{past-gate, OnSuccess, failure-shows, success-shows}
 
@@ -39,7 +39,7 @@ locking-shows : (g : Gateway) (payload : List ℕ) → OnSuccess (Locks g payloa
 unfolding locking
 locking-shows g payload =
     part-cases Shows (stringAt payload 1) (λ _ _. failure-shows) λ f t k e.
-    so-cases Shows (leb (t - f) passphraseLimit)
+    cond-cases Shows (leb (t - f) passphraseLimit)
     (λ fits _.
     let s : Carries (cutOf payload f t) payload = record { from = f; to = t; next = k; read = e; is = refl } in
     let l = carries-length s in
@@ -55,7 +55,7 @@ lock-shows g c begins = success-shows (Locks (atCall g c) (payloadOf c)) lock g 
 
 locking-succeeds : (g : Gateway) (c : Call) (v : List ℕ) → Carries v (payloadOf c) → length v ≤ passphraseLimit
     → follow (lent (c .answers)) g (locking g (payloadOf c)) .outcome ≡ lands SUCCESS
-unfolding locking part so follow
+unfolding locking part follow
 locking-succeeds g c v s h =
     let l = carries-length s in
     let fits : s .to - s .from ≤ passphraseLimit = omega arith in
@@ -84,7 +84,7 @@ unlocking-shows : (g : Gateway) (payload : List ℕ) → OnSuccess (Unlocks g pa
 unfolding unlocking
 unlocking-shows g payload =
     part-cases Shows (stringAt payload 1) (λ _ _. failure-shows) λ f t k e.
-    so-cases Shows (same (g .lock) (cutOf payload f t))
+    cond-cases Shows (same (g .lock) (cutOf payload f t))
     (λ equal _. record { carries = record { from = f; to = t; next = k; read = e; is = sym (same-rule _ _ .0 equal) }; opens = refl })
     (λ _. failure-shows)
   where
@@ -96,7 +96,7 @@ unlock-shows g c begins = success-shows (Unlocks (atCall g c) (payloadOf c)) unl
 
 unlocking-succeeds : (g : Gateway) (c : Call) → Carries (g .lock) (payloadOf c)
     → follow (lent (c .answers)) g (unlocking g (payloadOf c)) .outcome ≡ lands SUCCESS
-unfolding unlocking part so follow
+unfolding unlocking part follow
 unlocking-succeeds g c s = rw (s .read, same-rule _ _ .1 (sym (s .is)))
 
 pub unlock-rule : UnlockRule

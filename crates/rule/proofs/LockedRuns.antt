@@ -1,13 +1,12 @@
 -- Between a lock and an unlock: what the rule does while locked, a run of it, and the lock's success.
 use Prim.Native.Nat.{ℕ, max, zero-le}
 use mathlib.Core.Path.{_≡_, refl, ap}
-use mathlib.Core.Bool.{Bool, true, false}
+use mathlib.Core.Bool.{Bool, true, false, cond}
 use mathlib.Core.Option.{Option, none}
 use mathlib.Core.List.{List, [], _∷_}
 use borrow.Author.Tests.{ltb-true, lt-ltb, eqb-true}
 use lib.ListN.{length}
 use lib.Dec.{ltb, eqb}
-use Rattle.wire.specs.Steps.{so}
 use Rattle.wire.specs.Read.{cutOf, same, stringAt}
 use Rattle.rule.specs.Gateway.{Gateway, locked, opened, advance}
 use Rattle.rule.specs.Rule.{Question, gate, Answer, Landing, FAILURE, SUCCESS, Plan, land, ask, fails, unlocking, gated, row, table, rule}
@@ -15,7 +14,7 @@ use Rattle.rule.specs.Calls.{Call, asks, Result, call}
 use Rattle.rule.specs.Runs.{Event, events, endOf, Every, isAccepted, heard, heardIn, greatest, turn, turnsFrom, someAccepted, Landed, alone}
 use Rattle.rule.specs.Order.{settled, ownAnswers, NoUnlocking, EveryQuestion, WhileLocked, BetweenLockAndUnlock, Needs, here, behind}
 use Rattle.rule.specs.Words.{Begins}
-use Rattle.rule.proofs.Cases.{so-cases, part-cases}
+use Rattle.rule.proofs.Cases.{cond-cases, part-cases}
 use Rattle.rule.proofs.Clock.{advance-lock}
 use Rattle.rule.proofs.Plans.{EveryLanding, alone-has, refused-not-asks}
 use Rattle.rule.proofs.Crossing.{landingResult, eventBy, planOf, own-cases, Together, together, together-asked, advance-settled}
@@ -43,19 +42,19 @@ Gate7 payload q = (q ≡ gate 7) × Begins 23 payload
 module _ (g : Gateway) (h : locked g ≡ true) where
   module _ (P : Plan → Type 0) where
     shut-row : (first byte class : ℕ) (body below : Plan) → P (fails g) → P below → P (row g first byte (opened g) class body below)
-    unfolding row gated so
-    shut-row first byte class body below f b = so-cases P (eqb first byte) (λ _. rw h f) (λ _. b)
+    unfolding row gated
+    shut-row first byte class body below f b = cond-cases P (eqb first byte) (λ _. rw h f) (λ _. b)
 
-    open-row : (first byte class : ℕ) (body : Plan) → P (fails g) → (first ≡ byte → P (ask (gate class) λ granted. so (fails g) granted body))
+    open-row : (first byte class : ℕ) (body : Plan) → P (fails g) → (first ≡ byte → P (ask (gate class) λ granted. cond granted body (fails g)))
         → P (row g first byte (locked g) class body (fails g))
-    unfolding row gated so
-    open-row first byte class body f b = so-cases P (eqb first byte) (λ e. rw h (b (eqb-true _ _ e))) (λ _. f)
+    unfolding row gated
+    open-row first byte class body f b = cond-cases P (eqb first byte) (λ e. rw h (b (eqb-true _ _ e))) (λ _. f)
 
     -- the rule fails, or is at an unlock's gate
-    pub locked-cases : (payload : List ℕ) → P (fails g) → (Begins 23 payload → P (ask (gate 7) λ granted. so (fails g) granted (unlocking g payload))) → P (rule g payload)
+    pub locked-cases : (payload : List ℕ) → P (fails g) → (Begins 23 payload → P (ask (gate 7) λ granted. cond granted (unlocking g payload) (fails g))) → P (rule g payload)
     unfolding rule table
     locked-cases payload f unlock =
-        so-cases P (ltb 0 (length payload))
+        cond-cases P (ltb 0 (length payload))
         (λ some-byte.
         shut-row _ 11 1 _ _ f
         (shut-row _ 17 2 _ _ f
@@ -75,10 +74,10 @@ module _ (g : Gateway) (h : locked g ≡ true) where
     unfolding unlocking
     locked-lands =
         locked-cases Lands payload (stays refl refl) λ begins granted.
-        so-cases Lands granted
+        cond-cases Lands granted
         (λ _.
         part-cases Lands (stringAt payload 1) (λ _ _. stays refl refl) λ f t k _.
-        so-cases Lands (same (g .lock) (cutOf payload f t)) (λ _. unlocks begins refl) (λ _. stays refl refl))
+        cond-cases Lands (same (g .lock) (cutOf payload f t)) (λ _. unlocks begins refl) (λ _. stays refl refl))
         (λ _. stays refl refl)
 
     abbrev Asks : Plan → Type 0
@@ -90,8 +89,8 @@ module _ (g : Gateway) (h : locked g ≡ true) where
         locked-cases Asks payload tt λ begins. (
           (refl, begins),
           λ granted.
-              so-cases Asks granted
-              (λ _. part-cases Asks (stringAt payload 1) (λ _ _. tt) λ f t k _. so-cases Asks (same (g .lock) (cutOf payload f t)) (λ _. tt) (λ _. tt))
+              cond-cases Asks granted
+              (λ _. part-cases Asks (stringAt payload 1) (λ _ _. tt) λ f t k _. cond-cases Asks (same (g .lock) (cutOf payload f t)) (λ _. tt) (λ _. tt))
               (λ _. tt),
         )
 
@@ -116,7 +115,7 @@ From cs b m before c o r =
 asked-while-locked : (cs : List Call) (b : Bool) (m : ℕ) (g before : Gateway) (c : Call) (q : Question) → Gate7 (c .frame .payload) q
     → Run cs true (max m (c .reading)) g before
     → From cs b m before c none (record { outcome = asks q; gateway = g })
-unfolding From turnsFrom heardIn someAccepted heard isAccepted so turn
+unfolding From turnsFrom heardIn someAccepted heard isAccepted turn
 asked-while-locked cs b m g before c q gated run no-unlocking =
     let after = run no-unlocking in
     record { all-fail = after .all-fail; exactly = after .exactly; only-gate-7 = (λ p e. let same : q ≡ p = cc in rw same at gated, after .only-gate-7) }
@@ -124,7 +123,7 @@ asked-while-locked cs b m g before c q gated run no-unlocking =
 landed-while-locked : (cs : List Call) (b : Bool) (m : ℕ) (g before : Gateway) (c : Call) (x : Landed) → LockedLanding g (c .frame .payload) (x .landing) (x .gateway)
     → Run cs true (max m (c .reading)) g before
     → From cs b m before c none (landingResult x)
-unfolding From turnsFrom heardIn someAccepted heard isAccepted so turn
+unfolding From turnsFrom heardIn someAccepted heard isAccepted turn
 landed-while-locked cs b m g before c x (unlocks begins s) run no-unlocking = absurd (no-unlocking .0 (begins, s))
 landed-while-locked cs b m g before c x (stays f e) run no-unlocking =
     rw e
@@ -132,7 +131,7 @@ landed-while-locked cs b m g before c x (stays f e) run no-unlocking =
     record { all-fail = (f, after .all-fail); exactly = after .exactly; only-gate-7 = (λ q never. absurd (lands-not-asks _ q never), after .only-gate-7) })
 
 stays-locked : (cs : List Call) (b : Bool) (m : ℕ) (g before : Gateway) → Together b m g before → locked g ≡ true → Run cs b m g before
-unfolding events turnsFrom heardIn endOf someAccepted heard isAccepted so turn From
+unfolding events turnsFrom heardIn endOf someAccepted heard isAccepted turn From
 stays-locked [] b m g before t h = λ _. record { all-fail = tt; exactly = t .same; only-gate-7 = tt }
 stays-locked (c ∷ cs) b m g before t h =
     let now = advance (c .reading) g in

@@ -11,12 +11,11 @@ use lib.Seq.{getD-set-same, getD-set-other}
 use lib.Dec.{eqb}
 use borrow.Author.Tests.{eqb-true, eqb-false}
 use Rattle.wire.specs.Read.{same}
-use Rattle.wire.specs.Steps.{so}
 use Rattle.wire.proofs.Reading.{same-rule}
 use Rattle.rule.specs.declared.Found.the-variants.{At, Nothing}
 use Rattle.rule.specs.Gateway.{Entry, Place, dueAt, lasting, seek, holds, isFree, entryWith, placeFor, vacate}
 use Rattle.rule.specs.Soundness.{EveryEntry, Apart, Distinct}
-use Rattle.rule.proofs.Cases.{so-cases, found-cases, true-not-false}
+use Rattle.rule.proofs.Cases.{cond-cases, found-cases, true-not-false}
 
 pub some-not-none : {A : Type 0} {a : A} → some a ≡ none → ⊥
 some-not-none e = let z : _≡_ {A = ℕ} 0 1 = cc in omega arith
@@ -110,7 +109,7 @@ pub lasting-frees : (clock : ℕ) → Frees (lasting clock)
 unfolding lasting
 lasting-frees clock = record {
   free = refl;
-  taken = λ e. so-cases (λ p. (p ≡ none) ⊎ (p ≡ some e)) (dueAt clock (e .reading) (e .lifetime)) (λ _. inl refl) (λ _. inr refl);
+  taken = λ e. cond-cases (λ p. (p ≡ none) ⊎ (p ≡ some e)) (dueAt clock (e .reading) (e .lifetime)) (λ _. inl refl) (λ _. inr refl);
 }
 
 pub vacate-frees : Frees vacate
@@ -207,7 +206,7 @@ module _ (test : Place → Bool) where
   seek-from : (k : ℕ) (ps : List Place) (i : ℕ) → seek test k ps ≡ At i → (n : ℕ) × (i ≡ k + n) × First test ps n
   seek-from k [] i = λ e. absurd (at-not-nothing (sym e))
   seek-from k (p ∷ ps) i =
-      so-cases (λ f. f ≡ At i → (n : ℕ) × (i ≡ k + n) × First test (p ∷ ps) n) (test p)
+      cond-cases (λ f. f ≡ At i → (n : ℕ) × (i ≡ k + n) × First test (p ∷ ps) n) (test p)
       (λ t e. (0, let h = same-place e in omega arith, first-here p ps t))
       (λ t e. let (n, h, f) = seek-from (suc k) ps i e in (suc n, omega arith, first-behind p ps n t f))
 
@@ -215,7 +214,6 @@ module _ (test : Place → Bool) where
   seek-first ps i e = let (n, h, f) = seek-from 0 ps i e in let m : n ≡ i = omega arith in rw m at f
 
   first-from : (k : ℕ) (ps : List Place) (i : ℕ) → First test ps i → seek test k ps ≡ At (k + i)
-  unfolding so
   first-from k [] i f = absurd (let h = f .inside in omega arith)
   first-from k (p ∷ ps) zero f = let k0 : k ≡ k + 0 = omega arith in rw (f .passes) (ap At k0)
   first-from k (p ∷ ps) (suc i) f =
@@ -233,12 +231,11 @@ module _ (test : Place → Bool) where
   pub seek-none : (k : ℕ) (ps : List Place) → seek test k ps ≡ Nothing → NonePasses test ps
   seek-none k [] = λ e j h. absurd (omega arith)
   seek-none k (p ∷ ps) =
-      so-cases (λ f. f ≡ Nothing → NonePasses test (p ∷ ps)) (test p)
+      cond-cases (λ f. f ≡ Nothing → NonePasses test (p ∷ ps)) (test p)
       (λ t never. absurd (at-not-nothing never))
       (λ t e. none-cons p ps t (seek-none (suc k) ps e))
 
   none-seek : (k : ℕ) (ps : List Place) → NonePasses test ps → seek test k ps ≡ Nothing
-  unfolding so
   none-seek k [] f = refl
   none-seek k (p ∷ ps) f = rw (f 0 (omega arith)) (none-seek (suc k) ps (λ j h. f (suc j) (omega arith)))
 
@@ -269,7 +266,7 @@ found-at blob ps i e = let (x, h, s) = holds-true blob (getD ps i none) (seek-fi
 
 -- the entry that has the blob stands where the search ends
 first-entry : (blob : List ℕ) (ps : List Place) (i : ℕ) → First (holds blob) ps i → entryWith blob ps ≡ getD ps i none
-unfolding entryWith so
+unfolding entryWith
 first-entry blob [] i f = absurd (let h = f .inside in omega arith)
 first-entry blob (p ∷ ps) zero f = rw (f .passes)
 first-entry blob (p ∷ ps) (suc i) f =
@@ -280,7 +277,7 @@ pub entry-found : (blob : List ℕ) (ps : List Place) (i : ℕ) → seek (holds 
 entry-found blob ps i e = first-entry blob ps i (seek-first (holds blob) ps i e)
 
 none-entry : (blob : List ℕ) (ps : List Place) → NonePasses (holds blob) ps → entryWith blob ps ≡ none
-unfolding entryWith so
+unfolding entryWith
 none-entry blob [] f = refl
 none-entry blob (p ∷ ps) f = rw (f 0 (omega arith)) (none-entry blob ps (λ j h. f (suc j) (omega arith)))
 

@@ -2,14 +2,13 @@
 use Prim.Native.Nat.{ℕ, suc, _-_, _≤_, zero-le, suc-le-suc}
 use native.Mathlib.Nat.{le-step}
 use mathlib.Core.Path.{_≡_, sym, subst}
-use mathlib.Core.Bool.{Bool, true, false}
+use mathlib.Core.Bool.{Bool, true, false, cond}
 use mathlib.Core.Option.{Option, none, some}
 use mathlib.Core.List.{List}
 use lib.ListN.{length}
 use lib.Dec.{leb, ltb, eqb}
 use Rattle.wire.specs.Limits.{passphraseLimit, lastNumber}
 use Rattle.wire.specs.Read.{cutOf, same, stringAt, numberAt}
-use Rattle.wire.specs.Steps.{so}
 use Rattle.keys.specs.Kinds.{blobOf}
 use Rattle.keys.specs.Additions.{additionAt}
 use Rattle.rule.specs.Gateway.{Entry, Gateway, locked, opened, advance, seek, holds, entryWith, placeFor}
@@ -18,7 +17,7 @@ use Rattle.rule.specs.Rule.{Question, gate, check, confirmation, signatu
 use Rattle.rule.specs.Calls.{given, lent, asks, Result, follow, served, refusal, call}
 use Rattle.rule.specs.Runs.{Oracle}
 use Rattle.rule.specs.Order.{Needs, here, behind, QuestionRule, questions, AtMostThree}
-use Rattle.rule.proofs.Cases.{so-cases, part-cases, number-cases, found-cases, added-cases, given-cases}
+use Rattle.rule.proofs.Cases.{cond-cases, part-cases, number-cases, found-cases, added-cases, given-cases}
 use Rattle.rule.proofs.Plans.{asks-not-lands, refused-not-asks}
 
 -- ## How many
@@ -35,8 +34,8 @@ module _ (oracle : Oracle) (g : Gateway) where
   unfolding questions
   ask-asks n q onwards h = suc-le-suc (h (oracle q))
 
-  so-asks : (n : ℕ) (b : Bool) (plan : Plan) → AtMost n plan → AtMost n (so (fails g) b plan)
-  so-asks n b plan h = so-cases (AtMost n) b (λ _. h) (λ _. land-asks n _ g)
+  cond-asks : (n : ℕ) (b : Bool) (plan : Plan) → AtMost n plan → AtMost n (cond b plan (fails g))
+  cond-asks n b plan h = cond-cases (AtMost n) b (λ _. h) (λ _. land-asks n _ g)
 
   data-asks : (payload : List ℕ) (n at : ℕ) → AtMost 1 (signingData g payload n at)
   unfolding signingData signed
@@ -59,17 +58,17 @@ module _ (oracle : Oracle) (g : Gateway) where
       by-key none at = land-asks 2 _ g
       by-key (some e) at =
           let signer = data-asks payload (e .number) at in
-          so-cases (AtMost 2) (e .confirm) (λ _. ask-asks 1 (confirmation (e .number)) _ (λ granted. so-asks 1 granted _ signer)) (λ _. le-step signer)
+          cond-cases (AtMost 2) (e .confirm) (λ _. ask-asks 1 (confirmation (e .number)) _ (λ granted. cond-asks 1 granted _ signer)) (λ _. le-step signer)
 
   adding-asks : (constrained : Bool) (payload : List ℕ) → AtMost 2 (adding constrained g payload)
   unfolding adding storing
   adding-asks constrained payload =
       added-cases (AtMost 2) (additionAt payload 1 constrained) (land-asks 2 _ g) λ c _.
       let e = entryOf g payload c (blobOf payload 1 (c .places)) in
-      so-asks 2 (fit (e .blob) (e .fields) (e .comment)) _
-      (so-asks 2 (ltb (g .next) lastNumber) _
+      cond-asks 2 (fit (e .blob) (e .fields) (e .comment)) _
+      (cond-asks 2 (ltb (g .next) lastNumber) _
       (found-cases (AtMost 2) (placeFor (e .blob) (g .places)) (λ _. land-asks 2 _ g) λ i _.
-      ask-asks 1 (check 1 (c .places .end)) _ (λ granted. so-asks 1 granted _ (land-asks 1 _ _))))
+      ask-asks 1 (check 1 (c .places .end)) _ (λ granted. cond-asks 1 granted _ (land-asks 1 _ _))))
 
   removing-asks : (payload : List ℕ) → AtMost 2 (removing g payload)
   unfolding removing
@@ -81,23 +80,23 @@ module _ (oracle : Oracle) (g : Gateway) where
   unfolding locking
   locking-asks payload =
       part-cases (AtMost 2) (stringAt payload 1) (λ _ _. land-asks 2 _ g) λ f t k _.
-      so-asks 2 (leb (t - f) passphraseLimit) _ (land-asks 2 _ _)
+      cond-asks 2 (leb (t - f) passphraseLimit) _ (land-asks 2 _ _)
 
   unlocking-asks : (payload : List ℕ) → AtMost 2 (unlocking g payload)
   unfolding unlocking
   unlocking-asks payload =
       part-cases (AtMost 2) (stringAt payload 1) (λ _ _. land-asks 2 _ g) λ f t k _.
-      so-asks 2 (same (g .lock) (cutOf payload f t)) _ (land-asks 2 _ _)
+      cond-asks 2 (same (g .lock) (cutOf payload f t)) _ (land-asks 2 _ _)
 
   row-asks : (first byte : ℕ) (fit : Bool) (class : ℕ) (body below : Plan) → AtMost 2 body → AtMost 3 below → AtMost 3 (row g first byte fit class body below)
   unfolding row gated
   row-asks first byte fit class body below h k =
-      so-cases (AtMost 3) (eqb first byte) (λ _. so-asks 3 fit _ (ask-asks 2 (gate class) _ (λ granted. so-asks 2 granted body h))) (λ _. k)
+      cond-cases (AtMost 3) (eqb first byte) (λ _. cond-asks 3 fit _ (ask-asks 2 (gate class) _ (λ granted. cond-asks 2 granted body h))) (λ _. k)
 
   rule-asks : (payload : List ℕ) → AtMost 3 (rule g payload)
   unfolding rule table listing removingAll
   rule-asks payload =
-      so-asks 3 (ltb 0 (length payload)) _
+      cond-asks 3 (ltb 0 (length payload)) _
       (row-asks _ 11 (opened g) 1 _ _ (land-asks 2 _ g)
       (row-asks _ 17 (opened g) 2 _ _ (adding-asks false payload)
       (row-asks _ 25 (opened g) 2 _ _ (adding-asks true payload)

@@ -3,17 +3,17 @@ use Prim.Native.Nat.{ℕ, _≤_}
 use native.Mathlib.Omega.{arith}
 use mathlib.Core.Path.{_≡_, sym, _∙_}
 use mathlib.Core.Logic.{_≢_}
-use mathlib.Core.Bool.{true, false}
+use mathlib.Core.Bool.{true, false, not}
 use mathlib.Core.Option.{Option, none, some}
-use borrow.Author.Tests.{leb-true, eqb-true}
-use lib.Dec.{leb, eqb}
+use borrow.Author.Tests.{eqb-true, ltb-false, not-false, not-true}
+use lib.Dec.{eqb, ltb}
 use lib.ListN.{length}
 use Rattle.wire.specs.Limits.{payloadLimit, storeSize, signatureLimit, replyRoom}
 use Rattle.rule.specs.Gateway.{Gateway, advance}
 use Rattle.rule.specs.Soundness.{sound}
 use Rattle.rule.specs.Rule.{Question, Answer, Plan, land, ask, rule}
 use Rattle.rule.specs.Calls.{lent, lentLength, refusalOf, Call, refused, Result, follow, served, refusal, call}
-use Rattle.rule.proofs.Cases.{so-cases, given-cases}
+use Rattle.rule.proofs.Cases.{cond-cases, given-cases}
 use Rattle.rule.proofs.Plans.{refused-not-lands, refused-not-asks}
 use Rattle.rule.proofs.PlaceLaws.{some-not-none}
 
@@ -28,21 +28,18 @@ pub record Accepted (g : Gateway) (c : Call) : Type 0 where
 pub accepted : (g : Gateway) (c : Call) → refusal g c ≡ none → Accepted g c
 unfolding refusal refusalOf
 accepted g c =
-    so-cases None (leb replyRoom (c .buffer))
-    (λ buffer.
-    so-cases None (eqb (c .store) storeSize)
-    (λ store.
-    so-cases None (sound g)
-    (λ state.
-    so-cases None (leb (length (c .frame .payload)) payloadLimit)
-    (λ payload.
-    so-cases None (leb (lentLength (c .answers .signature)) signatureLimit)
-    (λ short _. record { buffer = leb-true _ _ buffer; store = eqb-true _ _ store; state = state; payload = leb-true _ _ payload; lent-short = leb-true _ _ short })
-    (λ _. some-refusal 5))
-    (λ _. some-refusal 4))
-    (λ _. some-refusal 3))
-    (λ _. some-refusal 2))
-    (λ _. some-refusal 1)
+    cond-cases None (ltb (c .buffer) replyRoom) (λ _. some-refusal 1) λ buffer.
+    cond-cases None (not (eqb (c .store) storeSize)) (λ _. some-refusal 2) λ store.
+    cond-cases None (not (sound g)) (λ _. some-refusal 3) λ state.
+    cond-cases None (ltb payloadLimit (length (c .frame .payload))) (λ _. some-refusal 4) λ payload.
+    cond-cases None (ltb signatureLimit (lentLength (c .answers .signature))) (λ _. some-refusal 5) λ short _.
+    record {
+      buffer = ltb-false _ _ buffer;
+      store = eqb-true _ _ (not-false _ store);
+      state = not-false _ state;
+      payload = ltb-false _ _ payload;
+      lent-short = ltb-false _ _ short;
+    }
   where
     None : Option ℕ → Type 0
     None o = o ≡ none → Accepted g c
@@ -54,20 +51,12 @@ accepted g c =
 pub refusal-3 : (g : Gateway) (c : Call) → refusal g c ≡ some 3 → sound g ≡ false
 unfolding refusal refusalOf
 refusal-3 g c =
-    so-cases Third (leb replyRoom (c .buffer))
-    (λ _.
-    so-cases Third (eqb (c .store) storeSize)
-    (λ _.
-    so-cases Third (sound g)
-    (λ _.
-    so-cases Third (leb (length (c .frame .payload)) payloadLimit)
-    (λ _.
-    so-cases Third (leb (lentLength (c .answers .signature)) signatureLimit) (λ _ never. absurd (some-not-none (sym never)))
-    (λ _. other 5 (omega arith)))
-    (λ _. other 4 (omega arith)))
-    (λ f _. f))
-    (λ _. other 2 (omega arith)))
-    (λ _. other 1 (omega arith))
+    cond-cases Third (ltb (c .buffer) replyRoom) (λ _. other 1 (omega arith)) λ _.
+    cond-cases Third (not (eqb (c .store) storeSize)) (λ _. other 2 (omega arith)) λ _.
+    cond-cases Third (not (sound g)) (λ f _. not-true (sound g) f) λ _.
+    cond-cases Third (ltb payloadLimit (length (c .frame .payload))) (λ _. other 4 (omega arith)) λ _.
+    cond-cases Third (ltb signatureLimit (lentLength (c .answers .signature))) (λ _. other 5 (omega arith)) λ _ never.
+    absurd (some-not-none (sym never))
   where
     Third : Option ℕ → Type 0
     Third o = o ≡ some 3 → sound g ≡ false

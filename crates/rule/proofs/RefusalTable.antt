@@ -5,10 +5,9 @@ use mathlib.Core.Bool.{Bool, true, false}
 use mathlib.Core.Option.{Option, none, some}
 use mathlib.Core.List.{List}
 use native.Mathlib.Omega.{arith}
-use borrow.Author.Tests.{le-leb, lt-leb, eq-eqb, ne-eqb}
+use borrow.Author.Tests.{eq-eqb, ne-eqb, le-ltb, lt-ltb}
 use lib.ListN.{length}
 use Rattle.wire.specs.Limits.{payloadLimit, storeSize, signatureLimit, replyRoom}
-use Rattle.wire.specs.Steps.{so}
 use Rattle.rule.specs.Gateway.{Gateway}
 use Rattle.rule.specs.Soundness.{Sound, sound}
 use Rattle.rule.specs.Calls.{Numbered, lentLength, refusalOf, refusal}
@@ -33,12 +32,12 @@ lent-fits (some a) fits = go (a .answer) refl
     go (some blob) e = fits (a .number) blob (λ i. some (record { number = a .number; answer = e i }))
 
 pub refusal-rule : RefusalRule
-unfolding refusal refusalOf so lentLength
+unfolding refusal refusalOf lentLength
 refusal-rule g c = record {
-  first = λ a. rw (lt-leb replyRoom (c .buffer) a);
-  second = λ a b. rw (le-leb replyRoom (c .buffer) a, ne-eqb (c .store) storeSize b);
-  third = λ a b s. rw (le-leb replyRoom (c .buffer) a, eq-eqb (c .store) storeSize b, not-sound g s);
-  fourth = λ a b s p. rw (le-leb replyRoom (c .buffer) a, eq-eqb (c .store) storeSize b, sound-rule g .1 s, lt-leb (length (c .frame .payload)) payloadLimit p);
-  fifth = λ a b s p n blob e l. rw (le-leb replyRoom (c .buffer) a, eq-eqb (c .store) storeSize b, sound-rule g .1 s, le-leb (length (c .frame .payload)) payloadLimit p, e, lt-leb (length blob) signatureLimit l);
-  accepted = λ a b s p f. rw (le-leb replyRoom (c .buffer) a, eq-eqb (c .store) storeSize b, sound-rule g .1 s, le-leb (length (c .frame .payload)) payloadLimit p, le-leb _ signatureLimit (lent-fits (c .answers .signature) f));
+  first = λ a. rw (lt-ltb (c .buffer) replyRoom a);
+  second = λ a b. rw (le-ltb (c .buffer) replyRoom a, ne-eqb (c .store) storeSize b);
+  third = λ a b s. rw (le-ltb (c .buffer) replyRoom a, eq-eqb (c .store) storeSize b, not-sound g s);
+  fourth = λ a b s p. rw (le-ltb (c .buffer) replyRoom a, eq-eqb (c .store) storeSize b, sound-rule g .1 s, lt-ltb payloadLimit (length (c .frame .payload)) p);
+  fifth = λ a b s p n blob e l. rw (le-ltb (c .buffer) replyRoom a, eq-eqb (c .store) storeSize b, sound-rule g .1 s, le-ltb payloadLimit (length (c .frame .payload)) p, e, lt-ltb signatureLimit (length blob) l);
+  accepted = λ a b s p f. rw (le-ltb (c .buffer) replyRoom a, eq-eqb (c .store) storeSize b, sound-rule g .1 s, le-ltb payloadLimit (length (c .frame .payload)) p, le-ltb signatureLimit _ (lent-fits (c .answers .signature) f));
 }

@@ -2,14 +2,13 @@
 use Prim.Native.Nat.{ℕ, _-_, _*_, _≤_}
 use native.Mathlib.Omega.{arith}
 use mathlib.Core.Path.{_≡_, refl, sym, ap, _∙_, subst}
-use mathlib.Core.Bool.{Bool, true, false}
+use mathlib.Core.Bool.{Bool, true, false, cond}
 use mathlib.Core.Option.{Option, none, some}
 use mathlib.Core.List.{List, [], _∷_}
 use lib.ListN.{length, length-append}
 use lib.Dec.{leb, ltb, eqb}
 use Rattle.wire.specs.Limits.{passphraseLimit, signatureLimit, replyRoom, itemRoom, lastNumber}
 use Rattle.wire.specs.Read.{cutOf, same, stringAt, numberAt}
-use Rattle.wire.specs.Steps.{so}
 use Rattle.wire.specs.Write.{string}
 use Rattle.keys.specs.Kinds.{blobOf}
 use Rattle.keys.specs.Additions.{additionAt}
@@ -19,7 +18,7 @@ use Rattle.rule.specs.Soundness.{EveryEntry, SoundEntry, Sound, fit}
 use Rattle.rule.specs.Rule.{Question, gate, check, confirmation, signature, Answer, Landing, reply, close, FAILURE, SUCCESS, Plan, land, ask, fails, closes, live, items, listed, listing, removing, removingAll, locking, unlocking, hashOf, signatureReply, signed, signingData, confirming, signing, entryOf, storing, adding, gated, row, table, rule}
 use Rattle.rule.specs.Calls.{given, Numbered, forNumber, lent, lentLength, Call, lands, Result, follow, served, refusal, call}
 use Rattle.rule.specs.Order.{RepliesFit}
-use Rattle.rule.proofs.Cases.{so-cases, part-cases, number-cases, found-cases, added-cases, given-cases}
+use Rattle.rule.proofs.Cases.{cond-cases, part-cases, number-cases, found-cases, added-cases, given-cases}
 use Rattle.rule.proofs.Plans.{asks-not-lands, refused-not-lands}
 use Rattle.rule.proofs.PlaceLaws.{some-not-none}
 use Rattle.rule.proofs.RefusalLaws.{accepted}
@@ -77,8 +76,8 @@ module _ (lent : (q : Question) → Option (Answer q)) (g : Gateway)
   closes-fits : Fits (closes g)
   closes-fits = land-fits close g (omega arith)
 
-  so-fits : (b : Bool) (plan : Plan) → Fits plan → Fits (so (fails g) b plan)
-  so-fits b plan h = so-cases Fits b (λ _. h) (λ _. fails-fits)
+  cond-fits : (b : Bool) (plan : Plan) → Fits plan → Fits (cond b plan (fails g))
+  cond-fits b plan h = cond-cases Fits b (λ _. h) (λ _. fails-fits)
 
   signed-fits : (a : Option (List ℕ)) → ((blob : List ℕ) → a ≡ some blob → length blob ≤ signatureLimit) → Fits (signed g a)
   unfolding signed signatureReply
@@ -103,17 +102,17 @@ module _ (lent : (q : Question) → Option (Answer q)) (g : Gateway)
       by-key none at = fails-fits
       by-key (some e) at =
           let signer = data-fits payload (e .number) at in
-          so-cases Fits (e .confirm) (λ _. ask-fits (confirmation (e .number)) _ (λ granted _. so-fits granted _ signer)) (λ _. signer)
+          cond-cases Fits (e .confirm) (λ _. ask-fits (confirmation (e .number)) _ (λ granted _. cond-fits granted _ signer)) (λ _. signer)
 
   adding-fits : (constrained : Bool) (payload : List ℕ) → Fits (adding constrained g payload)
   unfolding adding storing
   adding-fits constrained payload =
       added-cases Fits (additionAt payload 1 constrained) fails-fits λ c _.
       let e = entryOf g payload c (blobOf payload 1 (c .places)) in
-      so-fits (fit (e .blob) (e .fields) (e .comment)) _
-      (so-fits (ltb (g .next) lastNumber) _
+      cond-fits (fit (e .blob) (e .fields) (e .comment)) _
+      (cond-fits (ltb (g .next) lastNumber) _
       (found-cases Fits (placeFor (e .blob) (g .places)) (λ _. fails-fits) λ i _.
-      ask-fits (check 1 (c .places .end)) _ (λ granted _. so-fits granted _ (success-fits (withEntry i e g)))))
+      ask-fits (check 1 (c .places .end)) _ (λ granted _. cond-fits granted _ (success-fits (withEntry i e g)))))
 
   removing-fits : (payload : List ℕ) → Fits (removing g payload)
   unfolding removing
@@ -125,23 +124,23 @@ module _ (lent : (q : Question) → Option (Answer q)) (g : Gateway)
   unfolding locking
   locking-fits payload =
       part-cases Fits (stringAt payload 1) (λ _ _. fails-fits) λ f t k _.
-      so-fits (leb (t - f) passphraseLimit) _ (success-fits _)
+      cond-fits (leb (t - f) passphraseLimit) _ (success-fits _)
 
   unlocking-fits : (payload : List ℕ) → Fits (unlocking g payload)
   unfolding unlocking
   unlocking-fits payload =
       part-cases Fits (stringAt payload 1) (λ _ _. fails-fits) λ f t k _.
-      so-fits (same (g .lock) (cutOf payload f t)) _ (success-fits _)
+      cond-fits (same (g .lock) (cutOf payload f t)) _ (success-fits _)
 
   row-fits : (first byte : ℕ) (fit : Bool) (class : ℕ) (body below : Plan) → Fits body → Fits below → Fits (row g first byte fit class body below)
   unfolding row gated
   row-fits first byte fit class body below h k =
-      so-cases Fits (eqb first byte) (λ _. so-fits fit _ (ask-fits (gate class) _ (λ granted _. so-fits granted body h))) (λ _. k)
+      cond-cases Fits (eqb first byte) (λ _. cond-fits fit _ (ask-fits (gate class) _ (λ granted _. cond-fits granted body h))) (λ _. k)
 
   rule-fits : Sound g → (payload : List ℕ) → Fits (rule g payload)
   unfolding rule table listing removingAll
   rule-fits s payload =
-      so-fits (ltb 0 (length payload)) _
+      cond-fits (ltb 0 (length payload)) _
       (row-fits _ 11 (opened g) 1 _ _ (land-fits _ g (list-size g s))
       (row-fits _ 17 (opened g) 2 _ _ (adding-fits false payload)
       (row-fits _ 25 (opened g) 2 _ _ (adding-fits true payload)
@@ -158,7 +157,7 @@ lent-length : (n : ℕ) (o : Option (Numbered (Option (List ℕ)))) (blob : List
 unfolding forNumber lentLength
 lent-length n none blob = λ never. absurd (some-not-none (sym never))
 lent-length n (some a) blob =
-    so-cases (λ (o : Option (Option (List ℕ))). o ≡ some (some blob) → given (a .answer) 0 length ≡ length blob) (eqb (a .number) n)
+    cond-cases (λ (o : Option (Option (List ℕ))). o ≡ some (some blob) → given (a .answer) 0 length ≡ length blob) (eqb (a .number) n)
     (λ _ e. let is : a .answer ≡ some blob = cc in ap (λ (o : Option (List ℕ)). given o 0 length) is)
     (λ _ never. absurd (some-not-none (sym never)))
 

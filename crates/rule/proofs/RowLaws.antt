@@ -2,19 +2,18 @@
 use Prim.Native.Nat.{ℕ}
 use mathlib.Core.Path.{_≡_, refl, sym, ap, _∙_}
 use mathlib.Core.Logic.{_≢_}
-use mathlib.Core.Bool.{Bool, true, false, not}
+use mathlib.Core.Bool.{Bool, true, false, not, cond}
 use mathlib.Core.Option.{none, some}
 use mathlib.Core.List.{List}
 use borrow.Author.Tests.{ltb-true, lt-ltb, eqb-true}
 use lib.ListN.{length, getD}
 use lib.Dec.{ltb, eqb}
-use Rattle.wire.specs.Steps.{so}
 use Rattle.rule.specs.Gateway.{Gateway, locked, opened, advance, atClock}
 use Rattle.rule.specs.Rule.{Question, gate, Landing, FAILURE, SUCCESS, Plan, land, fails, listing, adding, removing, removingAll, signing, locking, unlocking, gated, row, table, rule}
 use Rattle.rule.specs.Calls.{lent, Call, refusal, Outcome, refused, asks, lands, Result, follow, served, call}
 use Rattle.rule.specs.Words.{Begins, atCall, payloadOf, PastGate}
 use Rattle.rule.specs.Rows.{Row, list, add, add-constrained, remove, remove-all, sign, lock, unlock, RowRule, NoRow}
-use Rattle.rule.proofs.Cases.{so-cases, given-cases, not-true}
+use Rattle.rule.proofs.Cases.{cond-cases, given-cases, not-true}
 use Rattle.rule.proofs.Plans.{asks-not-lands, refused-not-lands, refused-not-asks, EveryLanding, follow-has}
 use Rattle.rule.proofs.Effects.{success-not-failure}
 
@@ -59,7 +58,7 @@ unfitting needs g n = by-test (fitting needs g) refl
 
 rule-row : {byte : ℕ} {needs : Bool} {class : ℕ} (r : Row byte needs class) (g : Gateway) (payload : List ℕ) → Begins byte payload
     → rule g payload ≡ gated g (fitting needs g) class (bodyOf r g payload)
-unfolding rule table row so
+unfolding rule table row
 rule-row list g payload b = rw (lt-ltb _ _ (b .some-byte), b .first)
 rule-row add g payload b = rw (lt-ltb _ _ (b .some-byte), b .first)
 rule-row add-constrained g payload b = rw (lt-ltb _ _ (b .some-byte), b .first)
@@ -75,16 +74,16 @@ rule-cases : (P : Plan → Type 0) (g : Gateway) (payload : List ℕ) → P (fai
     → P (rule g payload)
 unfolding rule table row
 rule-cases P g payload f h =
-    so-cases P (ltb 0 (length payload))
+    cond-cases P (ltb 0 (length payload))
     (λ t.
-    so-cases P (eqb (getD payload 0 0) 11) (at t list)
-    (λ _. so-cases P (eqb (getD payload 0 0) 17) (at t add)
-    (λ _. so-cases P (eqb (getD payload 0 0) 25) (at t add-constrained)
-    (λ _. so-cases P (eqb (getD payload 0 0) 18) (at t remove)
-    (λ _. so-cases P (eqb (getD payload 0 0) 19) (at t remove-all)
-    (λ _. so-cases P (eqb (getD payload 0 0) 13) (at t sign)
-    (λ _. so-cases P (eqb (getD payload 0 0) 22) (at t lock)
-    (λ _. so-cases P (eqb (getD payload 0 0) 23) (at t unlock)
+    cond-cases P (eqb (getD payload 0 0) 11) (at t list)
+    (λ _. cond-cases P (eqb (getD payload 0 0) 17) (at t add)
+    (λ _. cond-cases P (eqb (getD payload 0 0) 25) (at t add-constrained)
+    (λ _. cond-cases P (eqb (getD payload 0 0) 18) (at t remove)
+    (λ _. cond-cases P (eqb (getD payload 0 0) 19) (at t remove-all)
+    (λ _. cond-cases P (eqb (getD payload 0 0) 13) (at t sign)
+    (λ _. cond-cases P (eqb (getD payload 0 0) 22) (at t lock)
+    (λ _. cond-cases P (eqb (getD payload 0 0) 23) (at t unlock)
     (λ _. f)))))))))
     (λ _. f)
   where
@@ -93,11 +92,11 @@ rule-cases P g payload f h =
     at t {byte} {needs} {class} r e = h byte needs class r (record { some-byte = ltb-true _ _ t; first = eqb-true _ _ e })
 
 pub row-rule : RowRule
-unfolding gated so
+unfolding gated
 row-rule byte needs class r g payload begins =
     let is = rule-row r g payload begins in
     record {
-      fit = λ h. ((λ granted. so (fails g) granted (bodyOf r g payload)), rw (is, fitting-fit needs g h), refl);
+      fit = λ h. ((λ granted. cond granted (bodyOf r g payload) (fails g)), rw (is, fitting-fit needs g h), refl);
       unfit = λ n. rw (is, unfitting needs g n);
     }
 
@@ -116,7 +115,7 @@ bodyResult r g c = follow (lent (c .answers)) (atCall g c) (bodyOf r (atCall g c
 
 pub past-gate : {byte : ℕ} {needs : Bool} {class : ℕ} (r : Row byte needs class) (g : Gateway) (c : Call) → PastGate g c → locked g ≡ needs → Begins byte (payloadOf c)
     → call g c ≡ bodyResult r g c
-unfolding call served gated so follow lent
+unfolding call served gated follow lent
 past-gate {byte} {needs} {class} r g c past fit begins =
     let now : locked (atCall g c) ≡ needs = advance-locked (c .reading) g ∙ fit in
     rw (past .accepted, rule-row r (atCall g c) (payloadOf c) begins, fitting-fit needs (atCall g c) now, past .gate)
@@ -130,12 +129,12 @@ module _ (P : Result → Type 0) (g : Gateway) (c : Call) where
       → P (follow (lent (c .answers)) (atCall g c) (gated (atCall g c) (fitting needs (atCall g c)) class (bodyOf r (atCall g c) (payloadOf c))))
   unfolding gated follow lent
   gated-cases {byte} {needs} {class} r ok failing asking passing =
-      so-cases Follows (fitting needs (atCall g c))
+      cond-cases Follows (fitting needs (atCall g c))
       (λ fits.
       let fit : locked g ≡ needs = sym (advance-locked (c .reading) g) ∙ fit-fitting needs (atCall g c) fits in
       given-cases P (c .answers .gate) (asking fit)
       (λ granted says.
-      so-cases Follows granted (λ yes. passing (record { accepted = ok; gate = says ∙ ap some yes }) fit) (λ _. failing)))
+      cond-cases Follows granted (λ yes. passing (record { accepted = ok; gate = says ∙ ap some yes }) fit) (λ _. failing)))
       (λ _. failing)
     where
       Follows : Plan → Type 0

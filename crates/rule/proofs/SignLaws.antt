@@ -10,7 +10,7 @@ use lib.Dec.{eqb}
 use lib.ListN.{length}
 use Rattle.wire.specs.Numbers.{Bytes}
 use Rattle.wire.specs.Read.{cutOf}
-use Rattle.wire.specs.Steps.{so, part, number}
+use Rattle.wire.specs.Steps.{part, number}
 use Rattle.wire.specs.Write.{string}
 use Rattle.rule.specs.Gateway.{Entry, Gateway, locked}
 use Rattle.rule.specs.Rule.{Question, gate, confirmation, signature, Answer, reply, hashOf, signatureReply, signed, signingData, confirming, signing}
@@ -18,7 +18,7 @@ use Rattle.rule.specs.Calls.{Numbered, forNumber, lent, Call, asks, land
 use Rattle.rule.specs.Words.{Begins, Carries, HeldAt, Held, atCall, payloadOf, PastGate}
 use Rattle.rule.specs.Rows.{sign}
 use Rattle.rule.specs.Signing.{SignRequest, HashTable, Confirmed, SignatureAsks, ConfirmationAsks, SignsOnly, SignsAlways}
-use Rattle.rule.proofs.Cases.{so-cases}
+use Rattle.rule.proofs.Cases.{cond-cases}
 use Rattle.rule.proofs.PlaceLaws.{some-not-none, held-found, entry-found}
 use Rattle.rule.proofs.RefusalLaws.{accepted}
 use Rattle.rule.proofs.SoundLaws.{sound-advance, sound-rule}
@@ -31,7 +31,7 @@ use Rattle.rule.proofs.BodyLaws.{Allowed, adding-cases, signing-cases, 
 -- ## Hash and answers
 
 hash-table : (flags : ℕ) → HashTable flags (hashOf flags)
-unfolding hashOf so
+unfolding hashOf
 hash-table flags = record {
   flag-2 = λ h. let two : flags / 2 % 2 ≡ 1 = omega arith in rw (eq-eqb _ _ two);
   flag-4 = λ h k. let four : flags / 4 % 2 ≡ 1 = omega arith in rw (ne-eqb (flags / 2 % 2) 1 (λ two. omega arith), eq-eqb _ _ four);
@@ -43,7 +43,7 @@ pub own-number : {A : Type 0} (n : ℕ) (o : Option (Numbered A)) (a : A) → fo
 unfolding forNumber
 own-number n none a = λ never. absurd (some-not-none (sym never))
 own-number {A} n (some x) a =
-    so-cases (λ (r : Option A). r ≡ some a → some x ≡ some (record { number = n; answer = a })) (eqb (x .number) n)
+    cond-cases (λ (r : Option A). r ≡ some a → some x ≡ some (record { number = n; answer = a })) (eqb (x .number) n)
     (λ t e. let same-number = eqb-true _ _ t in let same-answer : x .answer ≡ a = cc in λ i. some (record { number = same-number i; answer = same-answer i }))
     (λ _ never. absurd (some-not-none (sym never)))
 
@@ -140,7 +140,7 @@ module _ (g : Gateway) (c : Call) (past : PastGate g c) (state : locked g ≡ fa
 
     -- and, with the yes that the key needs, to its data
     pub comes-to-data : Confirmed c e → call g c ≡ follow (lent (c .answers)) (atCall g c) (signingData (atCall g c) (payloadOf c) (e .number) (s .next .at))
-    unfolding confirming so follow
+    unfolding confirming follow
     comes-to-data confirmed = comes-to-key ∙ by-confirm (e .confirm) refl
       where
         by-confirm : (b : Bool) → e .confirm ≡ b

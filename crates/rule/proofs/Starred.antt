@@ -2,7 +2,7 @@
 use mathlib.Core.Path.{refl}
 use Rattle.wire.specs.Numbers.{beAt}
 use Rattle.wire.specs.Read.{cutOf, same, numberAt, stringAt}
-use Rattle.wire.specs.Steps.{so, part, number}
+use Rattle.wire.specs.Steps.{part, number}
 use Rattle.wire.specs.Frames.{splitOf}
 use Rattle.rule.specs.Gateway.{dueAt, lasting, atClock, advance, found, entryWith}
 use Rattle.rule.specs.Soundness.{everyEntry, distinct, fit, sound}
@@ -13,7 +13,7 @@ use Rattle.rule.specs.Examples.{StarredExamples, lockedAb, oneKey, Sound
 use Rattle.rule.proofs.SoundLaws.{fresh-sound, sound-rule}
 
 pub starred-examples : StarredExamples
-unfolding beAt cutOf same numberAt stringAt so part number splitOf dueAt lasting atClock advance found entryWith everyEntry distinct fit sound live items listed listing removing removingAll locking unlocking hashOf signed signingData confirming signing gated row table rule forNumber lent lentLength refusalOf follow served refusal call events endOf isAccepted heard heardIn turn turnsFrom
+unfolding beAt cutOf same numberAt stringAt part number splitOf dueAt lasting atClock advance found entryWith everyEntry distinct fit sound live items listed listing removing removingAll locking unlocking hashOf signed signingData confirming signing gated row table rule forNumber lent lentLength refusalOf follow served refusal call events endOf isAccepted heard heardIn turn turnsFrom
 starred-examples = record {
   fresh-sound = fresh-sound;
   locked-sound = sound-rule lockedAb .0 refl;
@@ -68,7 +68,7 @@ soundness-limits = record {
 }
 
 pub refusal-limits : RefusalLimits
-unfolding refusalOf so
+unfolding refusalOf
 refusal-limits = record {
   none-applies = refl;
   buffer-short = refl;
@@ -80,5 +80,5 @@ refusal-limits = record {
 }
 
 pub room-reached : RoomReached
-unfolding beAt same so everyEntry distinct fit sound dueAt lasting atClock advance live items listed listing gated row table rule lent lentLength refusalOf follow served refusal call
+unfolding beAt same everyEntry distinct fit sound dueAt lasting atClock advance live items listed listing gated row table rule lent lentLength refusalOf follow served refusal call
 room-reached = record { sound-table = sound-rule fullTable .0 refl; bytes = _; listed = refl; length-is = refl }

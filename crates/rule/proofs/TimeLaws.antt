@@ -19,7 +19,7 @@ use Rattle.rule.specs.Calls.{Call, refusal, call}
 use Rattle.rule.specs.Order.{ownAnswers}
 use Rattle.rule.specs.Words.{atCall, payloadOf}
 use Rattle.rule.specs.Times.{OnTime, GoneOnTime, ClockRaised}
-use Rattle.rule.proofs.Cases.{so-cases}
+use Rattle.rule.proofs.Cases.{cond-cases}
 use Rattle.rule.proofs.Clock.{advance-clock}
 use Rattle.rule.proofs.Plans.{alone-has}
 use Rattle.rule.proofs.Effects.{Effect, leaves, removes, clears, locks, stores, rule-effect, effect-clock}
@@ -54,7 +54,7 @@ unfolding lasting
 lasting-on-time clock [] = tt
 lasting-on-time clock (none ∷ ps) = lasting-on-time clock ps
 lasting-on-time clock (some e ∷ ps) =
-    so-cases (λ p. EveryEntry (OnTime clock) (p ∷ map (lasting clock) ps)) (dueAt clock (e .reading) (e .lifetime))
+    cond-cases (λ p. EveryEntry (OnTime clock) (p ∷ map (lasting clock) ps)) (dueAt clock (e .reading) (e .lifetime))
     (λ _. lasting-on-time clock ps)
     (λ early. (not-due clock e early, lasting-on-time clock ps))
 

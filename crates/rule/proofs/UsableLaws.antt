@@ -9,7 +9,6 @@ use mathlib.Core.List.{List}
 use borrow.Author.Tests.{leb-true, eqb-true, eqb-false}
 use lib.Dec.{eqb}
 use Rattle.wire.specs.Numbers.{Bytes}
-use Rattle.wire.specs.Steps.{so}
 use Rattle.keys.specs.declared.constraints.Lifetime.{Lifetime}
 use Rattle.keys.specs.declared.constraints.Lifetime.the-variants.{Forever, For}
 use Rattle.keys.specs.Kinds.{blobOf}
@@ -44,7 +43,7 @@ due-expired g c e = by-lifetime (e .lifetime) refl
     by-lifetime (For seconds) is t = let up : millisOf seconds ≤ max (g .clock) (c .reading) - e .reading = leb-true _ _ t in expired seconds is (omega arith)
 
 still-held : (g : Gateway) (c : Call) (i : ℕ) (e : Entry) → HeldAt g i e → dueAt (max (g .clock) (c .reading)) (e .reading) (e .lifetime) ≡ false → HeldAt (atCall g c) i e
-unfolding advance atClock lasting so
+unfolding advance atClock lasting
 still-held g c i e held early = getD-map (lasting (max (g .clock) (c .reading))) refl (g .places) i ∙ rw (held, early)
 
 -- ## Requests

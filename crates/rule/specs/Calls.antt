@@ -1,12 +1,11 @@
 -- One call: what it is lent, its refusals, and its outcome ("One call, six outcomes").
 use Prim.Native.Nat.{ℕ}
-use mathlib.Core.Bool.{Bool}
+use mathlib.Core.Bool.{Bool, cond, not}
 use mathlib.Core.Option.{Option, none, some}
 use mathlib.Core.List.{List}
 use lib.ListN.{length}
-use lib.Dec.{leb, eqb}
+use lib.Dec.{eqb, ltb}
 use Rattle.wire.specs.Limits.{payloadLimit, storeSize, signatureLimit, replyRoom}
-use Rattle.wire.specs.Steps.{so}
 use Rattle.rule.specs.Gateway.{Gateway, advance}
 use Rattle.rule.specs.Soundness.{sound}
 use Rattle.rule.specs.Rule.{Question, gate, check, confirmation, signature, Answer, Landing, Plan, land, ask, rule}
@@ -35,7 +34,7 @@ nothingLent = record { gate = none; check = none; confirmation = none; signature
 -- ".. and count only for that number"
 unfoldable pub forNumber : {A : Type 0} → ℕ → Option (Numbered A) → Option A
 forNumber n none = none
-forNumber n (some a) = so none (eqb (a .number) n) (some (a .answer))
+forNumber n (some a) = cond (eqb (a .number) n) (some (a .answer)) none
 
 -- the answer that is lent for a question
 unfoldable pub lent : Answers → (q : Question) → Option (Answer q)
@@ -55,11 +54,11 @@ lentLength (some a) = given (a .answer) 0 length
 -- and lent signature
 unfoldable pub refusalOf : ℕ → ℕ → Bool → ℕ → ℕ → Option ℕ
 refusalOf buffer store isSound payload lentBytes =
-    so (some 1) (leb replyRoom buffer)
-    (so (some 2) (eqb store storeSize)
-    (so (some 3) isSound
-    (so (some 4) (leb payload payloadLimit)
-    (so (some 5) (leb lentBytes signatureLimit)
+    cond (ltb buffer replyRoom) (some 1)
+    (cond (not (eqb store storeSize)) (some 2)
+    (cond (not isSound) (some 3)
+    (cond (ltb payloadLimit payload) (some 4)
+    (cond (ltb signatureLimit lentBytes) (some 5)
     none))))
 
 -- ## The call

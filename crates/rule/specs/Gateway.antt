@@ -1,13 +1,12 @@
 -- The gateway in 01's words ("Table, store and clock"), with no bytes: layout is the table's.
 use Prim.Native.Nat.{ℕ, suc, _+_, _-_, _*_, max}
-use mathlib.Core.Bool.{Bool, true, false, not}
+use mathlib.Core.Bool.{Bool, true, false, not, cond}
 use mathlib.Core.Option.{Option, none, some}
 use mathlib.Core.List.{List, [], _∷_, map}
 use lib.ListN.{length, replicate, set}
 use lib.Dec.{leb, ltb}
 use Rattle.wire.specs.declared.Seconds.{Seconds}
 use Rattle.wire.specs.Read.{same}
-use Rattle.wire.specs.Steps.{so}
 use Rattle.keys.specs.declared.constraints.Lifetime.{Lifetime}
 use Rattle.keys.specs.declared.constraints.Lifetime.the-variants.{Forever, For}
 use Rattle.rule.specs.declared.Found.{Found}
@@ -58,7 +57,7 @@ dueAt clock reading (For seconds) = leb (millisOf seconds) (clock - reading)
 
 unfoldable pub lasting : ℕ → Place → Place
 lasting clock none = none
-lasting clock (some e) = so (some e) (dueAt clock (e .reading) (e .lifetime)) none
+lasting clock (some e) = cond (dueAt clock (e .reading) (e .lifetime)) none (some e)
 
 unfoldable pub atClock : ℕ → Gateway → Gateway
 atClock clock g = record { places = map (lasting clock) (g .places); lock = g .lock; clock = clock; next = g .next }
@@ -72,7 +71,7 @@ advance reading g = atClock (max (g .clock) reading) g
 -- the first place, from number i on, that passes a test
 abbrev pub seek : (Place → Bool) → ℕ → List Place → Found
 seek test i [] = Nothing
-seek test i (p ∷ ps) = so (seek test (suc i) ps) (test p) (At i)
+seek test i (p ∷ ps) = cond (test p) (At i) (seek test (suc i) ps)
 
 abbrev pub holds : List ℕ → Place → Bool
 holds blob none = false
@@ -90,7 +89,7 @@ found z Nothing next = z
 -- the entry that has a blob, if one has it
 unfoldable pub entryWith : List ℕ → List Place → Option Entry
 entryWith blob [] = none
-entryWith blob (p ∷ ps) = so (entryWith blob ps) (holds blob p) p
+entryWith blob (p ∷ ps) = cond (holds blob p) p (entryWith blob ps)
 
 -- "A held blob is replaced in its place ..; a new one takes the lowest free place."
 unfoldable pub placeFor : List ℕ → List Place → Found

@@ -1,6 +1,6 @@
 -- 01's "Rule by first byte" as a plan: what to ask, what to do with each answer, and how to land. Rows and steps stand in 01's order.
 use Prim.Native.Nat.{ℕ, _+_, _-_, _/_, _%_}
-use mathlib.Core.Bool.{Bool, true, false}
+use mathlib.Core.Bool.{Bool, true, false, cond}
 use mathlib.Core.Option.{Option, none, some}
 use mathlib.Core.List.{List, [], _∷_, _++_}
 use lib.ListN.{length, getD}
@@ -8,7 +8,7 @@ use lib.Dec.{leb, ltb, eqb}
 use Rattle.wire.specs.Limits.{passphraseLimit, lastNumber}
 use Rattle.wire.specs.Numbers.{be32}
 use Rattle.wire.specs.Read.{cutOf, same, stringAt, numberAt}
-use Rattle.wire.specs.Steps.{so, part, number}
+use Rattle.wire.specs.Steps.{part, number}
 use Rattle.wire.specs.Write.{string}
 use Rattle.keys.specs.declared.addition.Carried.{Carried}
 use Rattle.keys.specs.declared.addition.Addition.{Addition}
@@ -91,17 +91,17 @@ removingAll g = land SUCCESS (withoutAll g)
 unfoldable pub locking : Gateway → List ℕ → Plan
 locking g payload =
     part (λ _. fails g) (stringAt payload 1) λ from to next.
-    so (fails g) (leb (to - from) passphraseLimit) (land SUCCESS (withLock (cutOf payload from to) g))
+    cond (leb (to - from) passphraseLimit) (land SUCCESS (withLock (cutOf payload from to) g)) (fails g)
 
 -- 23: "equal to the stored one: zeroed, SUCCESS. Else, or malformed: FAILURE."
 unfoldable pub unlocking : Gateway → List ℕ → Plan
 unlocking g payload =
     part (λ _. fails g) (stringAt payload 1) λ from to next.
-    so (fails g) (same (g .lock) (cutOf payload from to)) (land SUCCESS (withLock [] g))
+    cond (same (g .lock) (cutOf payload from to)) (land SUCCESS (withLock [] g)) (fails g)
 
 -- "Flag 2 set: SHA-256; else flag 4: SHA-512; else none."
 unfoldable pub hashOf : ℕ → Hash
-hashOf flags = so (so Plain (eqb (flags / 4 % 2) 1) Sha512) (eqb (flags / 2 % 2) 1) Sha256
+hashOf flags = cond (eqb (flags / 2 % 2) 1) Sha256 (cond (eqb (flags / 4 % 2) 1) Sha512 Plain)
 
 -- "Reply: length, 14, signature blob as a string."
 unfoldable pub signatureReply : List ℕ → List ℕ
@@ -123,8 +123,9 @@ signingData g payload n at =
 unfoldable pub confirming : Gateway → List ℕ → Option Entry → ℕ → Plan
 confirming g payload none at = fails g
 confirming g payload (some e) at =
-    so (signingData g payload (e .number) at) (e .confirm)
-    (ask (confirmation (e .number)) λ granted. so (fails g) granted (signingData g payload (e .number) at))
+    cond (e .confirm)
+    (ask (confirmation (e .number)) λ granted. cond granted (signingData g payload (e .number) at) (fails g))
+    (signingData g payload (e .number) at)
 
 -- 13: "blob malformed: close."
 unfoldable pub signing : Gateway → List ℕ → Plan
@@ -155,10 +156,12 @@ entryOf g payload c blob = newEntry (g .next) (g .clock) (brought payload c blob
 -- check; no is FAILURE. Else stored, next number taken, SUCCESS."
 unfoldable pub storing : Gateway → Entry → ℕ → Plan
 storing g e to =
-    so (fails g) (fit (e .blob) (e .fields) (e .comment))
-    (so (fails g) (ltb (g .next) lastNumber)
+    cond (fit (e .blob) (e .fields) (e .comment))
+    (cond (ltb (g .next) lastNumber)
     (found (fails g) (placeFor (e .blob) (g .places)) λ i.
-    ask (check 1 to) λ granted. so (fails g) granted (land SUCCESS (withEntry i e g))))
+    ask (check 1 to) λ granted. cond granted (land SUCCESS (withEntry i e g)) (fails g))
+    (fails g))
+    (fails g)
 
 -- 17, 25: "key fields, comment string .., and for 25 constraints; any fault is FAILURE"
 unfoldable pub adding : Bool → Gateway → List ℕ → Plan
@@ -170,11 +173,11 @@ adding constrained g payload =
 
 -- "wrong lock state: FAILURE, no question. Then the gate; no means FAILURE."
 unfoldable pub gated : Gateway → Bool → ℕ → Plan → Plan
-gated g fit class body = so (fails g) fit (ask (gate class) λ granted. so (fails g) granted body)
+gated g fit class body = cond fit (ask (gate class) λ granted. cond granted body (fails g)) (fails g)
 
 -- a row of the table: the byte, the lock state that it needs, the gate class, the body; else the rows below
 unfoldable pub row : Gateway → ℕ → ℕ → Bool → ℕ → Plan → Plan → Plan
-row g first byte fit class body below = so below (eqb first byte) (gated g fit class body)
+row g first byte fit class body below = cond (eqb first byte) (gated g fit class body) below
 
 unfoldable pub table : Gateway → List ℕ → ℕ → Plan
 table g payload first =
@@ -190,4 +193,4 @@ table g payload first =
 
 -- "Empty payload, any other byte ..: FAILURE, no question."
 unfoldable pub rule : Gateway → List ℕ → Plan
-rule g payload = so (fails g) (ltb 0 (length payload)) (table g payload (getD payload 0 0))
+rule g payload = cond (ltb 0 (length payload)) (table g payload (getD payload 0 0)) (fails g)

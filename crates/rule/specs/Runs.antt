@@ -1,9 +1,8 @@
 -- Runs of calls, what is read off their events, and the one-at-a-time rule (demand 3).
 use Prim.Native.Nat.{ℕ, max}
 use mathlib.Core.Path.{_≡_}
-use mathlib.Core.Bool.{Bool, true, false}
+use mathlib.Core.Bool.{Bool, true, false, cond}
 use mathlib.Core.List.{List, [], _∷_, _++_, map}
-use Rattle.wire.specs.Steps.{so}
 use Rattle.rule.specs.Gateway.{Gateway, advance}
 use Rattle.rule.specs.Rule.{Question, Answer, Landing, Plan, land, ask, rule}
 use Rattle.rule.specs.Calls.{Frame, Call, Outcome, refused, asks, lands, call}
@@ -46,11 +45,11 @@ isAccepted (lands l) = true
 -- the run without its refused calls
 unfoldable pub acceptedIn : List Event → List Event
 acceptedIn [] = []
-acceptedIn (e ∷ es) = so (acceptedIn es) (isAccepted (e .outcome)) (e ∷ acceptedIn es)
+acceptedIn (e ∷ es) = cond (isAccepted (e .outcome)) (e ∷ acceptedIn es) (acceptedIn es)
 
 -- the greatest reading accepted so far, with this call; a refused one is not heard
 unfoldable pub heard : ℕ → Event → ℕ
-heard greatest e = so greatest (isAccepted (e .outcome)) (max greatest (e .by .reading))
+heard greatest e = cond (isAccepted (e .outcome)) (max greatest (e .by .reading)) greatest
 
 unfoldable pub heardIn : ℕ → List Event → ℕ
 heardIn greatest [] = greatest
@@ -96,7 +95,7 @@ askedIn before (e ∷ es) = askedIn (asked before (e .outcome)) es
 -- has a call been accepted?
 unfoldable pub someAccepted : Bool → List Event → Bool
 someAccepted before [] = before
-someAccepted before (e ∷ es) = someAccepted (so before (isAccepted (e .outcome)) true) es
+someAccepted before (e ∷ es) = someAccepted (cond (isAccepted (e .outcome)) true before) es
 
 -- ## The one-at-a-time rule: the same plan, with an answer for every question
 

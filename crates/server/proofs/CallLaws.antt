@@ -4,10 +4,9 @@ use mathlib.Core.Path.{_≡_, refl, sym, ap, _∙_, subst}
 use mathlib.Core.Bool.{Bool, true, false, not}
 use mathlib.Core.Option.{Option, none, some}
 use mathlib.Core.List.{List}
-use borrow.Author.Tests.{not-true, not-false, le-leb, lt-leb, eq-eqb, ne-eqb}
+use borrow.Author.Tests.{not-true, not-false, eq-eqb, ne-eqb, le-ltb, lt-ltb}
 use lib.ListN.{length}
 use Rattle.wire.specs.Limits.{payloadLimit, storeSize, passphraseLimit, signatureLimit, replyRoom}
-use Rattle.wire.specs.Steps.{so}
 use Rattle.rule.specs.declared.Millis.{Millis}
 use Rattle.rule.specs.Gateway.{Gateway, advance}
 use Rattle.rule.specs.Calls.{lentLength, refusalOf, served}
@@ -48,45 +47,45 @@ module _ (s : State) (x p : List ℕ) (t : Millis) (answers : Answers) (bytes bu
   }
 
   pub refuses-1 : (r : Called) → length buffer < replyRoom → r ≡ record { outcome = Refused 1; state = s } → Gives r x buffer
-  unfolding refusalOf so lentOf
+  unfolding refusalOf lentOf
   refuses-1 r h f = refuses 1 r first f
     where
       first : refusalHere ≡ some 1
-      first = rw (lt-leb replyRoom (length buffer) h)
+      first = rw (lt-ltb (length buffer) replyRoom h)
 
   pub refuses-2 : (r : Called) → replyRoom ≤ length buffer → (length x ≡ storeSize → ⊥) → r ≡ record { outcome = Refused 2; state = s } → Gives r x buffer
-  unfolding refusalOf so lentOf
+  unfolding refusalOf lentOf
   refuses-2 r a b f = refuses 2 r second f
     where
       second : refusalHere ≡ some 2
-      second = rw (le-leb replyRoom (length buffer) a, ne-eqb (length x) storeSize b)
+      second = rw (le-ltb (length buffer) replyRoom a, ne-eqb (length x) storeSize b)
 
   pub refuses-3 : (r : Called) (b : Bool) → replyRoom ≤ length buffer → length x ≡ storeSize → not b ≡ true → b ≡ soundState s x → r ≡ record { outcome = Refused 3; state = s } → Gives r x buffer
-  unfolding refusalOf so lentOf
+  unfolding refusalOf lentOf
   refuses-3 r b h e u is f = refuses 3 r third f
     where
       third : refusalHere ≡ some 3
-      third = rw (le-leb replyRoom (length buffer) h, eq-eqb (length x) storeSize e, ← is, not-true b u)
+      third = rw (le-ltb (length buffer) replyRoom h, eq-eqb (length x) storeSize e, ← is, not-true b u)
 
   module _ (h : replyRoom ≤ length buffer) (S : Sound s x) where
     pub refuses-4 : (r : Called) → payloadLimit < length p → r ≡ record { outcome = Refused 4; state = s } → Gives r x buffer
-    unfolding refusalOf so lentOf
+    unfolding refusalOf lentOf
     refuses-4 r a f = refuses 4 r fourth f
       where
         fourth : refusalHere ≡ some 4
-        fourth = rw (le-leb replyRoom (length buffer) h, eq-eqb (length x) storeSize (S .store-size), sound-passed s x S, lt-leb (length p) payloadLimit a)
+        fourth = rw (le-ltb (length buffer) replyRoom h, eq-eqb (length x) storeSize (S .store-size), sound-passed s x S, lt-ltb payloadLimit (length p) a)
 
     module _ (n : ℕ) (a : length p ≤ payloadLimit) (lent : n ≡ lentLength (signatureOf (answers .signature) bytes)) where
       pub refuses-5 : (r : Called) → signatureLimit < n → r ≡ record { outcome = Refused 5; state = s } → Gives r x buffer
-      unfolding refusalOf so lentOf
+      unfolding refusalOf lentOf
       refuses-5 r b f = refuses 5 r fifth f
         where
           fifth : refusalHere ≡ some 5
-          fifth = rw (le-leb replyRoom (length buffer) h, eq-eqb (length x) storeSize (S .store-size), sound-passed s x S, le-leb (length p) payloadLimit a, ← lent, lt-leb n signatureLimit b)
+          fifth = rw (le-ltb (length buffer) replyRoom h, eq-eqb (length x) storeSize (S .store-size), sound-passed s x S, le-ltb payloadLimit (length p) a, ← lent, lt-ltb signatureLimit n b)
 
       pub none-applies : n ≤ signatureLimit → refusalHere ≡ none
-      unfolding refusalOf so lentOf
-      none-applies b = rw (le-leb replyRoom (length buffer) h, eq-eqb (length x) storeSize (S .store-size), sound-passed s x S, le-leb (length p) payloadLimit a, ← lent, le-leb n signatureLimit b)
+      unfolding refusalOf lentOf
+      none-applies b = rw (le-ltb (length buffer) replyRoom h, eq-eqb (length x) storeSize (S .store-size), sound-passed s x S, le-ltb payloadLimit (length p) a, ← lent, le-ltb signatureLimit n b)
 
       pub accepts : (r : Called) (y out : List ℕ) (raised : State) (z : List ℕ) → n ≤ signatureLimit → Means raised z (advance (t .count) (gatewayOf s x))
           → Ends buffer r y out (served (gatewayOf raised z) (record { payload = p }) (lentOf answers bytes)) → Gives r y out

@@ -10,7 +10,6 @@ use native.Mathlib.Omega.{arith}
 use lib.ListN.{length, getD, take, drop}
 use lib.Seq.{drop-at}
 use Rattle.wire.specs.Limits.{passphraseLimit, signatureLimit, replyRoom}
-use Rattle.wire.specs.Steps.{so}
 use Rattle.wire.specs.Write.{write}
 use Rattle.wire.proofs.Writing.{length-write}
 use Rattle.rule.specs.Gateway.{Gateway, advance}
@@ -63,7 +62,7 @@ no-second-answer state store k other m n = call-gives state store k m ∙ sym (c
 -- a call that is served is not refused
 served-not-refused : (buffer : List ℕ) (gave : Gave) (g : Gateway) (frame : Frame) (answers : calls.Answers) (n : ℕ)
     → gave ≡ gaveOf (laidOut buffer (served g frame answers)) → gave .ended ≢ 0 ∷ n ∷ []
-unfolding served outcomeFor so
+unfolding served outcomeFor
 served-not-refused buffer gave g frame answers n is e =
     let r = served g frame answers in
     let says : outcomeValues (code (r .outcome)) ≡ 0 ∷ n ∷ [] = ap (λ (x : Gave). x .ended) (sym is) ∙ e in
@@ -175,7 +174,7 @@ code-refusals state store k eight long m = record {
 
 -- by the values of its outcome a step asked
 asked-by : (o : Outcome) (out : List ℕ) → 1 ≤ getD (outcomeValues o) 0 0 → getD (outcomeValues o) 0 0 ≤ 4 → (q : Question) × (outcomeIn (outcomeValues o) out ≡ asks q)
-unfolding outcomeFor so
+unfolding outcomeFor
 asked-by (Refused n) out a b = absurd (omega (arith, a))
 asked-by (Gate class) out a b = (gate class, refl)
 asked-by (Check from to) out a b = (check from to, refl)
@@ -217,12 +216,12 @@ module _ (state : State) (store : List ℕ) (k : Step) (S : Sound state store) (
   landing-leaves l e other = only-clock (rule-leavings.landing-leaves g (asCall k) l other e)
 
   pub replied : (bytes : List ℕ) → Replied bytes k → ruled .outcome ≡ lands (reply bytes)
-  unfolding outcomeFor so
+  unfolding outcomeFor
   replied bytes r = ruled-by _ (r .ended) ∙ ap (λ (b : List ℕ). lands (reply b)) (r .front)
 
   -- a reply's bytes are those that its length says
   replied-length : (n : ℕ) → EndedWith (5 ∷ n ∷ []) k → ruled .outcome ≡ lands (reply (take n (k .gave .reply)))
-  unfolding outcomeFor so
+  unfolding outcomeFor
   replied-length n e = ruled-by _ e
 
   said-length : (bytes : List ℕ) → ruled .outcome ≡ lands (reply bytes) → EndedWith (5 ∷ length bytes ∷ []) k
@@ -266,7 +265,7 @@ close-not-success : close ≢ SUCCESS
 close-not-success never = let z : _≡_ {A = ℕ} 0 1 = cc in omega arith
 
 pub code-close-leaves : CodeCloseLeaves ByCall
-unfolding written outcomeFor so
+unfolding written outcomeFor
 code-close-leaves state store k S m e =
     let o = ruled-by state store k S m (6 ∷ []) e in
     record { only-clock = landing-leaves state store k S m close o close-not-success; buffer-stays = wrote state store k S m (lands close) o }

@@ -4,16 +4,15 @@
 use Prim.Native.Nat.{ℕ}
 use mathlib.Core.Path.{_≡_, refl, sym, ap, _∙_, subst}
 use mathlib.Core.Logic.{_≢_}
-use mathlib.Core.Bool.{Bool, true, false}
+use mathlib.Core.Bool.{Bool, true, false, not}
 use mathlib.Core.Option.{Option, none, some}
 use mathlib.Core.List.{List, [], _∷_, _++_}
 use native.Mathlib.Omega.{arith}
 use borrow.Author.Tests.{lt-ltb}
-use lib.Dec.{leb}
+use lib.Dec.{ltb}
 use lib.ListN.{replicate}
 use Rattle.wire.specs.Limits.{payloadLimit, storeSize, signatureLimit, replyRoom}
 use Rattle.wire.specs.Numbers.{Bytes}
-use Rattle.wire.specs.Steps.{so}
 use Rattle.rule.specs.Gateway.{Gateway, fresh, locked}
 use Rattle.rule.specs.Rule.{gate}
 use Rattle.rule.specs.Calls as calls
@@ -22,7 +21,7 @@ use Rattle.rule.specs.Runs.{Event, events, endOf, callsOf, Every, isAccepted, a
 use Rattle.rule.specs.Order.{EveryAccepted, Keeps, AsOneAtATime, ownFrame, ownAnswers, NoUnlocking, EveryQuestion, OnlyExpiry}
 use Rattle.rule.specs.Words.{Begins}
 use Rattle.rule.specs.Comments.{TextComments, BytesIn}
-use Rattle.rule.proofs.Cases.{so-cases, true-not-false}
+use Rattle.rule.proofs.Cases.{cond-cases, true-not-false}
 use Rattle.rule.proofs.PlaceLaws.{some-not-none}
 use Rattle.rule.proofs.RefusalLaws.{refused-by}
 use Rattle.rule.proofs.Demands as demands
@@ -72,7 +71,7 @@ code-is-a-run state store ks S run =
 -- ## Refused steps drop out
 
 refused-by-values : (o : Outcome) (out : List ℕ) → isAccepted (outcomeIn (outcomeValues o) out) ≡ false → (n : ℕ) × (outcomeValues o ≡ 0 ∷ n ∷ [])
-unfolding isAccepted outcomeFor so
+unfolding isAccepted outcomeFor
 refused-by-values (Refused n) out e = (n, refl)
 refused-by-values (Gate class) out e = absurd (true-not-false e)
 refused-by-values (Check from to) out e = absurd (true-not-false e)
@@ -96,10 +95,10 @@ module _ (Met : State → List ℕ → Step → Type 0) (by-call : (state : Stat
     same-store : endStore store xs ≡ endStore store ks
 
   drop-out : (ks : List Step) (state : State) (store : List ℕ) → CodeRun Met state store ks → Alike state store (acceptedSteps ks) ks
-  unfolding acceptedSteps acceptedIn endState endStore so
+  unfolding acceptedSteps acceptedIn endState endStore
   drop-out [] state store run = record { run = tt; accepted-events = refl; same-state = refl; same-store = refl }
   drop-out (k ∷ ks) state store run =
-      so-cases (λ xs. Alike state store xs (k ∷ ks)) (isAccepted (outcomeAfter k))
+      cond-cases (λ xs. Alike state store xs (k ∷ ks)) (isAccepted (outcomeAfter k))
       (λ accepted.
       let rest = drop-out ks (k .gave .state) (k .gave .store) (run .1) in
       record {
@@ -183,23 +182,19 @@ code-between-lock-and-unlock state store (k ∷ before) lock ks passphrase S run
 -- ## Refusals that never occur
 
 refused-steps : (n : ℕ) (ks : List Step) → Every (λ e. e .outcome ≢ refused n) (eventsOf ks) → Every (λ k. ¬ (EndedWith (0 ∷ n ∷ []) k)) ks
-unfolding outcomeFor so
+unfolding outcomeFor
 refused-steps n [] all = tt
 refused-steps n (k ∷ ks) all = ((λ v. all .0 (ap (λ (vs : List ℕ). outcomeIn vs (k .gave .reply)) v)), refused-steps n ks (all .1))
 
 -- a store of the right length is not refused
 not-2 : (buffer payload lentBytes : ℕ) (isSound : Bool) → refusalOf buffer storeSize isSound payload lentBytes ≢ some 2
-unfolding refusalOf so
+unfolding refusalOf
 not-2 buffer payload lentBytes isSound =
-    so-cases Not (leb replyRoom buffer)
-    (λ _.
-    so-cases Not isSound
-    (λ _.
-    so-cases Not (leb payload payloadLimit)
-    (λ _. so-cases Not (leb lentBytes signatureLimit) (λ _ never. some-not-none (sym never)) (λ _. other 5 (omega arith)))
-    (λ _. other 4 (omega arith)))
-    (λ _. other 3 (omega arith)))
-    (λ _. other 1 (omega arith))
+    cond-cases Not (ltb buffer replyRoom) (λ _. other 1 (omega arith)) λ _.
+    cond-cases Not (not isSound) (λ _. other 3 (omega arith)) λ _.
+    cond-cases Not (ltb payloadLimit payload) (λ _. other 4 (omega arith)) λ _.
+    cond-cases Not (ltb signatureLimit lentBytes) (λ _. other 5 (omega arith)) λ _ never.
+    some-not-none (sym never)
   where
     Not : Option ℕ → Type 0
     Not o = o ≢ some 2

@@ -4,7 +4,6 @@ use Prim.Native.Nat.{ℕ}
 use mathlib.Core.Path.{_≡_, refl, sym, ap, _∙_, subst}
 use mathlib.Core.List.{List}
 use lib.ListN.{getD}
-use Rattle.wire.specs.Steps.{so}
 use Rattle.rule.specs.declared.Hash.{Hash}
 use Rattle.rule.specs.Gateway.{atClock, advance}
 use Rattle.rule.specs.Rule.{gate, signature, Plan, rule as plan}
@@ -53,7 +52,7 @@ bits-table flags bits hash e t = record {
 }
 
 pub code-hashes : CodeHashes ByCall
-unfolding code outcomeFor so
+unfolding code outcomeFor
 code-hashes state store k n from to bits S m bytes v =
     let g = gatewayOf state store in
     let ends = step-ends state store S k m in

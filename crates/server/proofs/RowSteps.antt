@@ -1,14 +1,13 @@
 -- The rows of the first byte: each row of the code is the rule's, since both go by the same tests in the same order.
 use Prim.Native.Nat.{ℕ}
 use mathlib.Core.Path.{_≡_, refl, sym, ap, _∙_, subst}
-use mathlib.Core.Bool.{Bool, true, false, not}
+use mathlib.Core.Bool.{Bool, true, false, not, cond}
 use mathlib.Core.Option.{Option}
 use mathlib.Core.List.{List}
 use borrow.Author.Needs.{needs}
 use borrow.Author.Tests.{not-true, not-false}
 use lib.Dec.{eqb, ltb}
 use lib.ListN.{length, getD}
-use Rattle.wire.specs.Steps.{so}
 use Rattle.wire.proofs.Steps.{steps}
 use Rattle.rule.specs.Gateway.{Gateway, locked, opened}
 use Rattle.rule.specs.Rule.{gate, FAILURE, Plan, fails, gated, row, table, rule, listing, adding, removing, removingAll, signing, locking, unlocking}
@@ -73,37 +72,36 @@ module _ (a : rule.Answers) (g : Gateway) (p : List ℕ) where
 
   module _ (s : Said) (says : a .gate ≡ grantOf s) where
     said-row : (class : ℕ) (body : Plan) (go : Row) → follow (lent a) g body ≡ resultOf go → (v : Said)
-        → given (grantOf v) (record { outcome = asks (gate class); gateway = g }) (λ granted. follow (lent a) g (so (fails g) granted body)) ≡ resultOf (bySaid v (rows.Asks class) go)
-    unfolding so follow bySaid
+        → given (grantOf v) (record { outcome = asks (gate class); gateway = g }) (λ granted. follow (lent a) g (cond granted body (fails g))) ≡ resultOf (bySaid v (rows.Asks class) go)
+    unfolding follow bySaid
     said-row class body go e Missing = refl
     said-row class body go e No = refl
     said-row class body go e Yes = e
 
     gate-row : (fit : Bool) (class : ℕ) (body : Plan) (go : Row) → follow (lent a) g body ≡ resultOf go → follow (lent a) g (gated g fit class body) ≡ resultOf (gatedRow go class fit s)
-    unfolding gated so follow lent gatedRow
+    unfolding gated follow lent gatedRow
     gate-row false class body go e = refl
-    gate-row true class body go e = ap (λ (o : Option Bool). given o (record { outcome = asks (gate class); gateway = g }) (λ granted. follow (lent a) g (so (fails g) granted body))) says ∙ said-row class body go e s
+    gate-row true class body go e = ap (λ (o : Option Bool). given o (record { outcome = asks (gate class); gateway = g }) (λ granted. follow (lent a) g (cond granted body (fails g)))) says ∙ said-row class body go e s
 
     none-fits : follow (lent a) g (fails g) ≡ resultOf rows.Fails
     unfolding follow
     none-fits = refl
 
-    so-row : (b : Bool) (z q : Plan) (y w : Row) → follow (lent a) g z ≡ resultOf y → follow (lent a) g q ≡ resultOf w → follow (lent a) g (so z b q) ≡ resultOf (so y b w)
-    unfolding so
-    so-row true z q y w e f = f
-    so-row false z q y w e f = e
+    cond-row : (b : Bool) (z q : Plan) (y w : Row) → follow (lent a) g z ≡ resultOf y → follow (lent a) g q ≡ resultOf w → follow (lent a) g (cond b q z) ≡ resultOf (cond b w y)
+    cond-row true z q y w e f = f
+    cond-row false z q y w e f = e
 
     table-row : (first : ℕ) → follow (lent a) g (table g p first) ≡ resultOf (rowOf first (locked g) s)
     unfolding table row rowOf
     table-row first =
-        so-row (eqb first 11) _ _ _ _
-        (so-row (eqb first 17) _ _ _ _
-        (so-row (eqb first 25) _ _ _ _
-        (so-row (eqb first 18) _ _ _ _
-        (so-row (eqb first 19) _ _ _ _
-        (so-row (eqb first 13) _ _ _ _
-        (so-row (eqb first 22) _ _ _ _
-        (so-row (eqb first 23) _ _ _ _
+        cond-row (eqb first 11) _ _ _ _
+        (cond-row (eqb first 17) _ _ _ _
+        (cond-row (eqb first 25) _ _ _ _
+        (cond-row (eqb first 18) _ _ _ _
+        (cond-row (eqb first 19) _ _ _ _
+        (cond-row (eqb first 13) _ _ _ _
+        (cond-row (eqb first 22) _ _ _ _
+        (cond-row (eqb first 23) _ _ _ _
         none-fits
         (gate-row (locked g) 7 (unlocking g p) rows.Unlock refl))
         (gate-row (opened g) 6 (locking g p) rows.Lock refl))
@@ -116,7 +114,7 @@ module _ (a : rule.Answers) (g : Gateway) (p : List ℕ) where
 
     rule-row : follow (lent a) g (rule g p) ≡ resultOf (rowIn p (locked g) s)
     unfolding rule rowIn
-    rule-row = so-row (ltb 0 (length p)) _ _ _ _ none-fits (table-row (getD p 0 0))
+    rule-row = cond-row (ltb 0 (length p)) _ _ _ _ none-fits (table-row (getD p 0 0))
 
 -- ## What is served
 

@@ -3,12 +3,11 @@
 use Prim.Native.Nat.{ℕ, _≤_, _<_, _%_}
 use mathlib.Core.Path.{_≡_}
 use mathlib.Core.Logic.{_≢_}
-use mathlib.Core.Bool.{Bool, true, false}
+use mathlib.Core.Bool.{Bool, true, false, cond}
 use mathlib.Core.List.{List, [], _∷_, _++_, map}
 use lib.ListN.{length, getD, take, drop, replicate}
 use Rattle.wire.specs.Limits.{payloadLimit, storeSize, passphraseLimit, signatureLimit, replyRoom}
 use Rattle.wire.specs.Numbers.{Bytes, be32}
-use Rattle.wire.specs.Steps.{so}
 use Rattle.wire.specs.Write.{string, write}
 use Rattle.rule.specs.declared.Millis.{Millis}
 use Rattle.rule.specs.Gateway.{Entry, Gateway, fresh, advance, locked}
@@ -120,7 +119,7 @@ meantEnd state store ks = gatewayOf (endState state ks) (endStore store ks)
 -- the run without its refused steps
 unfoldable pub acceptedSteps : List Step → List Step
 acceptedSteps [] = []
-acceptedSteps (k ∷ ks) = so (acceptedSteps ks) (isAccepted (outcomeAfter k)) (k ∷ acceptedSteps ks)
+acceptedSteps (k ∷ ks) = cond (isAccepted (outcomeAfter k)) (k ∷ acceptedSteps ks) (acceptedSteps ks)
 
 -- ## What one call does, said of a step
 

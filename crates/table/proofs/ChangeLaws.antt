@@ -12,12 +12,11 @@ use borrow.Rule.Slice.PartMut.{midOf, putMid}
 use lib.Dec.{eqb}
 use lib.ListN.{length, getD, set, replicate, length-map, length-set}
 use Rattle.wire.specs.Limits.{storeSize, passphraseLimit, lastNumber}
-use Rattle.wire.specs.Steps.{so}
 use Rattle.rule.specs.declared.Millis.{Millis}
 use Rattle.rule.specs.Gateway.{Entry as Key, Place, Gateway, dueAt, lasting, atClock, advance, vacate, withLock, without, withoutAll, NewKey, newEntry, withEntry}
 use Rattle.rule.specs.Soundness.{EveryEntry, Fits, SoundEntry, Apart}
 use Rattle.rule.specs.Soundness as rule
-use Rattle.rule.proofs.Cases.{so-cases}
+use Rattle.rule.proofs.Cases.{cond-cases}
 use Rattle.rule.proofs.PlaceLaws.{Holds, every-at, every-imp, set-every, set-distinct, set-none-fewer, freed-fewer, vacate-frees, distinct-at, found-at, absent-differs, Placed, replacing, anew, placed, place-inside}
 use Rattle.rule.proofs.SoundLaws.{sound-fewer, sound-lock, sound-advance}
 use Rattle.table.specs.declared.Entry.{Entry}
@@ -201,7 +200,7 @@ module _ (clock : ℕ) where
   unfolding lasting
   lasting-every P none ps qs all rest = rest
   lasting-every P (some k) ps qs all rest =
-      so-cases (λ p. EveryEntry P (p ∷ qs)) (dueAt clock (k .reading) (k .lifetime)) (λ _. rest) (λ _. (all .0, rest))
+      cond-cases (λ p. EveryEntry P (p ∷ qs)) (dueAt clock (k .reading) (k .lifetime)) (λ _. rest) (λ _. (all .0, rest))
 
   every-rest : (P : Key → Type 0) (p : Place) (ps : List Place) → EveryEntry P (p ∷ ps) → EveryEntry P ps
   every-rest P none ps all = all
@@ -216,12 +215,12 @@ module _ (clock : ℕ) where
 -- a due key is gone at the clock, another place is as it was
 module _ (clock : ℕ) (e : Entry) (p : List ℕ) where
   pub due-gone : dueAt clock (e .reading .count) (lifetimeOf e) ≡ true → lasting clock (placeOf e p) ≡ none
-  unfolding placeOf lasting so
-  due-gone due = so-cases (λ q. lasting clock q ≡ none) (eqb (e .number) 0) (λ _. refl) (λ _. rw due)
+  unfolding placeOf lasting
+  due-gone due = cond-cases (λ q. lasting clock q ≡ none) (eqb (e .number) 0) (λ _. refl) (λ _. rw due)
 
   pub undue-stays : dueAt clock (e .reading .count) (lifetimeOf e) ≡ false → lasting clock (placeOf e p) ≡ placeOf e p
-  unfolding placeOf lasting so
-  undue-stays due = so-cases (λ q. lasting clock q ≡ q) (eqb (e .number) 0) (λ _. refl) (λ _. rw due)
+  unfolding placeOf lasting
+  undue-stays due = cond-cases (λ q. lasting clock q ≡ q) (eqb (e .number) 0) (λ _. refl) (λ _. rw due)
 
 pub data KeyIn (clock next : ℕ) (q : Place) : Type 0 where
   no-key : q ≡ none → KeyIn clock next q

@@ -10,9 +10,8 @@ use lib.Dec.{eqb, ltb}
 use lib.ListN.{length, take, drop, getD, length-drop}
 use lib.Seq.{length-take-le}
 use Rattle.wire.specs.Limits.{placeSize, storeSize, blobLimit}
-use Rattle.wire.specs.Steps.{so}
 use Rattle.rule.specs.Gateway.{isFree}
-use Rattle.rule.proofs.Cases.{so-cases}
+use Rattle.rule.proofs.Cases.{cond-cases}
 use Rattle.table.specs.declared.Entry.{Entry}
 use Rattle.table.specs.declared.State.{State}
 use Rattle.table.specs.Each.{Each}
@@ -45,20 +44,20 @@ module _ (es : List Entry) (x : List ℕ) (eight : length es ≡ 8) where
 
 module _ (e : Entry) (p : List ℕ) where
   pub place-free : e .number ≡ 0 → placeOf e p ≡ none
-  unfolding placeOf so
+  unfolding placeOf
   place-free h = rw (eq-eqb (e .number) 0 h)
 
   pub place-held : (e .number ≡ 0 → ⊥) → placeOf e p ≡ some (keyOf e p)
-  unfolding placeOf so
+  unfolding placeOf
   place-held h = rw (ne-eqb (e .number) 0 h)
 
   pub place-number : e .number ≡ numberIn (placeOf e p)
   unfolding placeOf
-  place-number = so-cases (λ q. e .number ≡ numberIn q) (eqb (e .number) 0) (eqb-true (e .number) 0) (λ _. refl)
+  place-number = cond-cases (λ q. e .number ≡ numberIn q) (eqb (e .number) 0) (eqb-true (e .number) 0) (λ _. refl)
 
   pub place-tested : not (eqb (e .number) 0) ≡ not (isFree (placeOf e p))
   unfolding placeOf
-  place-tested = so-cases (λ q. not (eqb (e .number) 0) ≡ not (isFree q)) (eqb (e .number) 0) (ap not) (ap not)
+  place-tested = cond-cases (λ q. not (eqb (e .number) 0) ≡ not (isFree q)) (eqb (e .number) 0) (ap not) (ap not)
 
 -- ## What soundness adds
 

@@ -7,17 +7,14 @@ use mathlib.Core.List.{List}
 use native.Mathlib.Numerals.{add-one}
 use lib.ListN.{length, drop, getD, drop-of-length-le}
 use lib.Seq.{drop-cons}
-use Rattle.wire.specs.Steps.{so}
 use Rattle.rule.specs.declared.Found.the-variants.{At, Nothing}
 use Rattle.rule.specs.Gateway.{Place, seek}
 
 module _ (test : Place → Bool) (ps : List Place) (i : ℕ) where
   pub seek-step : i < length ps → test (getD ps i none) ≡ false → seek test i (drop i ps) ≡ seek test (i + 1) (drop (i + 1) ps)
-  unfolding so
   seek-step h t = rw (add-one, drop-cons ps i none, t)
 
   pub seek-stop : i < length ps → test (getD ps i none) ≡ true → seek test i (drop i ps) ≡ At i
-  unfolding so
   seek-stop h t = rw (drop-cons ps i none, t)
 
   pub seek-end : length ps ≤ i → seek test i (drop i ps) ≡ Nothing

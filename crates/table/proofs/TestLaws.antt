@@ -1,14 +1,13 @@
 -- Each test of soundness is passed exactly where its fact holds; so the whole test says soundness.
 use Prim.Native.Nat.{ℕ}
 use mathlib.Core.Path.{_≡_, refl, sym, ap, _∙_}
-use mathlib.Core.Bool.{Bool, true, false, _||_}
+use mathlib.Core.Bool.{Bool, true, false, _||_, cond}
 use mathlib.Core.List.{List}
 use native.Mathlib.Omega.{arith}
 use borrow.Author.Tests.{eqb-true, eqb-false, eq-eqb}
 use lib.Dec.{eqb}
 use lib.ListN.{length, take, drop, replicate, length-replicate}
 use Rattle.wire.specs.Limits.{storeSize, blobLimit, fieldsLimit, fieldsAt, commentLimit, passphraseLimit, lastNumber}
-use Rattle.wire.specs.Steps.{so}
 use Rattle.rule.proofs.SoundLaws.{Says, both-say, le-says, lt-says, eq-says, within-says, distinct-says}
 use Rattle.table.specs.declared.Comment.{Comment}
 use Rattle.table.specs.declared.Entry.{Entry}
@@ -138,13 +137,13 @@ held-says clock next e p number =
     )
 
 pub place-says : (clock next : ℕ) (e : Entry) (p : List ℕ) → Says (soundPlace clock next e p) (SoundPlace clock next e p)
-unfolding soundPlace so
+unfolding soundPlace
 place-says clock next e p = by-number (eqb (e .number) 0) refl
   where
     number-of : e ≡ freeEntry → e .number ≡ 0
     number-of f = ap (λ (x : Entry). x .number) f
 
-    by-number : (b : Bool) → eqb (e .number) 0 ≡ b → Says (so (soundHeld clock next e p) b (soundFree e p)) (SoundPlace clock next e p)
+    by-number : (b : Bool) → eqb (e .number) 0 ≡ b → Says (cond b (soundFree e p) (soundHeld clock next e p)) (SoundPlace clock next e p)
     by-number true b =
         let says = free-says e p (eqb-true (e .number) 0 b) in
         ((λ t. let (f, z) = says .0 t in free f z), says-free says)

@@ -2,7 +2,7 @@
 -- so is sound and means itself.
 use Prim.Native.Nat.{ℕ, zero, suc, _≤_}
 use mathlib.Core.Path.{_≡_, refl, sym, ap, _∙_}
-use mathlib.Core.Bool.{Bool, true, false}
+use mathlib.Core.Bool.{Bool, true, false, cond}
 use mathlib.Core.Option.{none, some}
 use mathlib.Core.List.{List, [], _∷_, _++_, map}
 use native.Mathlib.Omega.{arith}
@@ -10,7 +10,6 @@ use borrow.Author.Tests.{ne-eqb}
 use lib.ListN.{length, take, drop, replicate, length-drop, length-map, length-take, take-append-drop}
 use lib.Seq.{length-take-le, take-take, take-at, drop-at, take-append-le}
 use Rattle.wire.specs.Limits.{storeSize, blobLimit, fieldsLimit, fieldsAt, commentLimit, passphraseLimit}
-use Rattle.wire.specs.Steps.{so}
 use Rattle.keys.specs.declared.constraints.Lifetime.{Lifetime}
 use Rattle.keys.specs.declared.constraints.Lifetime.the-variants.{Forever, For}
 use Rattle.rule.specs.Gateway.{Entry as Key, Place, Gateway, fresh}
@@ -34,7 +33,6 @@ use Rattle.table.proofs.SizeLaws.{entries-end, KeyFits, free-size, key-
 -- ## One place
 
 pub flag-rule : FlagRule
-unfolding so
 flag-rule e p = record { confirm = λ h. rw h; no-confirm = λ h. rw h; lifetime = λ h. rw h; no-lifetime = λ h. rw h }
 
 -- a sound flag is written as what it says
@@ -45,10 +43,9 @@ flag-kept (suc (suc n)) h = absurd (omega arith)
 
 -- a lifetime is kept as a flag and seconds
 lifetime-kept : (e : Entry) → Flag (e .limited) → (isSet (e .limited) ≡ false → e .seconds .count ≡ 0) → (e .limited ≡ limitedFlag (lifetimeOf e)) × (e .seconds ≡ keptSeconds (lifetimeOf e))
-unfolding so
 lifetime-kept e flag none-without = by-limit (isSet (e .limited)) refl
   where
-    by-limit : (b : Bool) → isSet (e .limited) ≡ b → (e .limited ≡ limitedFlag (so Forever b (For (e .seconds)))) × (e .seconds ≡ keptSeconds (so Forever b (For (e .seconds))))
+    by-limit : (b : Bool) → isSet (e .limited) ≡ b → (e .limited ≡ limitedFlag (cond b (For (e .seconds)) Forever)) × (e .seconds ≡ keptSeconds (cond b (For (e .seconds)) Forever))
     by-limit true b = (flag-kept (e .limited) flag ∙ ap flagOf b, refl)
     by-limit false b = let zero-seconds : e .seconds .count ≡ 0 = none-without b in (flag-kept (e .limited) flag ∙ ap flagOf b, (λ j. record { count = zero-seconds j }))
 
@@ -70,7 +67,7 @@ pub data Seen (clock next : ℕ) (e : Entry) (p : List ℕ) : Type 0 where
 
 module _ (clock next : ℕ) (e : Entry) (p : List ℕ) (whole : length p ≡ size e) where
   pub seen : SoundPlace clock next e p → Seen clock next e p
-  unfolding placeOf entryFor bytesFor heldBytes so
+  unfolding placeOf entryFor bytesFor heldBytes
   seen (free f z) = seen-free (rw f) f (z ∙ ap (λ (n : ℕ). replicate n 0) whole)
   seen (held s) =
       let number : e .number ≡ 0 → ⊥ = λ (n : e .number ≡ 0). let h = s .number-first in omega arith in
@@ -197,8 +194,7 @@ limited-sound : (l : Lifetime) → Flag (limitedFlag l)
 limited-sound Forever = omega arith
 limited-sound (For seconds) = omega arith
 
-lifetime-back : (l : Lifetime) → so Forever (isSet (limitedFlag l)) (For (keptSeconds l)) ≡ l
-unfolding so
+lifetime-back : (l : Lifetime) → cond (isSet (limitedFlag l)) (For (keptSeconds l)) Forever ≡ l
 lifetime-back Forever = refl
 lifetime-back (For seconds) = refl
 
@@ -232,7 +228,7 @@ module _ (clock next : ℕ) (k : Key) (s : SoundEntry clock next k) where
   fields-back = rw fields-part (padded-front fieldsLimit (k .fields))
 
   pub key-back : placeOf (entryFor (some k)) (bytesFor (some k)) ≡ some k
-  unfolding placeOf entryFor bytesFor so
+  unfolding placeOf entryFor bytesFor
   key-back =
       let number : k .number ≡ 0 → ⊥ = λ (n : k .number ≡ 0). let h = s .number-first in omega arith in
       rw (ne-eqb (k .number) 0 number, blob-back, fields-back, comment-back, lifetime-back, flag-back)
@@ -260,7 +256,7 @@ module _ (clock next : ℕ) (k : Key) (s : SoundEntry clock next k) where
       no-seconds (For seconds) never = let z : _≡_ {A = ℕ} 0 1 = cc in absurd (omega arith)
 
 pub free-back : placeOf (entryFor none) (bytesFor none) ≡ none
-unfolding placeOf entryFor so
+unfolding placeOf entryFor
 free-back = refl
 
 free-sound : (clock next : ℕ) → SoundPlace clock next (entryFor none) (bytesFor none)

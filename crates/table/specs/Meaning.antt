@@ -1,14 +1,13 @@
 -- What a state and its store mean, and the one way in which a gateway is written.
 use Prim.Native.Nat.{ℕ}
 use mathlib.Core.Path.{_≡_}
-use mathlib.Core.Bool.{Bool, true, false}
+use mathlib.Core.Bool.{Bool, true, false, cond}
 use mathlib.Core.Option.{none, some}
 use mathlib.Core.List.{List, [], _∷_, _++_, map}
 use lib.ListN.{length, take, drop, replicate}
 use lib.Dec.{eqb}
 use Rattle.wire.specs.Limits.{placeSize, blobLimit, fieldsLimit, fieldsAt, commentLimit, passphraseLimit}
 use Rattle.wire.specs.declared.Seconds.{Seconds}
-use Rattle.wire.specs.Steps.{so}
 use Rattle.keys.specs.declared.constraints.Lifetime.{Lifetime}
 use Rattle.keys.specs.declared.constraints.Lifetime.the-variants.{Forever, For}
 use Rattle.rule.specs.Gateway.{Entry as Key, Place, Gateway}
@@ -31,7 +30,7 @@ isSet flag = eqb flag 1
 
 -- "perhaps a lifetime"
 abbrev pub lifetimeOf : Entry → Lifetime
-lifetimeOf e = so Forever (isSet (e .limited)) (For (e .seconds))
+lifetimeOf e = cond (isSet (e .limited)) (For (e .seconds)) Forever
 
 -- the comment that is kept, with its length
 abbrev pub commentOf : Comment → List ℕ
@@ -51,7 +50,7 @@ keyOf e p = record {
 
 -- an entry and the bytes of its place; the number 0 is no key's
 unfoldable pub placeOf : Entry → List ℕ → Place
-placeOf e p = so (some (keyOf e p)) (eqb (e .number) 0) none
+placeOf e p = cond (eqb (e .number) 0) none (some (keyOf e p))
 
 -- what a place says of its entry, and what a free one has for it
 abbrev pub numberIn : Place → ℕ

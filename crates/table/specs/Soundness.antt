@@ -1,14 +1,13 @@
 -- 01's soundness of a state and its store, test by test, and the facts that the tests say.
 use Prim.Native.Nat.{ℕ, _≤_, _<_}
 use mathlib.Core.Path.{_≡_}
-use mathlib.Core.Bool.{Bool, true, false, _&&_, _||_, not}
+use mathlib.Core.Bool.{Bool, true, false, _&&_, _||_, not, cond}
 use mathlib.Core.Option.{none, some}
 use mathlib.Core.List.{List, [], _∷_}
 use lib.ListN.{length, getD, take, drop}
 use lib.Dec.{leb, ltb, eqb}
 use Rattle.wire.specs.Limits.{storeSize, blobLimit, fieldsLimit, fieldsAt, commentLimit, passphraseLimit, lastNumber}
 use Rattle.wire.specs.Numbers.{within}
-use Rattle.wire.specs.Steps.{so}
 use Rattle.rule.specs.Gateway.{Place, Gateway}
 use Rattle.rule.specs.Soundness.{everyEntry, apart, distinct, Distinct}
 use Rattle.table.specs.declared.Comment.{Comment}
@@ -67,7 +66,7 @@ unfoldable pub soundHeld : ℕ → ℕ → Entry → List ℕ → Bool
 soundHeld clock next e p = ltb (e .number) next && (leb (e .reading .count) clock && (soundFlags e && (soundLifetime e && soundContent e p)))
 
 unfoldable pub soundPlace : ℕ → ℕ → Entry → List ℕ → Bool
-soundPlace clock next e p = so (soundHeld clock next e p) (eqb (e .number) 0) (soundFree e p)
+soundPlace clock next e p = cond (eqb (e .number) 0) (soundFree e p) (soundHeld clock next e p)
 
 unfoldable pub all : List Bool → Bool
 all [] = true

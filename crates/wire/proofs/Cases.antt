@@ -1,20 +1,19 @@
 -- One case lemma for each way in which a definition goes on, and what a test says.
 use Prim.Native.Nat.{ℕ}
 use mathlib.Core.Path.{_≡_, refl, sym}
-use mathlib.Core.Bool.{Bool, true, false, _&&_, not}
+use mathlib.Core.Bool.{Bool, true, false, _&&_, not, cond}
 use native.Mathlib.Omega.{arith}
 use Rattle.wire.specs.declared.read.Cursor.{Cursor}
 use Rattle.wire.specs.declared.read.Octet.{Octet}
 use Rattle.wire.specs.declared.read.Number.{Number}
 use Rattle.wire.specs.declared.read.Part.{Part}
 use Rattle.wire.specs.declared.read.Part.the-variants.{Whole}
-use Rattle.wire.specs.Steps.{so, byte, number, part}
+use Rattle.wire.specs.Steps.{byte, number, part}
 
 module _ {A : Type 0} (P : A → Type 0) where
-  pub so-cases : (b : Bool) {z a : A} → (b ≡ true → P a) → (b ≡ false → P z) → P (so z b a)
-  unfolding so
-  so-cases true f g = f refl
-  so-cases false f g = g refl
+  pub cond-cases : (b : Bool) {z a : A} → (b ≡ true → P a) → (b ≡ false → P z) → P (cond b a z)
+  cond-cases true f g = f refl
+  cond-cases false f g = g refl
 
   pub byte-cases : (o : Octet) {z : ℕ → A} {next : ℕ → Cursor → A} → ((at : ℕ) → P (z at)) → ((b : ℕ) (k : Cursor) → o ≡ Octet.Value b k → P (next b k)) → P (byte z o next)
   unfolding byte

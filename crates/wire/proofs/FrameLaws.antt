@@ -1,11 +1,12 @@
 -- The splitter's answers told apart, and when each comes: four bytes are there or not, and their number is what stands in front. Nothing is assumed of the bytes.
+use mathlib.Core.Bool.{cond}
 use Prim.Native.Nat.{ℕ, _+_, _^_, _≤_, _<_}
 use mathlib.Core.Path.{_≡_, refl, sym, ap, ap₂, _∙_}
 use mathlib.Core.List.{List, [], _++_, append-nil}
 use native.Mathlib.Omega.{arith}
 use native.Mathlib.Nat.{add-sub-cancel-left}
-use borrow.Author.Tests.{le-leb, lt-leb, leb-true}
-use lib.Dec.{leb, eqb}
+use borrow.Author.Tests.{le-ltb, lt-ltb, ltb-false}
+use lib.Dec.{eqb, ltb}
 use lib.ListN.{length, take, length-append}
 use lib.Seq.{take-at, length-take-le}
 use Rattle.wire.specs.Limits.{payloadLimit}
@@ -14,22 +15,22 @@ use Rattle.wire.specs.declared.frame.Split.the-variants.{MoreNeeded, Too
 use Rattle.wire.specs.declared.read.Number.{Number}
 use Rattle.wire.specs.Numbers.{be32, beAt}
 use Rattle.wire.specs.Read.{numberAt}
-use Rattle.wire.specs.Steps.{so, number}
+use Rattle.wire.specs.Steps.{number}
 use Rattle.wire.specs.Values.{Span}
 use Rattle.wire.specs.Write.{string}
 use Rattle.wire.specs.Frames.{splitOf, splitNumber, splitSpan, framePayload, payloadFrom}
 use Rattle.wire.specs.Promises.{SplitsApart, Holds, Splits, SplitTable}
-use Rattle.wire.proofs.Cases.{so-cases, number-cases}
+use Rattle.wire.proofs.Cases.{cond-cases, number-cases}
 use Rattle.wire.proofs.Reading.{number-there, number-cut, number-read, cut-there, cut-none, from-there, from-none}
 use Rattle.wire.proofs.Format.{be-written}
 
 -- ## Values
 
 splitFor : ℕ → Span → Split
-splitFor n v = so (so MoreNeeded (eqb n 1) TooLong) (eqb n 2) (Frame (v .from) (v .to))
+splitFor n v = cond (eqb n 2) (Frame (v .from) (v .to)) (cond (eqb n 1) TooLong MoreNeeded)
 
 split-for : (x : Split) → splitFor (splitNumber x) (splitSpan x) ≡ x
-unfolding splitFor so
+unfolding splitFor
 split-for MoreNeeded = refl
 split-for TooLong = refl
 split-for (Frame from to) = refl
@@ -57,15 +58,15 @@ module _ (s : List ℕ) (f t : ℕ) where
   frame-read =
       number-cases IfWhole (numberAt s 0) (λ _ _. other MoreNeeded (λ z. omega arith)) λ n k read.
       let is = number-read s 0 n k read in
-      so-cases IfWhole (leb n payloadLimit)
-      (λ _. so-cases IfWhole (leb (k .at + n) (length s))
+      cond-cases IfWhole (ltb payloadLimit n)
+      (λ _. other TooLong (λ z. omega arith))
+      (λ _. cond-cases IfWhole (ltb (length s) (k .at + n))
+      (λ _. other MoreNeeded (λ z. omega arith))
       (λ h e.
       let q : k .at ≡ f = cc in
       let r : k .at + n ≡ t = cc in
-      let l = leb-true (k .at + n) (length s) h in
-      record { start = omega (arith, is .place); end = omega (arith, is .place, is .number); within = omega arith })
-      (λ _. other MoreNeeded (λ z. omega arith)))
-      (λ _. other TooLong (λ z. omega arith))
+      let l = ltb-false (length s) (k .at + n) h in
+      record { start = omega (arith, is .place); end = omega (arith, is .place, is .number); within = omega arith }))
 
 -- unless a frame is whole, nothing is named
 else-none : (x : Split) → (splitNumber x ≡ 2 → ⊥) → splitSpan x ≡ record { from = 0; to = 0 }
@@ -81,18 +82,18 @@ module _ (n : ℕ) (rest : List ℕ) (small : n < 2 ^ 32) where
   length-read = sym (number-there (be32 n ++ rest) 0 (omega arith)) ∙ ap (λ (i : ℕ). Number.Value i (record { at = 4 })) (be-written (be32 n ++ rest) 0 n rest small refl)
 
   split-long : payloadLimit < n → splitNumber (splitOf (be32 n ++ rest)) ≡ 1
-  unfolding splitOf number so
-  split-long h = rw (length-read, lt-leb n payloadLimit h)
+  unfolding splitOf number
+  split-long h = rw (length-read, lt-ltb payloadLimit n h)
 
   module _ (h : n ≤ payloadLimit) where
     split-short : length rest < n → splitNumber (splitOf (be32 n ++ rest)) ≡ 0
-    unfolding splitOf number so
-    split-short l = rw (length-read, le-leb n payloadLimit h, lt-leb (4 + n) (length (be32 n ++ rest)) (omega arith))
+    unfolding splitOf number
+    split-short l = rw (length-read, le-ltb payloadLimit n h, lt-ltb (length (be32 n ++ rest)) (4 + n) (omega arith))
 
     module _ (l : n ≤ length rest) where
       split-is : splitOf (be32 n ++ rest) ≡ Frame 4 (4 + n)
-      unfolding splitOf number so
-      split-is = rw (length-read, le-leb n payloadLimit h, le-leb (4 + n) (length (be32 n ++ rest)) (omega arith))
+      unfolding splitOf number
+      split-is = rw (length-read, le-ltb payloadLimit n h, le-ltb (length (be32 n ++ rest)) (4 + n) (omega arith))
 
       split-whole : Holds (be32 n ++ rest) (take n rest)
       unfolding framePayload payloadFrom

@@ -2,7 +2,7 @@
 use Prim.Native.Nat.{ℕ, suc, _+_, _-_, _≤_, _<_}
 use mathlib.Core.Path.{_≡_, refl, sym, ap, _∙_}
 use mathlib.Core.List.{List, _∷_}
-use mathlib.Core.Bool.{Bool, true, false}
+use mathlib.Core.Bool.{Bool, true, false, cond}
 use mathlib.Core.Logic.{_⊎_, ⊎-elim, _↔_}
 use native.Mathlib.Omega.{arith}
 use native.Mathlib.Numerals.{add-one}
@@ -19,7 +19,7 @@ use Rattle.wire.specs.Values.{Reading, read, fault, Span, octetReads, nu
 use Rattle.wire.specs.Utf8.{utf8End}
 use Rattle.wire.specs.Abnf.{Octets}
 use Rattle.wire.specs.Mpint.{mpint}
-use Rattle.wire.specs.Steps.{so, part}
+use Rattle.wire.specs.Steps.{part}
 use Rattle.wire.specs.Read.{cutOf, numberAt, stringAt, textAt, mpintAt}
 use Rattle.wire.specs.Promises.{AnswersApart, ByteRule, ByteCut, NumberRule, NumberCut, StringRule, StringCut, CutRule, TextRule, TextFault, MpintAtRule, MpintFault, WriteRule}
 use Rattle.wire.proofs.Reading.{le-or-lt, byte-there, byte-cut, string-read, string-short, string-cut, cut-there, cut-past, cut-back, from-there, from-past, from-back}
@@ -141,12 +141,12 @@ cut-rule s f t = record {
 
 -- a string that passed a test was there; one that did not is a fault at the place that is given for it
 pub tested : (p : Part) (test : ℕ → ℕ → Bool) (z : ℕ → ℕ → ℕ) (f t : ℕ) (k : Cursor)
-    → (part Part.Fault p (λ f t k. so (Part.Fault (z f t)) (test f t) (Whole f t k)) ≡ Whole f t k) ↔ ((p ≡ Whole f t k) × (test f t ≡ true))
-unfolding part so
+    → (part Part.Fault p (λ f t k. cond (test f t) (Whole f t k) (Part.Fault (z f t))) ≡ Whole f t k) ↔ ((p ≡ Whole f t k) × (test f t ≡ true))
+unfolding part
 tested (Part.Fault at) test z f t k = ((λ e. let x : _≡_ {A = ℕ} 0 1 = cc in absurd (omega arith)), (λ e. let h = e .0 in let x : _≡_ {A = ℕ} 0 1 = cc in absurd (omega arith)))
 tested (Whole f′ t′ k′) test z f t k = ((λ e. there (test f′ t′) refl e), (λ e. let h = e .0 in let x : f′ ≡ f = cc in let y : t′ ≡ t = cc in rw (x, y, e .1) (rw (x, y) at h)))
   where
-    there : (b : Bool) → test f′ t′ ≡ b → so (Part.Fault (z f′ t′)) b (Whole f′ t′ k′) ≡ Whole f t k → (Whole f′ t′ k′ ≡ Whole f t k) × (test f t ≡ true)
+    there : (b : Bool) → test f′ t′ ≡ b → cond b (Whole f′ t′ k′) (Part.Fault (z f′ t′)) ≡ Whole f t k → (Whole f′ t′ k′ ≡ Whole f t k) × (test f t ≡ true)
     there true q e = (e, (let x : f ≡ f′ = cc in let y : t ≡ t′ = cc in rw (x, y) q))
     there false q e = let x : _≡_ {A = ℕ} 0 1 = cc in absurd (omega arith)
 
@@ -155,14 +155,14 @@ string-fault-place : (s : List ℕ) (at place : ℕ) → stringAt s at ≡ Part.
 string-fault-place s at place e = let h = string-cut s at (string-short s at place e) in cc
 
 pub mpint-fault : MpintFault
-unfolding mpintAt part so
+unfolding mpintAt part
 mpint-fault s at place e = go (stringAt s at) refl (fault-of (mpintAt s at) place e)
   where
-    test : (f t : ℕ) (k : Cursor) (b : Bool) → so (Part.Fault at) b (Whole f t k) ≡ Part.Fault place → place ≡ at
+    test : (f t : ℕ) (k : Cursor) (b : Bool) → cond b (Whole f t k) (Part.Fault at) ≡ Part.Fault place → place ≡ at
     test f t k true h = let x : _≡_ {A = ℕ} 0 1 = cc in absurd (omega arith)
     test f t k false h = cc
 
-    go : (p : Part) → stringAt s at ≡ p → part Part.Fault p (λ f t k. so (Part.Fault at) (mpint (cutOf s f t)) (Whole f t k)) ≡ Part.Fault place → place ≡ at
+    go : (p : Part) → stringAt s at ≡ p → part Part.Fault p (λ f t k. cond (mpint (cutOf s f t)) (Whole f t k) (Part.Fault at)) ≡ Part.Fault place → place ≡ at
     go (Whole f t k) q h = test f t k (mpint (cutOf s f t)) h
     go (Part.Fault x) q h = let y = string-fault-place s at x q in let w : x ≡ place = cc in sym w ∙ y
 
@@ -186,7 +186,7 @@ text-test s at f t k e =
     )
 
 pub text-fault : TextFault
-unfolding textAt part so
+unfolding textAt part
 text-fault s at =
     record {
       cut = λ e. rw (fault-of (stringAt s at) at e);

@@ -2,7 +2,7 @@
 use Prim.Native.Nat.{ℕ, _-_, _≤_, _<_}
 use mathlib.Core.Path.{_≡_, refl, sym, _∙_}
 use mathlib.Core.List.{List}
-use mathlib.Core.Bool.{Bool, true, false}
+use mathlib.Core.Bool.{Bool, true, false, cond}
 use borrow.Author.Needs.{needs}
 use borrow.Author.Tests.{le-leb, lt-leb, lt-ltb, le-ltb, eq-eqb, ne-eqb}
 use native.Mathlib.Omega.{arith}
@@ -15,17 +15,15 @@ use Rattle.wire.specs.declared.read.Part.{Part}
 use Rattle.wire.specs.declared.read.Part.the-variants.{Whole}
 use Rattle.wire.specs.Mpint.{mpint}
 use Rattle.wire.specs.Read.{same, stringAt}
-use Rattle.wire.specs.Steps.{so, byte, number, part}
+use Rattle.wire.specs.Steps.{byte, number, part}
 use Rattle.wire.proofs.Reading.{cut-there, cut-past, cut-back, string-read}
 
 module _ {A : Type 0} where
-  pub so-yes : (z : A) (b : Bool) (x a : A) → true ≡ b → x ≡ a → x ≡ so z b a
-  unfolding so
-  so-yes z b x a e g = rw (← e) g
+  pub cond-yes : (z : A) (b : Bool) (x a : A) → true ≡ b → x ≡ a → x ≡ cond b a z
+  cond-yes z b x a e g = rw (← e) g
 
-  pub so-no : (z : A) (b : Bool) (x a : A) → false ≡ b → x ≡ z → x ≡ so z b a
-  unfolding so
-  so-no z b x a e g = rw (← e) g
+  pub cond-no : (z : A) (b : Bool) (x a : A) → false ≡ b → x ≡ z → x ≡ cond b a z
+  cond-no z b x a e g = rw (← e) g
 
   pub byte-fault : (z : ℕ → A) (p r : Octet) (F : ℕ → Cursor → A) (x : A) (at : ℕ) → r ≡ Octet.Fault at → r ≡ p → x ≡ z at → x ≡ byte z p F
   unfolding byte
@@ -88,6 +86,6 @@ mpint-of v b x X q e f = cc
 pub string-order : (s : List ℕ) (at f t : ℕ) (k : Cursor) (r : Part) → r ≡ Whole f t k → r ≡ stringAt s at → f ≤ t
 string-order s at f t k r e g = let h = string-read s at f t k (sym g ∙ e) in omega arith
 
-pub ruleset steps = (so-yes, so-no, byte-fault, byte-value, number-fault, number-value, part-fault, part-whole, plain, leb-yes, leb-no, ltb-yes, ltb-no, some-yes, some-no, eqb-yes, eqb-no, same-of, mpint-of)
+pub ruleset steps = (cond-yes, cond-no, byte-fault, byte-value, number-fault, number-value, part-fault, part-whole, plain, leb-yes, leb-no, ltb-yes, ltb-no, some-yes, some-no, eqb-yes, eqb-no, same-of, mpint-of)
 
 pub ruleset all = (steps, cut-there, cut-past, cut-back, string-order, needs)

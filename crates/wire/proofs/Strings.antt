@@ -2,7 +2,7 @@
 use Prim.Native.Nat.{ℕ, _+_, _-_, _^_, _≤_, _<_}
 use mathlib.Core.Path.{_≡_, refl, sym, ap, _∙_}
 use mathlib.Core.List.{List, [], _++_, append-assoc}
-use mathlib.Core.Bool.{Bool, true}
+use mathlib.Core.Bool.{Bool, true, cond}
 use mathlib.Core.Logic.{_↔_, ⊎-elim}
 use native.Mathlib.Omega.{arith}
 use lib.ListN.{length, getD, drop, length-append, length-drop, List·getD-append, List·getD-eq-default}
@@ -14,7 +14,7 @@ use Rattle.wire.specs.Numbers.{Bytes, be32}
 use Rattle.wire.specs.Abnf.{Octets}
 use Rattle.wire.specs.Mpint.{mpint, Positive}
 use Rattle.wire.specs.Read.{cutOf, stringAt, textAt, mpintAt}
-use Rattle.wire.specs.Steps.{so, part}
+use Rattle.wire.specs.Steps.{part}
 use Rattle.wire.specs.Values.{fault, partReads}
 use Rattle.wire.specs.Write.{string}
 use Rattle.wire.specs.Promises.{NoString, Longest}
@@ -118,7 +118,7 @@ module _ {s : List ℕ} (bytes : Bytes s) {at : ℕ} where
   }
 
   pub tested-reads : (T : List ℕ → Type 0) (test : ℕ → ℕ → Bool) → ((v : List ℕ) → At s at v → (test (at + 4) (behind at v) ≡ true) ↔ T v)
-      → Reads T s at (part Part.Fault (stringAt s at) (λ f t k. so (Part.Fault at) (test f t) (Whole f t k)))
+      → Reads T s at (part Part.Fault (stringAt s at) (λ f t k. cond (test f t) (Whole f t k) (Part.Fault at)))
   tested-reads T test means = record {
     taken = λ f t k e.
         let q = tested (stringAt s at) test (λ f t. at) f t k .0 e in
@@ -132,7 +132,7 @@ module _ {s : List ℕ} (bytes : Bytes s) {at : ℕ} where
 
   -- a test of the bytes of a string
   pub bytes-reads : (T : List ℕ → Type 0) (test : List ℕ → Bool) → ((v : List ℕ) → Bytes v → (test v ≡ true) ↔ T v)
-      → Reads T s at (part Part.Fault (stringAt s at) (λ f t k. so (Part.Fault at) (test (cutOf s f t)) (Whole f t k)))
+      → Reads T s at (part Part.Fault (stringAt s at) (λ f t k. cond (test (cutOf s f t)) (Whole f t k) (Part.Fault at)))
   bytes-reads T test means = tested-reads T (λ f t. test (cutOf s f t)) λ v a. rw (lies-cut (inside a)) (means v (lies-bytes (inside a) bytes))
 
   pub mpint-reads : Reads Positive s at (mpintAt s at)

@@ -11,7 +11,7 @@ use Rattle.wire.specs.declared.read.Part.the-variants.{Whole}
 use Rattle.wire.specs.Numbers.{beAt}
 use Rattle.wire.specs.Utf8.{utf8End}
 use Rattle.wire.specs.Mpint.{mpint}
-use Rattle.wire.specs.Steps.{so, part}
+use Rattle.wire.specs.Steps.{part}
 
 -- the bytes from f up to t, none where they are not all there
 unfoldable pub cutOf : List ℕ → ℕ → ℕ → List ℕ
@@ -47,10 +47,10 @@ stringAt s at =
 unfoldable pub textAt : List ℕ → ℕ → Part
 textAt s at =
     part Part.Fault (stringAt s at) λ f t k.
-    so (Part.Fault (f + utf8End (cutOf s f t))) (eqb (utf8End (cutOf s f t)) (t - f)) (Whole f t k)
+    cond (eqb (utf8End (cutOf s f t)) (t - f)) (Whole f t k) (Part.Fault (f + utf8End (cutOf s f t)))
 
 -- a string that is a positive mpint
 unfoldable pub mpintAt : List ℕ → ℕ → Part
 mpintAt s at =
     part Part.Fault (stringAt s at) λ f t k.
-    so (Part.Fault at) (mpint (cutOf s f t)) (Whole f t k)
+    cond (mpint (cutOf s f t)) (Whole f t k) (Part.Fault at)

@@ -1,6 +1,5 @@
--- How a definition goes on: by a test, or by what was read. Where it does not go on, `z` is the answer, at a fault by its place.
+-- How a definition goes on by what was read. Where it does not go on, `z` is the answer, at a fault by its place.
 use Prim.Native.Nat.{ℕ}
-use mathlib.Core.Bool.{Bool, true, false}
 use Rattle.wire.specs.declared.read.Cursor.{Cursor}
 use Rattle.wire.specs.declared.read.Octet.{Octet}
 use Rattle.wire.specs.declared.read.Number.{Number}
@@ -8,10 +7,6 @@ use Rattle.wire.specs.declared.read.Part.{Part}
 use Rattle.wire.specs.declared.read.Part.the-variants.{Whole}
 
 module _ {A : Type 0} where
-  unfoldable pub so : A → Bool → A → A
-  so z true a = a
-  so z false a = z
-
   unfoldable pub byte : (ℕ → A) → Octet → (ℕ → Cursor → A) → A
   byte z (Octet.Value b k) next = next b k
   byte z (Octet.Fault at) next = z at

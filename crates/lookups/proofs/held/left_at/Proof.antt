@@ -2,24 +2,23 @@
 use native.Mathlib.Omega.{arith}
 use borrow.Author.Needs.{needs}
 use borrow.Author.Tests.{not-true, not-false}
-use Rattle.wire.specs.Steps.{so}
 use Rattle.lookups.specs.Told.{leftAt}
 use Rattle.lookups.proofs.held.left_at.Statement.{statement}
 use Rattle.lookups.proofs.held.left_at.Tie as tie
 
 returns : tie.Need-returns
-unfolding leftAt so
+unfolding leftAt
 returns c = let asked = c .before .is-set in rw (← asked .ensures, not-true (asked .result) (c .if1 .taken))
 
 returns-2 : tie.Need-returns-2
-unfolding leftAt so
+unfolding leftAt
 returns-2 c =
     let limited = c .before .before .before .before .before .before in
     let asked = limited .before .is-set in
     rw (← asked .ensures, not-false (asked .result) (limited .if1 .left)) (omega arith)
 
 returns-3 : tie.Need-returns-3
-unfolding leftAt so
+unfolding leftAt
 returns-3 c =
     let lifetime = c .before .before .before .before .before in
     let limited = lifetime .before .before in

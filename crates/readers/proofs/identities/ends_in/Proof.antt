@@ -6,14 +6,13 @@ use mathlib.Core.Bool.{Bool}
 use borrow.Author.Tests.{le-leb}
 use lib.ListN.{length}
 use Rattle.wire.specs.Read.{cutOf, same}
-use Rattle.wire.specs.Steps.{so}
 use Rattle.readers.specs.Identities.{endsIn}
 use Rattle.readers.proofs.ReadSteps.{all}
 use Rattle.readers.proofs.identities.ends_in.Statement.{statement}
 use Rattle.readers.proofs.identities.ends_in.Tie as tie
 
 last-compared : (v end part : List ℕ) (b : Bool) → length end ≤ length v → part ≡ cutOf v (length v - length end) (length v) → b ≡ same part end → b ≡ endsIn v end
-unfolding endsIn so
+unfolding endsIn
 last-compared v end part b h p e = rw (le-leb (length end) (length v) h) (e ∙ ap (λ (x : List ℕ). same x end) p)
 
 returns-2 : tie.Need-returns-2

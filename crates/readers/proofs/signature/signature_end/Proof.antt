@@ -1,16 +1,16 @@
 -- The definition goes by the same string and test. Assumes nothing.
-use Rattle.wire.specs.Steps.{so, part}
+use Rattle.wire.specs.Steps.{part}
 use Rattle.readers.specs.Signatures.{signatureEnd}
 use Rattle.readers.proofs.ReadSteps.{all}
 use Rattle.readers.proofs.signature.signature_end.Statement.{statement}
 use Rattle.readers.proofs.signature.signature_end.Tie as tie
 
 returns-2 : tie.Need-returns-2
-unfolding signatureEnd so part
+unfolding signatureEnd part
 returns-2 c = rw (← c .before .before .before .before .before .string .ensures, c .before .before .before .to .given .1, c .before .if1 .taken) (c .touched-end .ensures)
 
 returns-3 : tie.Need-returns-3
-unfolding signatureEnd so part
+unfolding signatureEnd part
 returns-3 c = rw (← c .before .before .before .before .string .ensures, c .before .before .to .given .1, c .if1 .left)
 
 pub signature-end-spec : {M : Type 1} → statement M

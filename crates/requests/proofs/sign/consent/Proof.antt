@@ -1,17 +1,16 @@
 -- Without Confirm yes is said; with it, what counts for the key's number. Assumes nothing.
 use borrow.Author.Needs.{needs}
 use borrow.Author.Tests.{not-true, not-false}
-use Rattle.wire.specs.Steps.{so}
 use Rattle.requests.specs.Outcomes.{agreed}
 use Rattle.requests.proofs.sign.consent.Statement.{statement}
 use Rattle.requests.proofs.sign.consent.Tie as tie
 
 returns : tie.Need-returns
-unfolding agreed so
+unfolding agreed
 returns c = λ x S. let asked = c .before .confirm-at in rw (← asked .ensures .1 x S, not-true (asked .result) (c .if1 .taken))
 
 returns-2 : tie.Need-returns-2
-unfolding agreed so
+unfolding agreed
 returns-2 c =
     let number = c .before .number-at in
     let tested = c .before .before in

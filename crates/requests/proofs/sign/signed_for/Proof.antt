@@ -1,5 +1,4 @@
 -- An answer counts where its number is this one. Assumes nothing.
-use Rattle.wire.specs.Steps.{so}
 use Rattle.rule.specs.Calls.{forNumber}
 use borrow.Author.Tests.{eq-eqb, ne-eqb}
 use borrow.Author.Needs.{needs}
@@ -7,23 +6,23 @@ use Rattle.requests.proofs.sign.signed_for.Statement.{statement}
 use Rattle.requests.proofs.sign.signed_for.Tie as tie
 
 returns : tie.Need-returns
-unfolding forNumber so
+unfolding forNumber
 returns c = λ b. rw (c .before .before .s .given .1, eq-eqb _ _ (c .if1 .taken))
 
 returns-2 : tie.Need-returns-2
-unfolding forNumber so
+unfolding forNumber
 returns-2 c = λ b. rw (c .before .before .s2 .given .1, eq-eqb _ _ (c .if2 .taken))
 
 returns-3 : tie.Need-returns-3
-unfolding forNumber so
+unfolding forNumber
 returns-3 c = λ b. rw (c .enum-told .given .1)
 
 returns-4 : tie.Need-returns-4
-unfolding forNumber so
+unfolding forNumber
 returns-4 c = λ b. rw (c .before .before .s .given .1, ne-eqb _ _ (c .if1 .left))
 
 returns-5 : tie.Need-returns-5
-unfolding forNumber so
+unfolding forNumber
 returns-5 c = λ b. rw (c .before .before .s2 .given .1, ne-eqb _ _ (c .if2 .left))
 
 pub signed-for-spec : {M : Type 1} → statement M

@@ -1,17 +1,16 @@
 -- Without a lifetime it is never due; with one the test is the definition's, in milliseconds. Assumes nothing.
 use borrow.Author.Needs.{needs}
 use borrow.Author.Tests.{not-true, not-false}
-use Rattle.wire.specs.Steps.{so}
 use Rattle.rule.specs.Gateway.{dueAt}
 use Rattle.table.proofs.changes.is_due.Statement.{statement}
 use Rattle.table.proofs.changes.is_due.Tie as tie
 
 returns : tie.Need-returns
-unfolding dueAt so
+unfolding dueAt
 returns c = let asked = c .before .is-set in rw (← asked .ensures, not-true (asked .result) (c .if1 .taken))
 
 returns-2 : tie.Need-returns-2
-unfolding dueAt so
+unfolding dueAt
 returns-2 c =
     let left = c .before .before .before .before .before in
     let asked = left .before .is-set in

@@ -3,7 +3,7 @@ use mathlib.Core.Path.{sym, _∙_}
 use native.Mathlib.Omega.{arith}
 use borrow.Author.Needs.{needs}
 use borrow.Author.Tests.{eq-eqb, ne-eqb}
-use Rattle.wire.specs.Steps.{so, part}
+use Rattle.wire.specs.Steps.{part}
 use Rattle.wire.specs.Read.{textAt}
 use Rattle.wire.proofs.Steps.{steps}
 use Rattle.wire.proofs.Reading.{string-read}
@@ -19,7 +19,7 @@ sub-if1 : tie.Need-sub-if1
 sub-if1 c = let h = string-read _ _ _ _ _ (sym (c .before .before .before .before .before .string .ensures) ∙ c .before .before .before .p .given .1) in omega arith
 
 returns-2 : tie.Need-returns-2
-unfolding textAt part so
+unfolding textAt part
 returns-2 c = rw (← c .before .before .before .before .before .before .string .ensures, c .before .before .before .before .p .given .1, ← c .before .before .cut .ensures .bytes, ← c .before .utf8-end .ensures, eq-eqb _ _ (c .if1 .taken))
 
 add-t9 : tie.Need-add-t9
@@ -28,7 +28,7 @@ add-t9 c =
     (arith, text-room _ _ _ _ _ _ _ (sym (c .before .before .before .before .before .before .string .ensures) ∙ c .before .before .before .before .p .given .1) (c .before .before .cut .ensures .bytes) (c .before .utf8-end .ensures))
 
 returns-3 : tie.Need-returns-3
-unfolding textAt part so
+unfolding textAt part
 returns-3 c = rw (← c .before .before .before .before .before .before .string .ensures, c .before .before .before .before .p .given .1, ← c .before .before .cut .ensures .bytes, ← c .before .utf8-end .ensures, ne-eqb _ _ (c .if1 .left))
 
 pub text-spec : {M : Type 1} → statement M
