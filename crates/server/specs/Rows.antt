@@ -30,6 +30,6 @@ rowOf first locked gate =
     (cond (eqb first 22) (gatedRow row.Lock 6 (not locked) gate)
     (cond (eqb first 23) (gatedRow row.Unlock 7 locked gate) row.Fails)))))))
 
--- "Empty payload: FAILURE, no question"
+-- "Empty payload ..: FAILURE, no question."
 unfoldable pub rowIn : List ℕ → Bool → Said → Row
 rowIn payload locked gate = cond (ltb 0 (length payload)) (rowOf (getD payload 0 0) locked gate) row.Fails
