@@ -3,4 +3,4 @@ pub mod WriteLaws
 pub mod ConstraintLaws
 pub mod SmartcardLaws
 pub mod WriterTables
-pub mod WriterRules
+pub mod RequestRules

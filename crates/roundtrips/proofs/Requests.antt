@@ -13,7 +13,7 @@ use Rattle.wire.proofs.ByteLaws.{bytes-cons, be32-bytes, bytes-string}
 use Rattle.rule.specs.Words.{Begins, Carries}
 use Rattle.client.specs.Requests.{signRequest}
 use Rattle.client.specs.Promises.{Strings, none, one}
-use Rattle.client.proofs.WriterRules.{list-found, lock-found, unlock-found, sign-found}
+use Rattle.client.proofs.RequestRules.{list-found, lock-found, unlock-found, sign-found}
 use Rattle.roundtrips.specs.Promises.{ListRead, LockRead, UnlockRead, SignReads, SignRead}
 
 begins-of : (byte : ℕ) (payload : List ℕ) → octetReads (byteAt payload 0) ≡ read byte 1 → Begins byte payload
