@@ -40,3 +40,8 @@ def cpu(a):
     with open(f'/proc/{a.process.pid}/stat') as f:
         fields = f.read().rsplit(')', 1)[1].split()
     return (int(fields[11]) + int(fields[12])) / os.sysconf('SC_CLK_TCK')
+
+
+def is_emulated(process):
+    """Does it run in an emulator, whose own memory then counts? Only root can tell."""
+    return os.geteuid() == 0 and os.path.basename(os.readlink(f'/proc/{process}/exe')).startswith('qemu')

@@ -6,6 +6,7 @@ import array
 import os
 
 from .base import Skip, must, until
+from .processes import is_emulated
 
 PAGES = 1 << 20  # bytes read at once
 SKIPPED = ('[vvar]', '[vvar_vclock]', '[vsyscall]', '[vdso]')
@@ -27,7 +28,7 @@ def mappings(process):
 
 def memory(process):
     """The process's memory, in parts: address, bytes, mapping."""
-    if os.geteuid() == 0 and os.path.basename(os.readlink(f'/proc/{process}/exe')).startswith('qemu'):
+    if is_emulated(process):
         raise Skip('the agent runs in an emulator, whose memory holds the registers too')
     try:
         mem = open(f'/proc/{process}/mem', 'rb', buffering=0)

@@ -135,12 +135,12 @@ struct Loop {
     ready: VecDeque<u64>,
     /// Connections in the midst of a long frame, with what they were told of in this turn.
     later: Vec<(u64, EpollFlags)>,
+    /// The turns that they had.
+    turns: usize,
     /// Connections that have ended, and the reading at which each is closed.
     held: VecDeque<(u64, UnixStream)>,
     last_token: u64,
     opened: u64,
-    /// The turns of the loop.
-    turns: usize,
     /// Nothing is taken before this reading.
     paused: Option<u64>,
     /// The reading at which idle connections were looked for.
@@ -173,10 +173,10 @@ pub fn serve(set: Serve) -> Result<(i32, Log), String> {
         works: HashMap::new(),
         ready: VecDeque::new(),
         later: Vec::new(),
+        turns: 0,
         held: VecDeque::new(),
         last_token: FIRST,
         opened: 0,
-        turns: 0,
         paused: None,
         swept: 0,
         peak: 0,

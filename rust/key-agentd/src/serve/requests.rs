@@ -13,16 +13,18 @@ impl Loop {
         }
     }
 
-    /// Of those in the midst of a long frame one has its turn, behind all others; the system tells of the rest again.
+    /// Of those in the midst of a long frame one in sixteen has its turn, behind all others; the system tells of the rest again.
     pub(super) fn on_later(&mut self) {
-        self.turns = self.turns.wrapping_add(1);
-        let one = self.later.get(self.turns % self.later.len().max(1)).copied();
-        self.later.clear();
-        if let Some((token, events)) = one {
-            if let Some(c) = self.connections.remove(&token) {
-                self.on_connection(token, c, events);
+        let later = std::mem::take(&mut self.later);
+        let share = (later.len() + 15) / 16;
+        for (token, events) in later.iter().cycle().skip(self.turns % later.len().max(1)).take(share) {
+            if let Some(c) = self.connections.remove(token) {
+                self.on_connection(*token, c, *events);
             }
         }
+        self.turns = self.turns.wrapping_add(share);
+        self.later = later;
+        self.later.clear();
     }
 
     fn on_connection(&mut self, token: u64, mut c: Connection, events: EpollFlags) {
