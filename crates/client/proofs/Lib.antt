@@ -4,3 +4,4 @@ pub mod ConstraintLaws
 pub mod SmartcardLaws
 pub mod WriterTables
 pub mod RequestRules
+pub mod CardForms

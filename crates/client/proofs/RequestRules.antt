@@ -141,5 +141,5 @@ smartcard-read id pin hi hp li lp = record {
   add = plain-reads 20 id pin (omega arith) (hi, li, (hp, lp, tt));
   remove = plain-reads 21 id pin (omega arith) (hi, li, (hp, lp, tt));
   constrained = λ cs.
-      request-reads 26 (id ∷ pin ∷ []) (be32 (length cs) ++ constraintForms cs) (omega arith) (hi, li, (hp, lp, tt)) (bytes-append (be32 (length cs)) (constraintForms cs) (be32-bytes (length cs)) (forms-bytes cs));
+      request-reads 26 (id ∷ pin ∷ []) (constraintForms cs) (omega arith) (hi, li, (hp, lp, tt)) (forms-bytes cs);
 }

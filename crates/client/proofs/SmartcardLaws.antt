@@ -1,13 +1,11 @@
 -- The smartcard writers: their tests come first, in the definition's order, and behind them stands the payload's own writer.
 use Prim.Native.Nat.{ℕ, _+_, _≤_, _<_}
-use mathlib.Core.Path.{_≡_, refl, sym, ap, _∙_}
-use mathlib.Core.List.{List, _∷_, _++_, append-assoc}
+use mathlib.Core.Path.{_≡_, refl}
+use mathlib.Core.List.{List, _∷_, _++_}
 use native.Mathlib.Omega.{arith}
 use borrow.Author.Tests.{eq-eqb, ne-eqb, le-ltb, lt-ltb}
 use lib.ListN.{length, take, length-append}
-use lib.Seq.{length-take-le}
 use Rattle.wire.specs.declared.Constraint.{Constraint}
-use Rattle.wire.specs.Numbers.{be32}
 use Rattle.wire.specs.Utf8.{utf8End}
 use Rattle.wire.specs.Write.{write, string}
 use Rattle.wire.specs.Constraints.{constraintForms}
@@ -64,45 +62,23 @@ too-many id pin cs count out h = rw (lt-ltb 4 count h) (refl, refl)
 abbrev pub headOf : List ℕ → List ℕ → List ℕ
 headOf id pin = 26 ∷ (string id ++ string pin)
 
--- what is counted, before anything is written
-pub record Counted (cs : List Constraint) (count size : ℕ) : Type 0 where
-  pub four : length cs ≡ 4
-  pub few : count ≤ 4
-  pub size-is : size ≡ length (constraintForms (take count cs))
-
-module _ (id pin : List ℕ) (cs : List Constraint) (count size : ℕ) (out : List ℕ) (c : Counted cs count size) where
-  number-is : length (take count cs) ≡ count
-  number-is = length-take-le count cs (omega arith)
-
-  length-is : 9 + length id + length pin + (4 + size) ≡ length (constrainedSmartcard id pin (take count cs))
+module _ (id pin : List ℕ) (cs : List Constraint) (size : ℕ) (out : List ℕ) (counted-is : size ≡ length (constraintForms cs)) where
+  length-is : 9 + length id + length pin + size ≡ length (constrainedSmartcard id pin cs)
   length-is = simp length-append (omega arith)
 
-  pub constrained-refused : (r : Wrote) (m : List ℕ) → Met (9 + length id + length pin + (4 + size)) (headOf id pin) out r m → (k : Refusal) → r ≡ Refused k
-      → Met (length (constrainedSmartcard id pin (take count cs))) (constrainedSmartcard id pin (take count cs)) out r m
+  pub constrained-refused : (r : Wrote) (m : List ℕ) → Met (9 + length id + length pin + size) (headOf id pin) out r m → (k : Refusal) → r ≡ Refused k
+      → Met (length (constrainedSmartcard id pin cs)) (constrainedSmartcard id pin cs) out r m
   constrained-refused r m f k g = refused _ _ out r m f k g _ _ length-is
 
-  module _ (at : ℕ) (m : List ℕ) (s : Stage (9 + length id + length pin + (4 + size)) (headOf id pin) out at m) where
+  module _ (at : ℕ) (m : List ℕ) (s : Stage (9 + length id + length pin + size) (headOf id pin) out at m) where
     head-size : length (headOf id pin) ≡ 9 + length id + length pin
     head-size = simp length-append (omega arith)
 
-    pub number-room : at + 4 ≤ length m
-    number-room = let l = stage-size s (omega (arith, head-size)) in omega (arith, head-size)
+    pub constraints-room : at + length (constraintForms cs) ≤ length m
+    constraints-room = let l = stage-size s (omega (arith, head-size)) in omega (arith, head-size, s .place, s .fits)
 
-    module _ (first : ℕ) (o : List ℕ) (e : o ≡ write m at (be32 count)) (f : first ≡ at + 4) where
-      numbered : Stage (9 + length id + length pin + (4 + size)) (headOf id pin ++ be32 count) out first o
-      numbered = more s (be32 count) o first _ e f refl (rw length-append (omega (arith, head-size)))
-
-      numbered-size : length (headOf id pin ++ be32 count) ≡ 13 + length id + length pin
-      numbered-size = rw length-append (omega (arith, head-size))
-
-      pub constraints-room : first + length (constraintForms (take count cs)) ≤ length o
-      constraints-room = let l = stage-size numbered (omega (arith, numbered-size)) in omega (arith, numbered-size, numbered .place, numbered .fits)
-
-      shape : (headOf id pin ++ be32 count) ++ constraintForms (take count cs) ≡ constrainedSmartcard id pin (take count cs)
-      shape = append-assoc (headOf id pin) (be32 count) (constraintForms (take count cs)) ∙ behind-two 26 id pin (be32 count ++ constraintForms (take count cs))
-          ∙ ap (λ (i : ℕ). 26 ∷ (string id ++ (string pin ++ (be32 i ++ constraintForms (take count cs))))) (sym number-is)
-
-      pub constrained-written : (end : ℕ) (w : List ℕ) → end ≡ first + length (constraintForms (take count cs)) → w ≡ write o first (constraintForms (take count cs))
-          → Met (length (constrainedSmartcard id pin (take count cs))) (constrainedSmartcard id pin (take count cs)) out (Written end) w
-      constrained-written end w g h =
-          whole _ _ out end w (more numbered (constraintForms (take count cs)) w end (constrainedSmartcard id pin (take count cs)) h g shape (omega (arith, length-is))) length-is
+    pub constrained-written : (end : ℕ) (o : List ℕ) → end ≡ at + length (constraintForms cs) → o ≡ write m at (constraintForms cs)
+        → Met (length (constrainedSmartcard id pin cs)) (constrainedSmartcard id pin cs) out (Written end) o
+    constrained-written end o g h =
+        let t = more s (constraintForms cs) o end (constrainedSmartcard id pin cs) h g (behind-two 26 id pin (constraintForms cs)) (omega (arith, length-is)) in
+        whole _ _ out end o t length-is

@@ -1,3 +1,4 @@
 -- The definitions that contracts cite, and the statements of what is promised.
 pub mod Requests
+pub mod Forms
 pub mod Promises

@@ -1,7 +1,8 @@
 -- What writers promise, as statements; the proofs are in proofs/.
 use Prim.Native.Nat.{ℕ, _+_, _^_, _≤_, _<_}
 use mathlib.Core.Path.{_≡_}
-use mathlib.Core.List.{List, [], _∷_, _++_}
+use mathlib.Core.List.{List, [], _∷_}
+use mathlib.Core.Logic.{_↔_}
 use lib.ListN.{length, take, drop}
 use Rattle.wire.specs.Limits.{payloadLimit}
 use Rattle.wire.specs.declared.Constraint.{Constraint}
@@ -14,6 +15,7 @@ use Rattle.wire.specs.Promises.{Longest, Holds}
 use Rattle.wire.specs.Constraints.{constraintForms}
 use Rattle.wire.specs.declared.refusal.Wrote.{Wrote}
 use Rattle.wire.specs.Refusals.{Where, no-place, at-place, grants, refuses, wroteSays}
+use Rattle.client.specs.Forms.{CardForm}
 use Rattle.client.specs.Requests.{requestIdentities, signRequest, lockRequest, unlockRequest, plainSmartcard, constrainedSmartcard, removeSmartcard, addSmartcard, answered, filled, removeSmartcardAnswer, removeSmartcardLeft, addSmartcardAnswer, addSmartcardLeft}
 
 -- ## Writers
@@ -72,6 +74,30 @@ pub record CardAdded (id pin : List ℕ) (cs : List Constraint) (count : ℕ) (o
 abbrev pub AddSmartcardTable : Type 0
 AddSmartcardTable = (id pin : List ℕ) (cs : List Constraint) (count : ℕ) (out : List ℕ) → CardAdded id pin cs count out
 
+-- ## 26 is the draft's: "demand 2 follows the draft at this place from then on"
+
+-- the bytes are the draft's form of these constraints exactly where they are the definition's
+abbrev pub CardFormRule : Type 0
+CardFormRule = (id pin : List ℕ) (cs : List Constraint) (payload : List ℕ) → CardForm id pin cs payload ↔ (payload ≡ constrainedSmartcard id pin cs)
+
+-- bytes stand at the front of an output, and their length is answered
+abbrev pub Stands : List ℕ → Wrote → List ℕ → Type 0
+Stands bytes answer left = (wroteSays answer ≡ grants (length bytes)) × (take (length bytes) left ≡ bytes)
+
+-- one to four constraints, an id of UTF-8, the draft's form of all that was given, and the room that its frame takes
+pub record CardFits (id pin : List ℕ) (cs : List Constraint) (count : ℕ) (out payload : List ℕ) : Type 0 where
+  pub few : count ≤ 4
+  pub text : Octets id
+  pub form : CardForm id pin (take count cs) payload
+  pub small : length payload ≤ payloadLimit
+  pub fits : 4 + length payload ≤ length out
+
+-- with constraints given, the writer writes a payload's frame exactly where the payload is that form
+abbrev pub CardWritten : Type 0
+CardWritten =
+    (id pin : List ℕ) (cs : List Constraint) (count : ℕ) (out payload : List ℕ) → 1 ≤ count
+    → Stands (string payload) (addSmartcardAnswer id pin cs count out) (addSmartcardLeft id pin cs count out) ↔ CardFits id pin cs count out payload
+
 -- ## What any reader finds in a request
 
 -- strings are read one behind the other, from one place up to another
@@ -101,11 +127,11 @@ SignFound =
     (blob bytes : List ℕ) (flags : ℕ) → Bytes blob → Bytes bytes → length blob < 2 ^ 32 → length bytes < 2 ^ 32
     → RequestReads 13 (signRequest blob bytes flags) (blob ∷ bytes ∷ []) (be32 flags)
 
--- "20 and 26 (id, PIN), 21"; "26 with a u32 count before them"
+-- "20 and 26 (id, PIN), 21"; behind the PIN of 26 the constraints, with no number before them
 pub record CardsRead (id pin : List ℕ) : Type 0 where
   pub add : RequestReads 20 (plainSmartcard id pin) (id ∷ pin ∷ []) []
   pub remove : RequestReads 21 (removeSmartcard id pin) (id ∷ pin ∷ []) []
-  pub constrained : (cs : List Constraint) → RequestReads 26 (constrainedSmartcard id pin cs) (id ∷ pin ∷ []) (be32 (length cs) ++ constraintForms cs)
+  pub constrained : (cs : List Constraint) → RequestReads 26 (constrainedSmartcard id pin cs) (id ∷ pin ∷ []) (constraintForms cs)
 
 abbrev pub SmartcardRead : Type 0
 SmartcardRead = (id pin : List ℕ) → Bytes id → Bytes pin → length id < 2 ^ 32 → length pin < 2 ^ 32 → CardsRead id pin

@@ -31,9 +31,9 @@ unlockRequest passphrase = 23 ∷ string passphrase
 abbrev pub plainSmartcard : List ℕ → List ℕ → List ℕ
 plainSmartcard id pin = 20 ∷ (string id ++ string pin)
 
--- "one to four (lifetime or Confirm, given order) give 26 with a u32 count before them"
+-- "one to four (lifetime or Confirm, given order) give 26"; #102: "the constraints of type 26 straight after the PIN"
 abbrev pub constrainedSmartcard : List ℕ → List ℕ → List Constraint → List ℕ
-constrainedSmartcard id pin cs = 26 ∷ (string id ++ (string pin ++ (be32 (length cs) ++ constraintForms cs)))
+constrainedSmartcard id pin cs = 26 ∷ (string id ++ (string pin ++ constraintForms cs))
 
 abbrev pub removeSmartcard : List ℕ → List ℕ → List ℕ
 removeSmartcard id pin = 21 ∷ (string id ++ string pin)

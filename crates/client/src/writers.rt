@@ -174,7 +174,7 @@ fn put_constraints(out: &mut [u8], at: usize, cs: [Constraint; 4], count: usize)
     place
 }
 
-// 26: id, PIN, the number of constraints, and the constraints. `add_smartcard_key` tests their number.
+// 26: id, PIN, and straight behind it the constraints. `add_smartcard_key` tests their number.
 fn add_constrained(
     id: &[u8],
     pin: &[u8],
@@ -186,14 +186,12 @@ fn add_constrained(
     ensures { λ r. ⌜ (r ≡ answered (constrainedSmartcard (now (id .entry)) (now (pin .entry)) (take count cs)) (now (out .entry)))
         × (now (out .exit) ≡ filled (constrainedSmartcard (now (id .entry)) (now (pin .entry)) (take count cs)) (now (out .entry))) ⌝ }
 {
-    four_of(cs);
-    let extra = 4 + constraints_len(cs, count);
+    let extra = constraints_len(cs, count);
     let w = two_strings(out, msg::ADD_SMARTCARD_KEY_CONSTRAINED, id, pin, extra);
     let Wrote::Written(at) = w else {
         return w;
     };
-    let first = put_number(out, at, count as u32);
-    let end = put_constraints(out, first, cs, count);
+    let end = put_constraints(out, at, cs, count);
     Wrote::Written(end)
 }
 

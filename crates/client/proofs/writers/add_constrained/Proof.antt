@@ -1,34 +1,39 @@
--- The number of constraints and the constraints stand behind the two strings. Assumes nothing.
+-- The constraints stand straight behind the two strings, as long as was counted. Assumes nothing.
 use denote.Ref.{now}
 use borrow.Author.Needs.{needs}
+use lib.ListN.{take}
 use Rattle.client.proofs.WriteLaws.{stage}
-use Rattle.client.proofs.SmartcardLaws.{headOf, Counted, constrained-refused, number-room, constraints-room, constrained-written}
+use Rattle.client.proofs.SmartcardLaws.{headOf, constrained-refused, constraints-room, constrained-written}
 use Rattle.client.proofs.writers.add_constrained.Statement.{statement}
 use Rattle.client.proofs.writers.add_constrained.Tie as tie
 
 returns : tie.Need-returns
 returns c =
-    let a = c .before .before .before .before .before .before .before .before .before .before .before .args in
-    let k : Counted (a .cs) (a .count) _ = record { four = c .before .before .before .before .before .before .before .four-of .ensures; few = c .before .before .before .before .before .before .before .before .before .before .before .pre; size-is = c .before .before .before .before .before .before .constraints-len .ensures .0 } in
-    constrained-refused (now (a .id)) (now (a .pin)) _ _ _ _ k _ _ (c .before .before .before .before .two-strings .ensures) _ (c .enum-told .given .1)
-
-put-number-requires : tie.Need-put-number-requires
-put-number-requires c κs =
-    let a = c .before .before .before .before .before .before .before .before .before .before .before .before .before .args in
-    let k : Counted (a .cs) (a .count) _ = record { four = c .before .before .before .before .before .before .before .before .before .four-of .ensures; few = c .before .before .before .before .before .before .before .before .before .before .before .before .before .pre; size-is = c .before .before .before .before .before .before .before .before .constraints-len .ensures .0 } in
-    number-room (now (a .id)) (now (a .pin)) _ _ _ (now (a .out)) k _ _ (stage _ (headOf (now (a .id)) (now (a .pin))) _ _ _ (c .before .before .before .before .before .before .two-strings .ensures) _ (c .before .before .w .given .1))
+    let strings = c .before .before .before .before in
+    let counted = strings .before .before in
+    let a = counted .before .before .before .before .args in
+    constrained-refused (now (a .id)) (now (a .pin)) (take (a .count) (a .cs)) _ _ (counted .constraints-len .ensures .0) _ _ (strings .two-strings .ensures) _ (c .enum-told .given .1)
 
 put-constraints-requires : tie.Need-put-constraints-requires
 put-constraints-requires c κs =
-    let a = c .before .before .before .before .before .before .before .before .before .before .before .before .before .before .before .before .before .args in
-    let k : Counted (a .cs) (a .count) _ = record { four = c .before .before .before .before .before .before .before .before .before .before .before .before .before .four-of .ensures; few = c .before .before .before .before .before .before .before .before .before .before .before .before .before .before .before .before .before .pre; size-is = c .before .before .before .before .before .before .before .before .before .before .before .before .constraints-len .ensures .0 } in
-    (c .before .before .before .before .before .before .before .before .before .before .before .before .before .before .before .before .before .pre, constraints-room (now (a .id)) (now (a .pin)) _ _ _ (now (a .out)) k _ _ (stage _ (headOf (now (a .id)) (now (a .pin))) _ _ _ (c .before .before .before .before .before .before .before .before .before .before .two-strings .ensures) _ (c .before .before .before .before .before .before .w .given .1)) _ _ (c .before .before .before .put-number .ensures .1) (c .before .before .before .put-number .ensures .0))
+    let told = c .before .before in
+    let strings = told .before .before .before .before in
+    let counted = strings .before .before in
+    let st = counted .before .before .before .before in
+    let a = st .args in
+    let s = stage _ (headOf (now (a .id)) (now (a .pin))) _ _ _ (strings .two-strings .ensures) _ (told .w .given .1) in
+    (st .pre, constraints-room (now (a .id)) (now (a .pin)) (take (a .count) (a .cs)) _ (now (a .out)) (counted .constraints-len .ensures .0) _ _ s)
 
 returns-2 : tie.Need-returns-2
 returns-2 c =
-    let a = c .before .before .before .before .before .before .before .before .before .before .before .before .before .before .before .before .before .before .before .before .args in
-    let k : Counted (a .cs) (a .count) _ = record { four = c .before .before .before .before .before .before .before .before .before .before .before .before .before .before .before .before .four-of .ensures; few = c .before .before .before .before .before .before .before .before .before .before .before .before .before .before .before .before .before .before .before .before .pre; size-is = c .before .before .before .before .before .before .before .before .before .before .before .before .before .before .before .constraints-len .ensures .0 } in
-    constrained-written (now (a .id)) (now (a .pin)) _ _ _ (now (a .out)) k _ _ (stage _ (headOf (now (a .id)) (now (a .pin))) _ _ _ (c .before .before .before .before .before .before .before .before .before .before .before .before .before .two-strings .ensures) _ (c .before .before .before .before .before .before .before .before .before .w .given .1)) _ _ (c .before .before .before .before .before .before .put-number .ensures .1) (c .before .before .before .before .before .before .put-number .ensures .0) _ _ (c .before .before .put-constraints .ensures .0) (c .before .before .put-constraints .ensures .1)
+    let put = c .before .before in
+    let told = put .before .before .before in
+    let strings = told .before .before .before .before in
+    let counted = strings .before .before in
+    let a = counted .before .before .before .before .args in
+    let s = stage _ (headOf (now (a .id)) (now (a .pin))) _ _ _ (strings .two-strings .ensures) _ (told .w .given .1) in
+    constrained-written (now (a .id)) (now (a .pin)) (take (a .count) (a .cs)) _ (now (a .out)) (counted .constraints-len .ensures .0) _ _ s _ _
+    (put .put-constraints .ensures .0) (put .put-constraints .ensures .1)
 
 pub add-constrained-spec : {M : Type 1} → statement M
 add-constrained-spec =
@@ -37,13 +42,9 @@ add-constrained-spec =
     (λ c κs. search needs)
     (λ c κs. search needs)
     (λ c. search needs)
-    (λ c κs. search needs)
-    (λ c. search needs)
     (λ c. search needs)
     (λ c. search needs)
     returns
-    (λ c. search needs)
-    put-number-requires
     put-constraints-requires
     (λ c. search needs)
     returns-2)
