@@ -16,6 +16,7 @@ use Rattle.wire.specs.Write.{string}
 use Rattle.wire.specs.Constraints.{constraintForms}
 use Rattle.wire.specs.Refusals.{grants, wroteSays}
 use Rattle.wire.proofs.Abnf.{utf8-rule}
+use Rattle.wire.proofs.Cases.{true-not-false}
 use Rattle.wire.proofs.Longest.{utf8-end}
 use Rattle.wire.proofs.Reading.{le-or-lt}
 use Rattle.wire.proofs.RefusalLaws.{not-granted}
@@ -53,19 +54,19 @@ module _ (id pin : List ℕ) (cs : List Constraint) (count : ℕ) (out : List �
   few : count ≤ 4
   few = ⊎-elim (λ (h : count ≤ 4). h) (λ (h : 4 < count). not-granted (sym (add-smartcard-table id pin cs count out .too-many h) ∙ granted)) (le-or-lt count 4)
 
-  text : Octets id
+  pub text : Octets id
   text = by-utf8 (utf8 id) refl
     where
       by-utf8 : (b : Bool) → utf8 id ≡ b → Octets id
       by-utf8 true e = utf8-rule id .0 e
       by-utf8 false e =
-          let never : Octets id → ⊥ = λ o. let no : true ≡ false = sym (utf8-rule id .1 o) ∙ e in let z : _≡_ {A = ℕ} 0 1 = cc in absurd (omega arith) in
+          let never : Octets id → ⊥ = λ o. true-not-false (sym (utf8-rule id .1 o) ∙ e) in
           not-granted (sym (add-smartcard-table id pin cs count out .no-text (utf8End id) few never (utf8-end id)) ∙ granted)
 
   framed : Framed payload out (addSmartcardAnswer id pin cs count out)
   framed = add-smartcard-table id pin cs count out .constrained some few text
 
-  small : length payload ≤ payloadLimit
+  pub small : length payload ≤ payloadLimit
   small =
       ⊎-elim
       (λ (h : length payload ≤ payloadLimit). h)
@@ -85,7 +86,7 @@ module _ (id pin : List ℕ) (cs : List Constraint) (count : ℕ) (out : List �
       → take n (addSmartcardLeft id pin cs count out) ≡ string (constrainedSmartcard id pin (take count cs))
   written n e = add-smartcard-rule id pin cs count out .sent n e .bytes ∙ ap string (add-smartcard-table id pin cs count out .some-given some)
 
-  pub card-fits : (payload : List ℕ) → Stands (string payload) (addSmartcardAnswer id pin cs count out) (addSmartcardLeft id pin cs count out)
+  card-fits : (payload : List ℕ) → Stands (string payload) (addSmartcardAnswer id pin cs count out) (addSmartcardLeft id pin cs count out)
       → CardFits id pin cs count out payload
   card-fits payload (granted, stands) =
       let is : payload ≡ constrainedSmartcard id pin (take count cs) = ap (drop 4) (sym stands ∙ written _ granted) in

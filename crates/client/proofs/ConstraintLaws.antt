@@ -15,7 +15,7 @@ use Rattle.wire.specs.Write.{write}
 use Rattle.wire.specs.Constraints.{constraintForm, constraintForms}
 use Rattle.wire.proofs.Writing.{length-write, write-behind}
 
-forms-append : (a b : List Constraint) → constraintForms (a ++ b) ≡ constraintForms a ++ constraintForms b
+pub forms-append : (a b : List Constraint) → constraintForms (a ++ b) ≡ constraintForms a ++ constraintForms b
 forms-append [] b = refl
 forms-append (c ∷ a) b = rw (forms-append a b) (sym (append-assoc (constraintForm c) (constraintForms a) (constraintForms b)))
 

@@ -132,7 +132,7 @@ form-bytes : (c : Constraint) → Bytes (constraintForm c)
 form-bytes (KeyLifetime seconds) = bytes-cons 1 (be32 (seconds .count)) (omega arith) (be32-bytes (seconds .count))
 form-bytes Confirm = bytes-cons 2 [] (omega arith) bytes-none
 
-forms-bytes : (cs : List Constraint) → Bytes (constraintForms cs)
+pub forms-bytes : (cs : List Constraint) → Bytes (constraintForms cs)
 forms-bytes [] = bytes-none
 forms-bytes (c ∷ cs) = bytes-append (constraintForm c) (constraintForms cs) (form-bytes c) (forms-bytes cs)
 

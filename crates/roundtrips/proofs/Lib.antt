@@ -1,3 +1,4 @@
 -- The proofs of what is promised.
 pub mod Requests
+pub mod Cards
 pub mod Replies

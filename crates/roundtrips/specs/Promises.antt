@@ -1,15 +1,24 @@
 -- What the client writes the rule reads, and what the rule sends the client reads, as statements; the proofs are in proofs/.
-use Prim.Native.Nat.{ℕ, _+_, _^_, _<_}
+use Prim.Native.Nat.{ℕ, _+_, _^_, _≤_, _<_}
 use mathlib.Core.Path.{_≡_}
 use mathlib.Core.List.{List, [], _∷_, _++_, map}
 use mathlib.Core.Logic.{_≢_}
-use lib.ListN.{length, getD, take}
+use mathlib.Core.Bool.{Bool, true, false}
+use mathlib.Core.Option.{none, some}
+use lib.ListN.{length, getD, take, drop}
+use Rattle.wire.specs.declared.Seconds.{Seconds}
+use Rattle.wire.specs.declared.Constraint.{Constraint}
+use Rattle.wire.specs.declared.Constraint.the-variants.{KeyLifetime, Confirm}
 use Rattle.wire.specs.Numbers.{Bytes, be32}
 use Rattle.wire.specs.Read.{cutOf, numberAt, stringAt}
 use Rattle.wire.specs.Values.{read, numberReads, partReads}
 use Rattle.wire.specs.Write.{string}
 use Rattle.wire.specs.Promises.{Holds}
-use Rattle.wire.specs.Refusals.{grants}
+use Rattle.wire.specs.Refusals.{grants, wroteSays}
+use Rattle.wire.specs.Constraints.{constraintForms}
+use Rattle.keys.specs.declared.constraints.Lifetime.the-variants.{Forever}
+use Rattle.keys.specs.Constraints.{walkOf}
+use Rattle.keys.specs.Values.{Walked, ended, second-lifetime, walkSays}
 use Rattle.rule.specs.Gateway.{Entry, Gateway, fresh}
 use Rattle.rule.specs.Rule.{reply, FAILURE, signatureReply}
 use Rattle.rule.specs.Calls.{Call, lands, call}
@@ -18,7 +27,8 @@ use Rattle.rule.specs.Words.{Begins, Carries, atCall, payloadOf}
 use Rattle.rule.specs.Listing.{Lists, itemForms}
 use Rattle.rule.specs.Signing.{SignRequest}
 use Rattle.rule.specs.Comments.{TextComments, ByteBlobs, BytesIn}
-use Rattle.client.specs.Requests.{requestIdentities, signRequest, lockRequest, unlockRequest}
+use Rattle.client.specs.Requests.{requestIdentities, signRequest, lockRequest, unlockRequest, addSmartcardAnswer, addSmartcardLeft}
+use Rattle.client.specs.Promises.{RequestReads}
 use Rattle.readers.specs.Values.{listingSays}
 use Rattle.readers.specs.Identities.{countOf}
 use Rattle.readers.specs.Promises.{HandsOut, Listed, Listable, Each}
@@ -51,6 +61,48 @@ abbrev pub SignRead : Type 0
 SignRead =
     (blob bytes : List ℕ) (flags : ℕ) → Bytes blob → Bytes bytes → length blob < 2 ^ 32 → length bytes < 2 ^ 32 → flags < 2 ^ 32
     → SignReads (signRequest blob bytes flags) blob bytes flags
+
+-- ## Smartcards: the walk over the constraints of 26
+
+-- the seconds of each lifetime, in their order
+abbrev pub lifetimesIn : List Constraint → List ℕ
+lifetimesIn [] = []
+lifetimesIn (KeyLifetime seconds ∷ cs) = seconds .count ∷ lifetimesIn cs
+lifetimesIn (Confirm ∷ cs) = lifetimesIn cs
+
+-- Confirm is among them
+abbrev pub confirmIn : List Constraint → Bool
+confirmIn [] = false
+confirmIn (KeyLifetime seconds ∷ cs) = confirmIn cs
+confirmIn (Confirm ∷ cs) = true
+
+-- the walk from `at` stops at the second lifetime, behind constraints with one
+pub record StopsAtSecond (cs : List Constraint) (at : ℕ) (w : Walked) : Type 0 where
+  pub before : List Constraint
+  pub seconds : Seconds
+  pub rest : List Constraint
+  pub among : cs ≡ before ++ (KeyLifetime seconds ∷ rest)
+  pub one-before : length (lifetimesIn before) ≡ 1
+  pub says : w ≡ second-lifetime (at + length (constraintForms before))
+
+-- the walk gives constraints back, whatever their number and order: "1 then u32 seconds, once only; 2, repeats counting once"
+pub record GivenBack (cs : List Constraint) (at : ℕ) (w : Walked) : Type 0 where
+  pub no-lifetime : lifetimesIn cs ≡ [] → w ≡ ended (record { seconds = none; confirm = confirmIn cs })
+  pub one-lifetime : (n : ℕ) → lifetimesIn cs ≡ n ∷ [] → w ≡ ended (record { seconds = some n; confirm = confirmIn cs })
+  pub more-lifetimes : (n m : ℕ) (ns : List ℕ) → lifetimesIn cs ≡ n ∷ m ∷ ns → StopsAtSecond cs at w
+
+-- bytes that were sent reach an agent: its splitter gives back a payload of 26, in it id and PIN are read, and behind them the walk gives back these
+pub record ReachesAgent (sent id pin : List ℕ) (cs : List Constraint) : Type 0 where
+  pub payload : List ℕ
+  pub splits : Holds sent payload
+  pub reads : RequestReads 26 payload (id ∷ pin ∷ []) (constraintForms cs)
+  pub walks : GivenBack cs (reads .end) (walkSays (walkOf (reads .end) (drop (reads .end) payload) Forever false))
+
+-- so does all that the writer writes with constraints given
+abbrev pub CardWalked : Type 0
+CardWalked =
+    (id pin : List ℕ) (cs : List Constraint) (count : ℕ) (out : List ℕ) (n : ℕ) → 1 ≤ count → Bytes pin → Each (λ s. s < 2 ^ 32) (lifetimesIn (take count cs))
+    → wroteSays (addSmartcardAnswer id pin cs count out) ≡ grants n → ReachesAgent (take n (addSmartcardLeft id pin cs count out)) id pin (take count cs)
 
 -- ## The agent's lists: what it sends, the client reads
 
