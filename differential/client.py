@@ -20,10 +20,10 @@ from make import CERTIFICATE, CONFIRM, MOST, NO_TEXTS, answer, frame_of, list_of
 from recorded import public_blobs
 from sections import Fault, need, number, string, take_string
 
-CONSTRAINTS, LONG, HASH = 'over four constraints', 'payload over 262,144 bytes', 'hash 2 or 4, key not RSA'
+COUNT, CONSTRAINTS, LONG, HASH = 'count before the constraints', 'over four constraints', 'payload over 262,144 bytes', 'hash 2 or 4, key not RSA'
 NO_KEY, NO_CERTIFICATE, NESTS = 'blob is no key', 'type of a certificate in front of none', 'nine times -cert-v01@'
 BEHIND, LONG_A, RSA_TYPE, COMMENT = 'bytes behind the key', 'Ed25519, A over 32 bytes', 'type rsa-sha2-256 or -512', 'comment handed out'
-ROWS = (COMMENT, NO_KEY, NO_CERTIFICATE, NESTS, BEHIND, LONG_A, RSA_TYPE, CONSTRAINTS, LONG, HASH)
+ROWS = (COMMENT, NO_KEY, NO_CERTIFICATE, NESTS, BEHIND, LONG_A, RSA_TYPE, COUNT, CONSTRAINTS, LONG, HASH)
 
 RSA = string(b'ssh-rsa') + string(b'\x03') + string(b'\x00' + b'\xc1' * 64)
 OPAQUE = string(b'a@b') + string(b'')
@@ -69,29 +69,25 @@ class Written:
         rust = 0, wrote(lines[0])[0]
         if rust == ours:
             return
-        # what the Rust is to write by the row: the flags, or where 01 refuses, the payload as it stands
+        # what the Rust is to write by the row: the flags, the count, or where 01 refuses, the payload as it stands
         by_flags = message == 13 and flags in (2, 4) and take_string(first, 0)[0] not in (b'ssh-rsa', b'rsa-sha2-256', b'rsa-sha2-512')
-        payload = whole_payload(message, first, second, 0 if by_flags else flags, constraints)
+        counted = message == 20 and 1 <= len(constraints) <= 4
+        payload = (make.counted_payload if constraints else make.payload_of)(message, first, second, 0 if by_flags else flags, constraints)
         if rust != (0, string(payload)):
             raise Unlisted
         if by_flags:
             yield HASH
+        if counted:
+            yield COUNT
         if ours[0] == 18:
             yield CONSTRAINTS
         elif ours[0] == 17:
             yield LONG
-        elif ours[0] or not by_flags:
+        elif ours[0] or not (by_flags or counted):
             raise Unlisted
 
     def records(self):
         return [(2 if self.request[0] == 20 else 1, make.made_request(self.room, *self.request))]
-
-
-def whole_payload(message, first, second, flags, constraints):
-    """A request's payload with no limit on its constraints."""
-    if len(constraints) <= 4:
-        return make.payload_of(message, first, second, flags, constraints)
-    return b'\x1a' + string(first) + string(second) + number(len(constraints)) + b''.join(map(make.constraint, constraints))
 
 
 class Listed:
@@ -452,6 +448,8 @@ def smallest():
     yield BEHIND, Listed(make.reply_list((OPAQUE + b'\x00', b'')), 0)
     yield LONG_A, Listed(make.reply_list((string(b'ssh-ed25519') + string(bytes(33)), b'')), 0)
     yield RSA_TYPE, Listed(make.reply_list((string(b'rsa-sha2-256') + string(b'\x01') * 2, b'')), 0)
+    yield COUNT, Written((20, b'', b'', 0, (CONFIRM,)), 64)
+    yield None, Written((20, b'', b'', 0, ()), 64)
     yield CONSTRAINTS, Written((20, b'', b'', 0, (CONFIRM,) * 5), 64)
     yield LONG, Written((22, b'a' * (MOST - 4), b'', 0, ()), MOST + 8)
     yield HASH, Written((13, OPAQUE, b'', 2, ()), 64)

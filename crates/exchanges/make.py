@@ -5,13 +5,14 @@
 
 FRAMES is the folder of frames recorded from OpenSSH 9.2p1 (Debian 12), SCRIPTS that of the scripts that were run on russh 0.65.0: X.txt has
 its calls, X.out what it answered. A line of FRAMES is `> ..` for a request and `< ..` for its answer, in hex without the length. A line
-`client ..` of a script is a call of russh's client, and gives `wrote FRAME ok ..` or `wrote FRAME err ..`. The same folders give the same
-input, byte for byte.
+`client ..` of a script is a call of russh's client, and gives `wrote FRAME ok ..` or `wrote FRAME err ..`. cards.txt, beside this script, has what
+ssh-add sends for smartcards (cards.py). The same folders give the same input, byte for byte.
 
 Where the expectations come from:
-- examples: document 01, word for word.
+- examples: document 01, word for word, and the smartcard's as request #102 has it.
 - recorded: a request's frame is what ssh-add, ssh-keygen or ssh sent, and its parts are cut out of it; a list's blobs are those of the
-  .pub files; a signature is all that ssh-agent sent behind the 14, and the hash is the flags of its request.
+  .pub files; a signature is all that ssh-agent sent behind the 14, and the hash is the flags of its request. Of cards.txt the parts are the
+  command's own words and the PIN that it was given.
 - russh: what it wrote and answered. Its errors have fewer kinds than 01's refusals: a protocol error is 13 for a reply of type 14 and 15 for
   others. Where 01 decides otherwise, 01 is expected: these inputs stand in DIFFERS with both answers, and any other that differs ends this script.
 - made, short, long and damaged: the readers and writers below, written from document 01 and not from the Rattle code. They have to agree
@@ -32,6 +33,7 @@ import os
 import sys
 
 sys.path.insert(0, os.path.join(os.path.dirname(os.path.abspath(__file__)), '../report'))
+from cards import kept
 from recorded import public_blobs
 from sections import Fault, change, flag, near, need, number, string, take_string, write
 
@@ -123,7 +125,7 @@ def payload_of(message, first, second, flags, constraints):
     if not is_text(first):
         raise Refusal(12, text_end(first))
     if message == 20 and constraints:
-        return b'\x1a' + string(first) + string(second) + number(len(constraints)) + b''.join(map(constraint, constraints))
+        return b'\x1a' + string(first) + string(second) + b''.join(map(constraint, constraints))
     return bytes([message]) + string(first) + string(second)
 
 
@@ -317,7 +319,41 @@ def recorded_signature(request, reply):
     return signature_record(reply, flags, *((14, None) if reply == b'\x05' else (0, reply[1:])))
 
 
+# ---- smartcards
+
+def card_parts(sent):
+    """What a command was to send: seconds before Confirm, as ssh-add has them; 0 seconds are none to it."""
+    words = iter(sent.words[1:])
+    card, life, confirm = '', 0, ()
+    for word in words:
+        if word == '-s':
+            card = next(words)
+        elif word == '-t':
+            life = int(next(words))
+        else:
+            assert word == '-c'
+            confirm = CONFIRM,
+    return 20, card.encode(), sent.pin.encode(), 0, ((life,) if life else ()) + confirm
+
+
+def card_record(sent):
+    frame = string(sent.payload)
+    return request_record(len(frame) + 3, 0, frame, *card_parts(sent))
+
+
+def card_sections():
+    names = {(): 'alone', (True,): 'with -c', (False,): 'with -t', (False, True): 'with -t and -c'}
+    sent = [(tuple(c is CONFIRM for c in card_parts(one)[4]), one) for one in kept()]
+    for given, name in names.items():
+        yield 2, f'ssh-add -s {name}', b'', [card_record(one) for constraints, one in sent if constraints == given]
+
+
 # ---- russh
+
+def counted_payload(message, first, second, flags, constraints):
+    """As russh writes constraints, however many: their number before them."""
+    return b'\x1a' + string(first) + string(second) + number(len(constraints)) + b''.join(map(constraint, constraints))
+
 
 def calls_in(folder, name):
     """(words, frame, answer) of the client's calls in a script."""
@@ -404,6 +440,11 @@ DIFFERS = [
     ('a type that nobody knows', 5, listed(NO_TYPE), (12, None), (0, [(NO_TYPE, False)])),
     ('a type of a certificate in front of none', 5, listed(NO_CERTIFICATE), (12, None), (0, [(NO_CERTIFICATE, True)])),
     ('two bytes behind the key', 5, listed(P256 + b'zz'), (0, [(P256, False)]), (0, [(P256 + b'zz', False)])),
+    ('a count before one constraint', 2, (20, b'a', b'', 0, (CONFIRM,)),
+     (0, bytes.fromhex('0000000f1a0000000161000000000000000102')), (0, bytes.fromhex('0000000b1a00000001610000000002'))),
+    ('a count before four constraints', 2, (20, b'a', b'', 0, (5, CONFIRM, CONFIRM, 7)),
+     (0, bytes.fromhex('0000001a1a00000001610000000000000004010000000502020100000007')),
+     (0, bytes.fromhex('000000161a000000016100000000010000000502020100000007'))),
     ('five constraints', 2, (20, b'a', b'', 0, (CONFIRM,) * 5), (0, bytes.fromhex('000000131a000000016100000000000000050202020202')), (18, None)),
     ('hash 2 for a key that is not RSA', 1, (13, P256, b'', 2, ()),
      (0, string(b'\x0d' + string(P256) + string(b'') + number(0))), (0, string(b'\x0d' + string(P256) + string(b'') + number(2)))),
@@ -436,11 +477,11 @@ def russh_sections(folder):
 # ---- 01's examples
 
 def example_sections():
-    confirmed = bytes.fromhex('0000000F 1A 00000001 61 00000000 00000001 02'.replace(' ', ''))
+    confirmed = bytes.fromhex('0000000B 1A 00000001 61 00000000 02'.replace(' ', ''))
     reply = bytes.fromhex('0E 0000000B 00000002 7879 00000001 01'.replace(' ', ''))
     prefixes = [(b'\x00\x04\x00\x00', 0), (b'\x00\x04\x00\x01', 1)]
     assert all(split(prefix) == (kind, b'') for prefix, kind in prefixes)
-    yield 2, 'example smartcard', b'', [request_record(19, 0, confirmed, 20, b'a', b'', 0, (CONFIRM,))]
+    yield 2, 'example smartcard', b'', [request_record(15, 0, confirmed, 20, b'a', b'', 0, (CONFIRM,))]
     yield 7, 'example signature', b'', [signature_record(reply, 0, 0, reply[1:]), signature_record(reply, 2, 13, None)]
     yield 3, 'example prefix', b'', [piece(prefix) + frame_expected(prefix) for prefix, _ in prefixes]
 
@@ -523,7 +564,7 @@ def long_requests():
 
 def long_cards():
     """(room, request): the same with constraints; and each refusal before the next."""
-    for constraints, over in (((), 9), ((CONFIRM,), 14), ((1, 2, 3, 4), 33)):
+    for constraints, over in (((), 9), ((CONFIRM,), 10), ((1, 2, 3, 4), 29)):
         most = MOST - over
         for n in (most - 1, most, most + 1, MOST, MOST + 1):
             for room in (0, n + over + 3, n + over + 4):
@@ -680,6 +721,7 @@ def sections(folder, scripts):
     exchanges = [e for name in sorted(os.listdir(folder)) if name.endswith('.txt') for e in exchanges_in(os.path.join(folder, name))]
     yield from example_sections()
     yield from recorded_sections(exchanges, blobs)
+    yield from card_sections()
     yield from russh_sections(scripts)
     yield 3, 'made frame', b'', [piece(f) + frame_expected(f) for f in made_frames()]
     yield 1, 'made request', b'', [whole_request(*request) for request in made_requests()]
