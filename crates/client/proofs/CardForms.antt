@@ -22,7 +22,7 @@ use Rattle.wire.proofs.Reading.{le-or-lt}
 use Rattle.wire.proofs.RefusalLaws.{not-granted}
 use Rattle.client.specs.Forms.{ConstraintsForm, end, lifetime, confirm, CardForm, card}
 use Rattle.client.specs.Requests.{constrainedSmartcard, addSmartcardAnswer, addSmartcardLeft}
-use Rattle.client.specs.Promises.{Framed, CardFormRule, Stands, CardFits, CardWritten}
+use Rattle.client.specs.Promises.{Framed, CardFormRule, AtFront, CardFits, CardWritten}
 use Rattle.client.proofs.WriterTables.{add-smartcard-table}
 use Rattle.client.proofs.RequestRules.{add-smartcard-rule}
 
@@ -54,8 +54,8 @@ module _ (id pin : List ℕ) (cs : List Constraint) (count : ℕ) (out : List �
   few : count ≤ 4
   few = ⊎-elim (λ (h : count ≤ 4). h) (λ (h : 4 < count). not-granted (sym (add-smartcard-table id pin cs count out .too-many h) ∙ granted)) (le-or-lt count 4)
 
-  pub text : Octets id
-  text = by-utf8 (utf8 id) refl
+  pub card-text : Octets id
+  card-text = by-utf8 (utf8 id) refl
     where
       by-utf8 : (b : Bool) → utf8 id ≡ b → Octets id
       by-utf8 true e = utf8-rule id .0 e
@@ -64,10 +64,10 @@ module _ (id pin : List ℕ) (cs : List Constraint) (count : ℕ) (out : List �
           not-granted (sym (add-smartcard-table id pin cs count out .no-text (utf8End id) few never (utf8-end id)) ∙ granted)
 
   framed : Framed payload out (addSmartcardAnswer id pin cs count out)
-  framed = add-smartcard-table id pin cs count out .constrained some few text
+  framed = add-smartcard-table id pin cs count out .constrained some few card-text
 
-  pub small : length payload ≤ payloadLimit
-  small =
+  pub card-small : length payload ≤ payloadLimit
+  card-small =
       ⊎-elim
       (λ (h : length payload ≤ payloadLimit). h)
       (λ (h : payloadLimit < length payload). not-granted (sym (framed .too-long h) ∙ granted))
@@ -77,7 +77,7 @@ module _ (id pin : List ℕ) (cs : List Constraint) (count : ℕ) (out : List �
   fits =
       ⊎-elim
       (λ (h : 4 + length payload ≤ length out). h)
-      (λ (h : length out < 4 + length payload). not-granted (sym (framed .too-short small h) ∙ granted))
+      (λ (h : length out < 4 + length payload). not-granted (sym (framed .too-short card-small h) ∙ granted))
       (le-or-lt (4 + length payload) (length out))
 
 -- the frame of what was given stands there
@@ -86,19 +86,19 @@ module _ (id pin : List ℕ) (cs : List Constraint) (count : ℕ) (out : List �
       → take n (addSmartcardLeft id pin cs count out) ≡ string (constrainedSmartcard id pin (take count cs))
   written n e = add-smartcard-rule id pin cs count out .sent n e .bytes ∙ ap string (add-smartcard-table id pin cs count out .some-given some)
 
-  card-fits : (payload : List ℕ) → Stands (string payload) (addSmartcardAnswer id pin cs count out) (addSmartcardLeft id pin cs count out)
+  card-fits : (payload : List ℕ) → AtFront (string payload) (addSmartcardAnswer id pin cs count out) (addSmartcardLeft id pin cs count out)
       → CardFits id pin cs count out payload
   card-fits payload (granted, stands) =
       let is : payload ≡ constrainedSmartcard id pin (take count cs) = ap (drop 4) (sym stands ∙ written _ granted) in
       record {
         few = few id pin cs count out _ some granted;
-        text = text id pin cs count out _ some granted;
+        text = card-text id pin cs count out _ some granted;
         form = card-form-rule id pin (take count cs) payload .1 is;
-        small = rw is (small id pin cs count out _ some granted);
+        small = rw is (card-small id pin cs count out _ some granted);
         fits = rw is (fits id pin cs count out _ some granted);
       }
 
-  card-stands : (payload : List ℕ) → CardFits id pin cs count out payload → Stands (string payload) (addSmartcardAnswer id pin cs count out) (addSmartcardLeft id pin cs count out)
+  card-stands : (payload : List ℕ) → CardFits id pin cs count out payload → AtFront (string payload) (addSmartcardAnswer id pin cs count out) (addSmartcardLeft id pin cs count out)
   card-stands payload f =
       let given = constrainedSmartcard id pin (take count cs) in
       let is : payload ≡ given = card-is (f .form) in

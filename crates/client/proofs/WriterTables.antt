@@ -1,10 +1,10 @@
--- When each answer of a writer comes: each test decides once those before it have passed. Nothing is assumed of the bytes.
+-- When each answer of a writer comes: each test decides once those before it have passed; how long payloads are. Nothing is assumed of the bytes.
 use Prim.Native.Nat.{ℕ, _+_}
-use mathlib.Core.Path.{_≡_}
+use mathlib.Core.Path.{_≡_, refl}
 use mathlib.Core.List.{List}
 use native.Mathlib.Omega.{arith}
 use borrow.Author.Tests.{eq-eqb, ne-eqb, le-ltb, lt-ltb}
-use lib.ListN.{length, take}
+use lib.ListN.{length, take, length-append}
 use Rattle.wire.specs.Limits.{payloadLimit}
 use Rattle.wire.specs.Abnf.{Octets}
 use Rattle.wire.specs.Utf8.{utf8End}
@@ -12,7 +12,7 @@ use Rattle.wire.specs.Promises.{Longest}
 use Rattle.wire.proofs.Abnf.{utf8-rule}
 use Rattle.wire.proofs.Longest.{utf8-end-whole, utf8-end, longest-one}
 use Rattle.client.specs.Requests.{headAnswer, plainSmartcard, constrainedSmartcard, removeSmartcard, addSmartcard, removeSmartcardAnswer, addSmartcardAnswer}
-use Rattle.client.specs.Promises.{WriterTable, RemoveSmartcardTable, AddSmartcardTable}
+use Rattle.client.specs.Promises.{WriterTable, PayloadSizes, RemoveSmartcardTable, AddSmartcardTable}
 
 -- ## Frames
 
@@ -22,6 +22,19 @@ writer-table p out = record {
   too-long = λ h. rw (lt-ltb payloadLimit (length p) h);
   too-short = λ h k. rw (le-ltb payloadLimit (length p) h, lt-ltb (length out) (4 + length p) k);
   written = λ h k. rw (le-ltb payloadLimit (length p) h, le-ltb (length out) (4 + length p) k);
+}
+
+-- ## Sizes
+
+pub payload-sizes : PayloadSizes
+payload-sizes = record {
+  list = refl;
+  sign = λ blob bytes flags. simp length-append (omega arith);
+  lock = λ v. omega arith;
+  unlock = λ v. omega arith;
+  plain = λ id pin. simp length-append (omega arith);
+  remove = λ id pin. simp length-append (omega arith);
+  constrained = λ id pin cs. simp length-append (omega arith);
 }
 
 -- ## Smartcards

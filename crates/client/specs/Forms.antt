@@ -7,7 +7,8 @@ use Rattle.wire.specs.declared.Constraint.the-variants.{KeyLifetime, Confirm}
 use Rattle.wire.specs.Numbers.{be32}
 use Rattle.wire.specs.Write.{string}
 
--- constraint[]: one behind the other up to the end, each its type and its value: 1 and uint32 seconds, or 2 alone
+-- constraint[]: one behind the other up to the end, each its type and its value. Of the draft's constraints the two that 01 has: 1 and uint32
+-- seconds, which by their type are below 2^32; 2 alone
 pub data ConstraintsForm : List Constraint → List ℕ → Type 0 where
   end : ConstraintsForm [] []
   lifetime : (seconds : Seconds) {cs : List Constraint} {rest : List ℕ} → ConstraintsForm cs rest

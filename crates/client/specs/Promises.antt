@@ -53,6 +53,16 @@ pub record Framed (payload out : List ℕ) (answer : Wrote) : Type 0 where
 abbrev pub WriterTable : Type 0
 WriterTable = (payload out : List ℕ) → Framed payload out (answered payload out)
 
+-- how long a payload is, whatever is given: so what no length of four bytes can say is too long to write
+pub record PayloadSizes : Type 0 where
+  pub list : length requestIdentities ≡ 1
+  pub sign : (blob bytes : List ℕ) (flags : ℕ) → length (signRequest blob bytes flags) ≡ 13 + length blob + length bytes
+  pub lock : (v : List ℕ) → length (lockRequest v) ≡ 5 + length v
+  pub unlock : (v : List ℕ) → length (unlockRequest v) ≡ 5 + length v
+  pub plain : (id pin : List ℕ) → length (plainSmartcard id pin) ≡ 9 + length id + length pin
+  pub remove : (id pin : List ℕ) → length (removeSmartcard id pin) ≡ 9 + length id + length pin
+  pub constrained : (id pin : List ℕ) (cs : List Constraint) → length (constrainedSmartcard id pin cs) ≡ 9 + length id + length pin + length (constraintForms cs)
+
 -- before it, an id that is not UTF-8: the fault is where its longest part of UTF-8 ends
 pub record CardRemoved (id pin out : List ℕ) : Type 0 where
   pub no-text : (n : ℕ) → (Octets id → ⊥) → Longest id n → wroteSays (removeSmartcardAnswer id pin out) ≡ refuses 12 (at-place n)
@@ -80,11 +90,11 @@ AddSmartcardTable = (id pin : List ℕ) (cs : List Constraint) (count : ℕ) (ou
 abbrev pub CardFormRule : Type 0
 CardFormRule = (id pin : List ℕ) (cs : List Constraint) (payload : List ℕ) → CardForm id pin cs payload ↔ (payload ≡ constrainedSmartcard id pin cs)
 
--- bytes stand at the front of an output, and their length is answered
-abbrev pub Stands : List ℕ → Wrote → List ℕ → Type 0
-Stands bytes answer left = (wroteSays answer ≡ grants (length bytes)) × (take (length bytes) left ≡ bytes)
+-- a frame stands at the front of an output, and its length is answered
+abbrev pub AtFront : List ℕ → Wrote → List ℕ → Type 0
+AtFront frame answer left = (wroteSays answer ≡ grants (length frame)) × (take (length frame) left ≡ frame)
 
--- one to four constraints, an id of UTF-8, the draft's form of all that was given, and the room that its frame takes
+-- at most four constraints, an id of UTF-8, the draft's form of all that was given, within the limit, and room for its frame
 pub record CardFits (id pin : List ℕ) (cs : List Constraint) (count : ℕ) (out payload : List ℕ) : Type 0 where
   pub few : count ≤ 4
   pub text : Octets id
@@ -92,11 +102,11 @@ pub record CardFits (id pin : List ℕ) (cs : List Constraint) (count : ℕ) (ou
   pub small : length payload ≤ payloadLimit
   pub fits : 4 + length payload ≤ length out
 
--- with constraints given, the writer writes a payload's frame exactly where the payload is that form
+-- with a constraint or more given, the writer writes a payload's frame exactly where the payload fits so
 abbrev pub CardWritten : Type 0
 CardWritten =
     (id pin : List ℕ) (cs : List Constraint) (count : ℕ) (out payload : List ℕ) → 1 ≤ count
-    → Stands (string payload) (addSmartcardAnswer id pin cs count out) (addSmartcardLeft id pin cs count out) ↔ CardFits id pin cs count out payload
+    → AtFront (string payload) (addSmartcardAnswer id pin cs count out) (addSmartcardLeft id pin cs count out) ↔ CardFits id pin cs count out payload
 
 -- ## What any reader finds in a request
 
@@ -127,7 +137,7 @@ SignFound =
     (blob bytes : List ℕ) (flags : ℕ) → Bytes blob → Bytes bytes → length blob < 2 ^ 32 → length bytes < 2 ^ 32
     → RequestReads 13 (signRequest blob bytes flags) (blob ∷ bytes ∷ []) (be32 flags)
 
--- "20 and 26 (id, PIN), 21"; behind the PIN of 26 the constraints, with no number before them
+-- "20 and 26 (id, PIN), 21"; behind the PIN of 26 the constraints
 pub record CardsRead (id pin : List ℕ) : Type 0 where
   pub add : RequestReads 20 (plainSmartcard id pin) (id ∷ pin ∷ []) []
   pub remove : RequestReads 21 (removeSmartcard id pin) (id ∷ pin ∷ []) []

@@ -65,16 +65,16 @@ SignRead =
 -- ## Smartcards: the walk over the constraints of 26
 
 -- the seconds of each lifetime, in their order
-abbrev pub lifetimesIn : List Constraint → List ℕ
-lifetimesIn [] = []
-lifetimesIn (KeyLifetime seconds ∷ cs) = seconds .count ∷ lifetimesIn cs
-lifetimesIn (Confirm ∷ cs) = lifetimesIn cs
+abbrev pub lifetimesAmong : List Constraint → List ℕ
+lifetimesAmong [] = []
+lifetimesAmong (KeyLifetime seconds ∷ cs) = seconds .count ∷ lifetimesAmong cs
+lifetimesAmong (Confirm ∷ cs) = lifetimesAmong cs
 
 -- Confirm is among them
-abbrev pub confirmIn : List Constraint → Bool
-confirmIn [] = false
-confirmIn (KeyLifetime seconds ∷ cs) = confirmIn cs
-confirmIn (Confirm ∷ cs) = true
+abbrev pub confirmAmong : List Constraint → Bool
+confirmAmong [] = false
+confirmAmong (KeyLifetime seconds ∷ cs) = confirmAmong cs
+confirmAmong (Confirm ∷ cs) = true
 
 -- the walk from `at` stops at the second lifetime, behind constraints with one
 pub record StopsAtSecond (cs : List Constraint) (at : ℕ) (w : Walked) : Type 0 where
@@ -82,14 +82,14 @@ pub record StopsAtSecond (cs : List Constraint) (at : ℕ) (w : Walked) : Type 0
   pub seconds : Seconds
   pub rest : List Constraint
   pub among : cs ≡ before ++ (KeyLifetime seconds ∷ rest)
-  pub one-before : length (lifetimesIn before) ≡ 1
+  pub one-before : length (lifetimesAmong before) ≡ 1
   pub says : w ≡ second-lifetime (at + length (constraintForms before))
 
 -- the walk gives constraints back, whatever their number and order: "1 then u32 seconds, once only; 2, repeats counting once"
 pub record GivenBack (cs : List Constraint) (at : ℕ) (w : Walked) : Type 0 where
-  pub no-lifetime : lifetimesIn cs ≡ [] → w ≡ ended (record { seconds = none; confirm = confirmIn cs })
-  pub one-lifetime : (n : ℕ) → lifetimesIn cs ≡ n ∷ [] → w ≡ ended (record { seconds = some n; confirm = confirmIn cs })
-  pub more-lifetimes : (n m : ℕ) (ns : List ℕ) → lifetimesIn cs ≡ n ∷ m ∷ ns → StopsAtSecond cs at w
+  pub no-lifetime : lifetimesAmong cs ≡ [] → w ≡ ended (record { seconds = none; confirm = confirmAmong cs })
+  pub one-lifetime : (n : ℕ) → lifetimesAmong cs ≡ n ∷ [] → w ≡ ended (record { seconds = some n; confirm = confirmAmong cs })
+  pub more-lifetimes : (n m : ℕ) (ns : List ℕ) → lifetimesAmong cs ≡ n ∷ m ∷ ns → StopsAtSecond cs at w
 
 -- bytes that were sent reach an agent: its splitter gives back a payload of 26, in it id and PIN are read, and behind them the walk gives back these
 pub record ReachesAgent (sent id pin : List ℕ) (cs : List Constraint) : Type 0 where
@@ -101,7 +101,7 @@ pub record ReachesAgent (sent id pin : List ℕ) (cs : List Constraint) : Type 0
 -- so does all that the writer writes with constraints given
 abbrev pub CardWalked : Type 0
 CardWalked =
-    (id pin : List ℕ) (cs : List Constraint) (count : ℕ) (out : List ℕ) (n : ℕ) → 1 ≤ count → Bytes pin → Each (λ s. s < 2 ^ 32) (lifetimesIn (take count cs))
+    (id pin : List ℕ) (cs : List Constraint) (count : ℕ) (out : List ℕ) (n : ℕ) → 1 ≤ count → Bytes pin → Each (λ s. s < 2 ^ 32) (lifetimesAmong (take count cs))
     → wroteSays (addSmartcardAnswer id pin cs count out) ≡ grants n → ReachesAgent (take n (addSmartcardLeft id pin cs count out)) id pin (take count cs)
 
 -- ## The agent's lists: what it sends, the client reads
