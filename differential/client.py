@@ -2,8 +2,8 @@
 """client.py ORACLE BIN PROGRAM INPUTS SEED OUT: random inputs to the client of the unchanged Rust (BIN/scripted) and to ours, answers compared.
 
 PROGRAM is the command that runs our client: the program `exchanges`, which is given inputs with an answer and says which agree. OUT is the folder for the
-report. For each input there are three answers: the Rust's; 01's, by the rules in crates/exchanges/make.py, which are not our code; and ours. Ours must
-be 01's. The Rust's must be 01's too, or differ by one of ROWS, which the input tells: ../docs/DIFFERENCES.md has the same rows with reasons. What is no key
+report. For each input there are three answers: the Rust's; 01's, as the requests #101 and #102 change it, by the rules in crates/exchanges/make.py, which
+are not our code; and ours. Ours must be 01's. The Rust's must be 01's too, or differ by one of ROWS, which the input tells: ../docs/DIFFERENCES.md has the same rows with reasons. What is no key
 the Rust's key library says, asked by another call.
 """
 import collections

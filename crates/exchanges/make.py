@@ -9,10 +9,10 @@ its calls, X.out what it answered. A line of FRAMES is `> ..` for a request and 
 ssh-add sends for smartcards (cards.py). The same folders give the same input, byte for byte.
 
 Where the expectations come from:
-- examples: document 01, word for word, and the smartcard's as request #102 has it.
+- examples: document 01, word for word; the smartcard's as #102 has it. "01" below is document 01 as the requests #101 and #102 change it.
 - recorded: a request's frame is what ssh-add, ssh-keygen or ssh sent, and its parts are cut out of it; a list's blobs are those of the
-  .pub files; a signature is all that ssh-agent sent behind the 14, and the hash is the flags of its request. Of cards.txt the parts are the
-  command's own words and the PIN that it was given.
+  .pub files; a signature is all that ssh-agent sent behind the 14, and the hash is the flags of its request. Of cards.txt the parts are
+  the command's words and the PIN that it was given.
 - russh: what it wrote and answered. Its errors have fewer kinds than 01's refusals: a protocol error is 13 for a reply of type 14 and 15 for
   others. Where 01 decides otherwise, 01 is expected: these inputs stand in DIFFERS with both answers, and any other that differs ends this script.
 - made, short, long and damaged: the readers and writers below, written from document 01 and not from the Rattle code. They have to agree
@@ -342,10 +342,10 @@ def card_record(sent):
 
 
 def card_sections():
-    names = {(): 'alone', (True,): 'with -c', (False,): 'with -t', (False, True): 'with -t and -c'}
-    sent = [(tuple(c is CONFIRM for c in card_parts(one)[4]), one) for one in kept()]
-    for given, name in names.items():
-        yield 2, f'ssh-add -s {name}', b'', [card_record(one) for constraints, one in sent if constraints == given]
+    names = {(): 'no limit', (True,): 'Confirm', (False,): 'a lifetime', (False, True): 'a lifetime and Confirm'}
+    sent = [(names[tuple(c is CONFIRM for c in card_parts(one)[4])], card_record(one)) for one in kept()]
+    for name in names.values():
+        yield 2, f'ssh-add -s: {name}', b'', [record for what, record in sent if what == name]
 
 
 # ---- russh
@@ -679,6 +679,7 @@ def damaged_frames(base):
 
 def recorded_sections(exchanges, blobs):
     names = {11: 'list', 13: 'sign', 20: 'add smartcard', 21: 'remove smartcard', 22: 'lock', 23: 'unlock'}
+    assert all(request[0] != 26 for request, _ in exchanges)  # cards.txt has these
     for message, name in names.items():
         requests = [request for request, _ in exchanges if request[0] == message]
         yield 2 if message == 20 else 1, 'recorded request to ' + name, b'', [recorded_request(request) for request in requests]
