@@ -1,32 +1,97 @@
--- The front of the record is compared, as long as its length says. Assumes nothing.
+-- What was gathered is 0 exactly where all bytes before place i are equal; with the rest it says what the whole does. Assumes nothing.
 use native.Mathlib.Omega.{arith}
-use borrow.Author.Needs.{needs}
-use mathlib.Core.Path.{sym}
-use lib.Seq.{length-take-le}
+use Prim.Native.Nat.{ℕ, _+_, _-_, _≤_, _<_}
+use mathlib.Core.Path.{_≡_, refl, sym, ap, _∙_}
+use mathlib.Core.Bool.{Bool, true, false, _&&_}
+use mathlib.Core.List.{List}
+use borrow.Author.Tests.{eqb-true, eqb-false, ne-eqb}
+use lib.Bits.{bitOr, bitXor, or-add-and, xor-add-and, xor-self, and-le-l, and-le-r}
+use lib.Dec.{eqb}
+use lib.ListN.{length, take, getD}
+use lib.Seq.{length-take-le, getD-take}
+use Rattle.wire.specs.Read.{same}
+use Rattle.wire.proofs.Reading.{same-long}
 use Rattle.table.specs.Meaning.{gatewayOf}
 use Rattle.table.proofs.ArrayLaws.{record-of}
+use Rattle.table.proofs.ByteLaws.{sameAlong, equal-step, equal-end}
 use Rattle.table.proofs.locks.is_passphrase.Statement.{statement}
 use Rattle.table.proofs.locks.is_passphrase.Tie as tie
 
-inside : tie.Need-array-share-prefix-bytes
-inside c = let st = c .before .before in let l = record-of (st .args .state) _ (st .good .0) in omega arith
+-- a gathering keeps what was gathered and takes every difference in
+module _ (d x y : ℕ) where
+  either-zero : bitOr d (bitXor x y) ≡ 0 → (d ≡ 0) × (x ≡ y)
+  either-zero e =
+      let gathered = or-add-and d (bitXor x y) in
+      let mine = and-le-l d (bitXor x y) in
+      let its = and-le-r d (bitXor x y) in
+      let bits = xor-add-and x y in
+      let of-x = and-le-l x y in
+      let of-y = and-le-r x y in
+      (omega arith, omega arith)
 
-front : tie.Need-slice-aggregate-is-same
-front c =
-    let st = c .before .before .before in
-    let s = st .args .state in
-    let l = record-of s _ (st .good .0) in
-    sym (length-take-le (s .lock .len) (s .lock .bytes) (omega arith))
+  gathers : eqb (bitOr d (bitXor x y)) 0 ≡ eqb d 0 && eqb x y
+  gathers = cases (eqb d 0) (eqb x y) refl refl
+    where
+      cases : (t u : Bool) → eqb d 0 ≡ t → eqb x y ≡ u → eqb (bitOr d (bitXor x y)) 0 ≡ t && u
+      cases true true p q = rw (eqb-true d 0 p, eqb-true x y q, xor-self y)
+      cases true false p q = ne-eqb _ 0 (λ e. eqb-false x y q (either-zero e .1))
+      cases false u p q = ne-eqb _ 0 (λ e. eqb-false d 0 p (either-zero e .0))
 
-returns : tie.Need-returns
+-- the first n bytes of the record beside those that were given
+module _ (n : ℕ) (bytes p : List ℕ) (kept : n ≤ length bytes) (given : n ≡ length p) where
+  front : length (take n bytes) ≡ n
+  front = length-take-le n bytes kept
+
+  turn : (i d : ℕ) → i < n → sameAlong (eqb d 0) i (take n bytes) p ≡ sameAlong (eqb (bitOr d (bitXor (getD bytes i 0) (getD p i 0))) 0) (i + 1) (take n bytes) p
+  turn i d h = rw (gathers, ← getD-take n bytes i 0 h) (equal-step (take n bytes) p i (eqb d 0) (omega (arith, front)) (omega arith))
+
+  decision : (i d : ℕ) → n ≤ i → sameAlong (eqb d 0) i (take n bytes) p ≡ eqb d 0
+  decision i d h = equal-end (take n bytes) p i (eqb d 0) (omega (arith, front)) (omega arith)
+
+abbrev Inv-loop : tie.InvT-loop
+Inv-loop p bytes len differences₀ i₀ differences i = (i ≤ len) × (same (take len bytes) p ≡ sameAlong (eqb differences 0) i (take len bytes) p)
+
+abbrev μ-loop : tie.MeasureT-loop
+μ-loop p bytes len differences₀ i₀ differences i = len - i
+
+lengths-differ : tie.Need-returns Inv-loop μ-loop
 unfolding gatewayOf
-returns c x = c .is-same .ensures
+lengths-differ c x =
+    let st = c .before .before in
+    let s = st .args .state in
+    let size = record-of s _ (st .good .0) in
+    let kept = length-take-le (s .lock .len) (s .lock .bytes) (omega arith) in
+    same-long _ _ (λ e. c .if1 .taken (sym kept ∙ e))
+
+loop-again : tie.Need-loop-again Inv-loop μ-loop
+loop-again c =
+    let turned = c .before .before in
+    let l = turned .loop in
+    let st = turned .before .before .before in
+    let s = st .args .state in
+    let size = record-of s _ (st .good .0) in
+    (omega arith, l .inv .1 ∙ turn (s .lock .len) (s .lock .bytes) (st .args .p .now) (omega arith) (omega arith) (l .i) (l .differences) (omega arith))
+
+decides : tie.Need-returns-2 Inv-loop μ-loop
+unfolding gatewayOf
+decides c x =
+    let l = c .before .loop in
+    let st = c .before .before .before .before in
+    let s = st .args .state in
+    let size = record-of s _ (st .good .0) in
+    sym (l .inv .1 ∙ decision (s .lock .len) (s .lock .bytes) (st .args .p .now) (omega arith) (omega arith) (l .i) (l .differences) (omega arith))
 
 pub is-passphrase-spec : {M : Type 1} → statement M
 is-passphrase-spec =
     tie.close
     (tie.spec
-    inside
-    front
-    (λ c κs. search needs)
-    returns)
+    Inv-loop
+    μ-loop
+    lengths-differ
+    (λ c. (omega arith, refl))
+    (λ c. omega arith)
+    (λ c. omega arith)
+    (λ c. omega arith)
+    (λ c. omega arith)
+    loop-again
+    decides)
