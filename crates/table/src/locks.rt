@@ -46,6 +46,7 @@ pub fn is_passphrase(state: State, p: &[u8]) -> bool
     if len != p.len() {
         return false;
     }
+    // No way out of this loop before its end: what it executes does not tell where the first unequal byte is.
     let mut differences = 0;
     let mut i = 0;
     while i < len {

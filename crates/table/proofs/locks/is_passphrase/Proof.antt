@@ -1,7 +1,7 @@
 -- What was gathered is 0 exactly where all bytes before place i are equal; with the rest it says what the whole does. Assumes nothing.
 use native.Mathlib.Omega.{arith}
 use Prim.Native.Nat.{ℕ, _+_, _-_, _≤_, _<_}
-use mathlib.Core.Path.{_≡_, refl, sym, ap, _∙_}
+use mathlib.Core.Path.{_≡_, refl, sym, _∙_}
 use mathlib.Core.Bool.{Bool, true, false, _&&_}
 use mathlib.Core.List.{List}
 use borrow.Author.Tests.{eqb-true, eqb-false, ne-eqb}
@@ -17,32 +17,35 @@ use Rattle.table.proofs.ByteLaws.{sameAlong, equal-step, equal-end}
 use Rattle.table.proofs.locks.is_passphrase.Statement.{statement}
 use Rattle.table.proofs.locks.is_passphrase.Tie as tie
 
--- a gathering keeps what was gathered and takes every difference in
+-- what a turn makes of d, which was gathered before it
+abbrev gathered : (d x y : ℕ) → ℕ
+gathered d x y = bitOr d (bitXor x y)
+
 module _ (d x y : ℕ) where
-  either-zero : bitOr d (bitXor x y) ≡ 0 → (d ≡ 0) × (x ≡ y)
-  either-zero e =
-      let gathered = or-add-and d (bitXor x y) in
-      let mine = and-le-l d (bitXor x y) in
-      let its = and-le-r d (bitXor x y) in
+  nothing-lost : gathered d x y ≡ 0 → (d ≡ 0) × (x ≡ y)
+  nothing-lost e =
+      let sum = or-add-and d (bitXor x y) in
+      let in-d = and-le-l d (bitXor x y) in
+      let in-both = and-le-r d (bitXor x y) in
       let bits = xor-add-and x y in
-      let of-x = and-le-l x y in
-      let of-y = and-le-r x y in
+      let in-x = and-le-l x y in
+      let in-y = and-le-r x y in
       (omega arith, omega arith)
 
-  gathers : eqb (bitOr d (bitXor x y)) 0 ≡ eqb d 0 && eqb x y
+  gathers : eqb (gathered d x y) 0 ≡ eqb d 0 && eqb x y
   gathers = cases (eqb d 0) (eqb x y) refl refl
     where
-      cases : (t u : Bool) → eqb d 0 ≡ t → eqb x y ≡ u → eqb (bitOr d (bitXor x y)) 0 ≡ t && u
+      cases : (t u : Bool) → eqb d 0 ≡ t → eqb x y ≡ u → eqb (gathered d x y) 0 ≡ t && u
       cases true true p q = rw (eqb-true d 0 p, eqb-true x y q, xor-self y)
-      cases true false p q = ne-eqb _ 0 (λ e. eqb-false x y q (either-zero e .1))
-      cases false u p q = ne-eqb _ 0 (λ e. eqb-false d 0 p (either-zero e .0))
+      cases true false p q = ne-eqb _ 0 (λ e. eqb-false x y q (nothing-lost e .1))
+      cases false u p q = ne-eqb _ 0 (λ e. eqb-false d 0 p (nothing-lost e .0))
 
 -- the first n bytes of the record beside those that were given
 module _ (n : ℕ) (bytes p : List ℕ) (kept : n ≤ length bytes) (given : n ≡ length p) where
   front : length (take n bytes) ≡ n
   front = length-take-le n bytes kept
 
-  turn : (i d : ℕ) → i < n → sameAlong (eqb d 0) i (take n bytes) p ≡ sameAlong (eqb (bitOr d (bitXor (getD bytes i 0) (getD p i 0))) 0) (i + 1) (take n bytes) p
+  turn : (i d : ℕ) → i < n → sameAlong (eqb d 0) i (take n bytes) p ≡ sameAlong (eqb (gathered d (getD bytes i 0) (getD p i 0)) 0) (i + 1) (take n bytes) p
   turn i d h = rw (gathers, ← getD-take n bytes i 0 h) (equal-step (take n bytes) p i (eqb d 0) (omega (arith, front)) (omega arith))
 
   decision : (i d : ℕ) → n ≤ i → sameAlong (eqb d 0) i (take n bytes) p ≡ eqb d 0
