@@ -1,6 +1,7 @@
 /* passphrase LENGTH: a gateway is locked by LENGTH bytes, and an UNLOCK lands for each place of the first unequal byte, twice: with that byte alone
- * changed, by one bit, and with all bytes from there on, in every bit. The last one is the passphrase itself. Ends with status 0 where all but the last
- * failed and changed nothing, and the last opened. began and ended are there for steps.c: what is executed between them is the call alone. */
+ * changed, in one bit, and with all bytes from there on, in every bit. The last one has the passphrase itself. Status 0 where all but the last failed
+ * and left the lock as it was, and the last opened. steps.c looks at what is executed between `began` and `ended`: one call each time, and how it is
+ * handed its arguments. */
 #include "key_agent.h"
 #include <stdlib.h>
 #include <string.h>
@@ -13,21 +14,19 @@ uint8_t store[KEY_AGENT_STORE_BYTES], reply[KEY_AGENT_REPLY_BYTES], payload[5 + 
 __attribute__((noinline)) void began(void) { __asm__ volatile(""); }
 __attribute__((noinline)) void ended(void) { __asm__ volatile(""); }
 
-/* the message of the reply to this request, its gate answered yes */
-static int answer(uint8_t request, size_t length) {
+/* The message of the reply to this request, its gate answered yes. Never inlined: all calls have the same addresses. */
+__attribute__((noinline)) static int answer(uint8_t request, size_t length) {
     payload[0] = request;
     payload[3] = (uint8_t)(length >> 8);
     payload[4] = (uint8_t)length;
     began();
-    key_agent_outcome o = key_agent_call(&state, store, sizeof store, payload, 5 + length, (key_agent_millis){0}, (key_agent_answers){.gate = KEY_AGENT_YES},
-                                         payload, 0, reply, sizeof reply);
+    key_agent_outcome o = key_agent_call(&state, store, sizeof store, payload, 5 + length, (key_agent_millis){0},
+                                         (key_agent_answers){.gate = KEY_AGENT_YES}, payload, 0, reply, sizeof reply);
     ended();
     return o.kind == KEY_AGENT_REPLY && o.to == 5 ? reply[4] : 0;
 }
 
-static int stays_locked(size_t length, const key_agent_lock *lock) {
-    return answer(UNLOCK, length) == FAILURE && state.lock.len == lock->len && !memcmp(state.lock.bytes, lock->bytes, LONGEST);
-}
+static int is_lock(const key_agent_lock *lock) { return state.lock.len == lock->len && !memcmp(state.lock.bytes, lock->bytes, LONGEST); }
 
 int main(int words, char **word) {
     size_t length = words == 2 ? (size_t)atol(word[1]) : 0;
@@ -38,10 +37,10 @@ int main(int words, char **word) {
     if (answer(LOCK, length) != SUCCESS) return 1;
     const key_agent_lock lock = state.lock;
     for (size_t place = 0; place < length; place++) {
-        given[place] ^= 1;
-        if (!stays_locked(length, &lock)) return 1;
+        given[place] ^= (uint8_t)(1 << place % 8);
+        if (answer(UNLOCK, length) != FAILURE || !is_lock(&lock)) return 1;
         for (size_t i = place; i < length; i++) given[i] = (uint8_t)~kept[i];
-        if (!stays_locked(length, &lock)) return 1;
+        if (answer(UNLOCK, length) != FAILURE || !is_lock(&lock)) return 1;
         memcpy(given, kept, length);
     }
     return answer(UNLOCK, length) != SUCCESS || state.lock.len != 0;

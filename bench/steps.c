@@ -1,48 +1,53 @@
-/* A plugin of qemu-user: what a program executes between its functions `began` and `ended`, one line for each time, on standard error:
+/* A plugin of qemu-user 7.2: what a program executes between its functions `began` and `ended`, one line for each time but the first, which is the
+ * program's preparation:
  *
  *   WHOLE SAME FROM LAST BYTES
  *
- * WHOLE: instructions in all. SAME: how many of them, from the first on, are those of the second time (the first is the program's preparation), at the
- * same places and with the same addresses read and written. FROM, LAST: which instruction was the first, and which the last, to read from the bytes
- * in question; BYTES: how many of these were read. Words: began=, ended=, bytes= (hexadecimal addresses), size= (decimal). */
+ * WHOLE: instructions in all. SAME: how many of them, from the first on, are those of the first line, at the same places, reading and writing at the
+ * same addresses (those of prefetches and of instructions for the cache are not seen). FROM, LAST: which instruction was the first, and which the
+ * last, to read from the bytes in question, 0 where none was; BYTES: how many of these were read.
+ * Words: began=, ended=, bytes= (hexadecimal addresses), size= (decimal). The lines go to standard error. */
 #include <stdint.h>
 #include <stdio.h>
 #include <stdlib.h>
 #include <string.h>
 
+/* the interface of plugins, of version 1, as far as it is used; Debian has no header of it */
 typedef uint64_t qemu_plugin_id_t;
 struct qemu_plugin_tb;
 struct qemu_plugin_insn;
-#define SEEN __attribute__((visibility("default")))
-SEEN int qemu_plugin_version = 1;
+int qemu_plugin_version = 1;
 void qemu_plugin_register_vcpu_tb_trans_cb(qemu_plugin_id_t, void (*)(qemu_plugin_id_t, struct qemu_plugin_tb *));
 void qemu_plugin_register_vcpu_insn_exec_cb(struct qemu_plugin_insn *, void (*)(unsigned, void *), int flags, void *);
-void qemu_plugin_register_vcpu_mem_cb(struct qemu_plugin_insn *, void (*)(unsigned, uint32_t, uint64_t, void *), int flags, int both, void *);
+void qemu_plugin_register_vcpu_mem_cb(struct qemu_plugin_insn *, void (*)(unsigned, uint32_t, uint64_t, void *), int flags, int accesses, void *);
 size_t qemu_plugin_tb_n_insns(const struct qemu_plugin_tb *);
 struct qemu_plugin_insn *qemu_plugin_tb_get_insn(const struct qemu_plugin_tb *, size_t);
 uint64_t qemu_plugin_insn_vaddr(const struct qemu_plugin_insn *);
 unsigned qemu_plugin_mem_size_shift(uint32_t);
 _Bool qemu_plugin_mem_is_store(uint32_t);
+enum { NO_REGISTERS = 0, READS_AND_WRITES = 3 };
 
 enum { MOST = 1 << 22, LONGEST = 4096 };
 static uint64_t began, ended, bytes, size;
-static uint64_t model[MOST], whole, same, from, last; /* model: of the second time, addresses of instructions and of what they read and write */
+static uint64_t model[MOST]; /* of the first line: the addresses of instructions and of what they read and write, in order */
+static uint64_t whole, same, from, last;
 static size_t at, times;
 static int within, parted;
-static uint8_t read[LONGEST];
+static uint8_t was_read[LONGEST];
 
-static void put(uint64_t address, uint64_t done) { /* done: instructions before this one */
+static void put(uint64_t address, uint64_t before) { /* before: instructions before this one */
     if (at == MOST) abort();
     if (times == 1) model[at] = address;
-    else if (!parted && model[at] != address) parted = 1, same = done;
+    else if (!parted && model[at] != address) parted = 1, same = before;
     at++;
 }
 
 static void tell(void) {
     uint64_t n = 0;
-    for (size_t i = 0; i < size; i++) n += read[i];
+    for (size_t i = 0; i < size; i++) n += was_read[i];
+    if (!parted) same = whole;
     if (times > 0)
-        fprintf(stderr, "%llu %llu %llu %llu %llu\n", (unsigned long long)whole, (unsigned long long)(parted ? same : whole), (unsigned long long)from,
+        fprintf(stderr, "%llu %llu %llu %llu %llu\n", (unsigned long long)whole, (unsigned long long)same, (unsigned long long)from,
                 (unsigned long long)last, (unsigned long long)n);
     times++;
 }
@@ -53,7 +58,7 @@ static void executed(unsigned cpu, void *address) {
     if (a == began) {
         within = 1, parted = 0;
         whole = from = last = 0, at = 0;
-        memset(read, 0, sizeof read);
+        memset(was_read, 0, sizeof was_read);
     } else if (a == ended && within) {
         within = 0;
         tell();
@@ -62,12 +67,12 @@ static void executed(unsigned cpu, void *address) {
 
 static void touched(unsigned cpu, uint32_t access, uint64_t address, void *unused) {
     (void)cpu, (void)unused;
-    if (!within) return;
+    if (!within || !whole) return; /* where `began` itself is at work no instruction is counted yet */
     put(address, whole - 1);
     if (qemu_plugin_mem_is_store(access)) return;
     for (uint64_t a = address; a < address + (1u << qemu_plugin_mem_size_shift(access)); a++)
         if (a - bytes < size) {
-            read[a - bytes] = 1;
+            was_read[a - bytes] = 1;
             if (!from) from = whole;
             last = whole;
         }
@@ -77,8 +82,8 @@ static void translated(qemu_plugin_id_t id, struct qemu_plugin_tb *block) {
     (void)id;
     for (size_t i = 0; i < qemu_plugin_tb_n_insns(block); i++) {
         struct qemu_plugin_insn *insn = qemu_plugin_tb_get_insn(block, i);
-        qemu_plugin_register_vcpu_insn_exec_cb(insn, executed, 0, (void *)(uintptr_t)qemu_plugin_insn_vaddr(insn));
-        qemu_plugin_register_vcpu_mem_cb(insn, touched, 0, 3, 0);
+        qemu_plugin_register_vcpu_insn_exec_cb(insn, executed, NO_REGISTERS, (void *)(uintptr_t)qemu_plugin_insn_vaddr(insn));
+        qemu_plugin_register_vcpu_mem_cb(insn, touched, NO_REGISTERS, READS_AND_WRITES, 0);
     }
 }
 
@@ -89,7 +94,7 @@ static uint64_t word(int words, char **given, const char *name, int base) {
     return 0;
 }
 
-SEEN int qemu_plugin_install(qemu_plugin_id_t id, const void *info, int words, char **given) {
+int qemu_plugin_install(qemu_plugin_id_t id, const void *info, int words, char **given) {
     (void)info;
     began = word(words, given, "began=", 16);
     ended = word(words, given, "ended=", 16);

@@ -24,9 +24,9 @@ gathered d x y = bitOr d (bitXor x y)
 module _ (d x y : ℕ) where
   nothing-lost : gathered d x y ≡ 0 → (d ≡ 0) × (x ≡ y)
   nothing-lost e =
-      let sum = or-add-and d (bitXor x y) in
-      let in-d = and-le-l d (bitXor x y) in
-      let in-both = and-le-r d (bitXor x y) in
+      let both = or-add-and d (bitXor x y) in
+      let in-first = and-le-l d (bitXor x y) in
+      let in-second = and-le-r d (bitXor x y) in
       let bits = xor-add-and x y in
       let in-x = and-le-l x y in
       let in-y = and-le-r x y in
@@ -41,15 +41,19 @@ module _ (d x y : ℕ) where
       cases false u p q = ne-eqb _ 0 (λ e. eqb-false d 0 p (nothing-lost e .0))
 
 -- the first n bytes of the record beside those that were given
-module _ (n : ℕ) (bytes p : List ℕ) (kept : n ≤ length bytes) (given : n ≡ length p) where
+module _ (n : ℕ) (bytes p : List ℕ) (within : n ≤ length bytes) where
   front : length (take n bytes) ≡ n
-  front = length-take-le n bytes kept
+  front = length-take-le n bytes within
 
-  turn : (i d : ℕ) → i < n → sameAlong (eqb d 0) i (take n bytes) p ≡ sameAlong (eqb (gathered d (getD bytes i 0) (getD p i 0)) 0) (i + 1) (take n bytes) p
-  turn i d h = rw (gathers, ← getD-take n bytes i 0 h) (equal-step (take n bytes) p i (eqb d 0) (omega (arith, front)) (omega arith))
+  another-length : (n ≡ length p → ⊥) → false ≡ same (take n bytes) p
+  another-length h = same-long (take n bytes) p (λ e. h (sym front ∙ e))
 
-  decision : (i d : ℕ) → n ≤ i → sameAlong (eqb d 0) i (take n bytes) p ≡ eqb d 0
-  decision i d h = equal-end (take n bytes) p i (eqb d 0) (omega (arith, front)) (omega arith)
+  turn : n ≡ length p → (i d : ℕ) → i < n
+      → sameAlong (eqb d 0) i (take n bytes) p ≡ sameAlong (eqb (gathered d (getD bytes i 0) (getD p i 0)) 0) (i + 1) (take n bytes) p
+  turn given i d h = rw (gathers, ← getD-take n bytes i 0 h) (equal-step (take n bytes) p i (eqb d 0) (omega (arith, front)) (omega arith))
+
+  decision : n ≡ length p → (i d : ℕ) → n ≤ i → sameAlong (eqb d 0) i (take n bytes) p ≡ eqb d 0
+  decision given i d h = equal-end (take n bytes) p i (eqb d 0) (omega (arith, front)) (omega arith)
 
 abbrev Inv-loop : tie.InvT-loop
 Inv-loop p bytes len differences₀ i₀ differences i = (i ≤ len) × (same (take len bytes) p ≡ sameAlong (eqb differences 0) i (take len bytes) p)
@@ -63,8 +67,7 @@ lengths-differ c x =
     let st = c .before .before in
     let s = st .args .state in
     let size = record-of s _ (st .good .0) in
-    let kept = length-take-le (s .lock .len) (s .lock .bytes) (omega arith) in
-    same-long _ _ (λ e. c .if1 .taken (sym kept ∙ e))
+    another-length (s .lock .len) (s .lock .bytes) (st .args .p .now) (omega arith) (c .if1 .taken)
 
 loop-again : tie.Need-loop-again Inv-loop μ-loop
 loop-again c =
