@@ -15,6 +15,7 @@ use Rattle.keys.specs.declared.addition.Addition.{Addition}
 use Rattle.keys.specs.Kinds.{blobOf}
 use Rattle.keys.specs.Additions.{additionAt}
 use Rattle.keys.specs.Forms.{ed25519-key, ecdsa-key, rsa-key, KeyFields, as-ed25519, as-nistp256, as-nistp384, as-nistp521, as-rsa}
+use Rattle.rule.specs.declared.Millis.{Millis}
 use Rattle.rule.specs.declared.Found.{Found}
 use Rattle.rule.specs.declared.Found.the-variants.{At, Nothing}
 use Rattle.rule.specs.Gateway.{Entry, Place, Gateway, locked, atClock, advance, seek, holds, isFree, found, placeFor, NewKey, newEntry, withEntry}
@@ -97,7 +98,7 @@ room-of : (g : Gateway) (blob : List ℕ) (i : ℕ) → Placed blob (g .places) 
 room-of g blob i (replacing at) = let held = found-at blob (g .places) i at in inl (held .entry, (i, held .there), held .is)
 room-of g blob i (anew absent at) = let first = seek-first isFree (g .places) i at in inr (i, (first .inside, free-place _ (first .passes)))
 
-may-store : (g : Gateway) (number reading : ℕ) (k : NewKey) (i : ℕ) → Storable g (newEntry number reading k) i → MayStore g k
+may-store : (g : Gateway) (number : ℕ) (reading : Millis) (k : NewKey) (i : ℕ) → Storable g (newEntry number reading k) i → MayStore g k
 may-store g number reading k i s =
     let lengths = fit-says (k .blob) (k .fields) (k .comment) .0 (s .fits) in
     record {

@@ -1,5 +1,5 @@
 -- What every add request as the draft writes it brings, every entry that a call stores has, and no other row stores one: so runs keep it.
-use Prim.Native.Nat.{ℕ, suc, max}
+use Prim.Native.Nat.{ℕ, suc}
 use mathlib.Core.Path.{sym, subst}
 use mathlib.Core.Bool.{Bool, true, false}
 use mathlib.Core.Option.{none}
@@ -11,7 +11,8 @@ use Rattle.wire.specs.Texts.{bytes}
 use Rattle.wire.specs.Write.{string}
 use Rattle.wire.proofs.ByteLaws.{bytes-append, bytes-split}
 use Rattle.keys.specs.Forms.{ecdsaType, ed25519-key, ecdsa-key, rsa-key, Ecdsa, Curve, KeyFields, as-ed25519, as-nistp256, as-nistp384, as-nistp521, as-rsa}
-use Rattle.rule.specs.Gateway.{Entry, Gateway, fresh, lasting, atClock, advance, vacate, NewKey}
+use Rattle.rule.specs.declared.Millis.{Millis}
+use Rattle.rule.specs.Gateway.{Entry, Gateway, fresh, lasting, atClock, later, advance, vacate, NewKey}
 use Rattle.rule.specs.Soundness.{EveryEntry}
 use Rattle.rule.specs.Rule.{listing, removingAll}
 use Rattle.rule.specs.Calls.{lent, Call, Result, follow, call}
@@ -32,10 +33,10 @@ module _ (P : Entry → Type 0) where
   abbrev Has : Gateway → Type 0
   Has g = EveryEntry P (g .places)
 
-  pub advance-has : (r : ℕ) (g : Gateway) → Has g → Has (advance r g)
+  pub advance-has : (r : Millis) (g : Gateway) → Has g → Has (advance r g)
   unfolding advance atClock
   advance-has r g h =
-      let clock = max (g .clock) r in
+      let clock = later (g .clock) r in
       fewer-every P (g .places) (map (lasting clock) (g .places)) (freed-fewer (lasting clock) (lasting-frees clock) (g .places)) h
 
   module _ (g : Gateway) (c : Call) (small : Bytes (payloadOf c)) (brings : (k : NewKey) → AddRequest (payloadOf c) k → P (madeBy g c k)) (before : Has g) where

@@ -1,11 +1,12 @@
 -- Calls that cross, against the one-at-a-time rule: a call by its outcomes, and a relation between the two gateways that every call keeps.
-use Prim.Native.Nat.{ℕ, _≤_, max, zero-le}
+use Prim.Native.Nat.{ℕ, _≤_, zero-le}
 use native.Mathlib.Omega.{arith}
 use mathlib.Core.Path.{_≡_, refl, sym, ap, _∙_, subst}
 use mathlib.Core.Bool.{Bool, true, false}
 use mathlib.Core.Option.{Option, none, some}
 use mathlib.Core.List.{List, [], _∷_}
-use Rattle.rule.specs.Gateway.{Gateway, advance}
+use Rattle.rule.specs.declared.Millis.{Millis}
+use Rattle.rule.specs.Gateway.{Gateway, zeroMillis, later, advance}
 use Rattle.rule.specs.Rule.{Question, Answer, Plan, land, ask, rule}
 use Rattle.rule.specs.Calls.{given, lent, Frame, Call, refusal, refused, asks, lands, Result, follow, served, call}
 use Rattle.rule.specs.Runs.{Event, events, endOf, isAccepted, heard, heardIn, greatest, Turn, turn, turnsFrom, landings, asked, askedIn, Oracle, Landed, alone, servedAlone, oneAtATime, oneAtATimeEnd}
@@ -74,28 +75,28 @@ accepted-rule g c = (
 -- ## The relation
 
 -- other has missed the calls which only asked, if there are any
-pub record Together (b : Bool) (reading : ℕ) (crossing other : Gateway) : Type 0 where
+pub record Together (b : Bool) (reading : Millis) (crossing other : Gateway) : Type 0 where
   pub same : crossing ≡ settled b reading other
-  pub behind : reading ≤ crossing .clock
+  pub behind : reading .count ≤ crossing .clock .count
 
-pub together : (m : ℕ) (g : Gateway) → m ≤ g .clock → Together false m g g
+pub together : (m : Millis) (g : Gateway) → m .count ≤ g .clock .count → Together false m g g
 unfolding settled
 together m g h = record { same = refl; behind = h }
 
-together-advanced : (b : Bool) (m r : ℕ) (g h : Gateway) → Together b m g h → advance r g ≡ advance (max m r) h
+together-advanced : (b : Bool) (m r : Millis) (g h : Gateway) → Together b m g h → advance r g ≡ advance (later m r) h
 unfolding settled
-together-advanced false m r g h t = sym (advance-heard m r g (t .behind)) ∙ ap (advance (max m r)) (t .same)
+together-advanced false m r g h t = sym (advance-heard m r g (t .behind)) ∙ ap (advance (later m r)) (t .same)
 together-advanced true m r g h t = ap (advance r) (t .same) ∙ advance-advance m r h
 
-module _ (b : Bool) (m r : ℕ) (g h : Gateway) (t : Together b m g h) where
-  together-clock : max m r ≤ advance r g .clock
-  together-clock = let k : m ≤ g .clock = t .behind in rw (advance-clock r g) (omega arith)
+module _ (b : Bool) (m r : Millis) (g h : Gateway) (t : Together b m g h) where
+  together-clock : later m r .count ≤ advance r g .clock .count
+  together-clock = let k : m .count ≤ g .clock .count = t .behind in rw (advance-clock r g) (omega arith)
 
-  pub together-asked : Together true (max m r) (advance r g) h
+  pub together-asked : Together true (later m r) (advance r g) h
   unfolding settled
   together-asked = record { same = together-advanced b m r g h t; behind = together-clock }
 
-pub advance-settled : (b : Bool) (r : ℕ) (g : Gateway) → advance r (settled b r g) ≡ advance r g
+pub advance-settled : (b : Bool) (r : Millis) (g : Gateway) → advance r (settled b r g) ≡ advance r g
 unfolding settled
 advance-settled false r g = refl
 advance-settled true r g = advance-again r g
@@ -103,11 +104,11 @@ advance-settled true r g = advance-again r g
 -- ## The run
 
 module _ (frameOf : Call → Frame) (oracleOf : Call → Oracle) where
-  record AsAlone (other : Gateway) (ts : List Turn) (b : Bool) (reading : ℕ) (end : Gateway) : Type 0 where
+  record AsAlone (other : Gateway) (ts : List Turn) (b : Bool) (reading : Millis) (end : Gateway) : Type 0 where
     replies : landings ts ≡ oneAtATime frameOf oracleOf other ts
     end-state : end ≡ settled b reading (oneAtATimeEnd frameOf oracleOf other ts)
 
-  one-more : (g : Gateway) (t : Turn) (ts : List Turn) (b : Bool) (reading : ℕ) (end : Gateway) (x : Landed)
+  one-more : (g : Gateway) (t : Turn) (ts : List Turn) (b : Bool) (reading : Millis) (end : Gateway) (x : Landed)
       → servedAlone frameOf oracleOf g t ≡ x → t .landing ≡ x .landing → AsAlone (x .gateway) ts b reading end → AsAlone g (t ∷ ts) b reading end
   unfolding oneAtATime oneAtATimeEnd
   one-more g t ts b reading end x s e h = record { replies = rw s (λ i. e i ∷ h .replies i); end-state = rw s (h .end-state) }
@@ -116,22 +117,22 @@ module _ (frameOf : Call → Frame) (oracleOf : Call → Oracle) where
   Kept = EveryAccepted (Keeps frameOf oracleOf)
 
   -- events that start here, where other is that gateway in the one-at-a-time rule
-  abbrev Crosses : Bool → ℕ → Gateway → List Event → Gateway → Type 0
+  abbrev Crosses : Bool → Millis → Gateway → List Event → Gateway → Type 0
   Crosses b m other es end = AsAlone other (turnsFrom m es) (askedIn b es) (heardIn m es) end
 
   -- the run from a call on, by what the call gives
-  From : List Call → Bool → ℕ → Gateway → Call → Option ℕ → Result → Type 0
+  From : List Call → Bool → Millis → Gateway → Call → Option ℕ → Result → Type 0
   From cs b m h c o r = Kept (events (r .gateway) cs) → Crosses b m h (eventBy c r ∷ events (r .gateway) cs) (endOf (r .gateway) cs)
 
-  crossing : (cs : List Call) (b : Bool) (m : ℕ) (g h : Gateway) → Together b m g h → Kept (events g cs) → Crosses b m h (events g cs) (endOf g cs)
+  crossing : (cs : List Call) (b : Bool) (m : Millis) (g h : Gateway) → Together b m g h → Kept (events g cs) → Crosses b m h (events g cs) (endOf g cs)
   unfolding events turnsFrom heardIn endOf askedIn oneAtATime oneAtATimeEnd servedAlone heard isAccepted turn asked From
   crossing [] b m g h t = λ _. record { replies = refl; end-state = t .same }
   crossing (c ∷ cs) b m g h t = λ keeps.
-      let now : ℕ = max m (c .reading) in
+      let now : Millis = later m (c .reading) in
       let lone : Landed = alone (oracleOf c) (planOf g c) in
       let clock : lone .gateway .clock ≡ advance (c .reading) g .clock
       = effect-clock (alone-has (Effect (advance (c .reading) g)) (oracleOf c) (planOf g c) (rule-effect (advance (c .reading) g) (c .frame .payload))) in
-      let landed : now ≤ lone .gateway .clock = rw clock (together-clock b m (c .reading) g h t) in
+      let landed : now .count ≤ lone .gateway .clock .count = rw clock (together-clock b m (c .reading) g h t) in
       let kept : refusal g c ≡ none → Keeps frameOf oracleOf c = λ e. keeps .0 (accepted-rule g c .1 e) in
       call-cases g c (oracleOf c) (From cs b m h c)
       (λ e. kept e .one-answer)
@@ -147,7 +148,7 @@ module _ (frameOf : Call → Frame) (oracleOf : Call → Oracle) where
   -- whatever oracle the answers of each call agree with
   pub any-order : (g : Gateway) (cs : List Call) → EveryAccepted (Keeps frameOf oracleOf) (events g cs) → AsOneAtATime frameOf oracleOf g (events g cs) (endOf g cs)
   any-order g cs keeps =
-      let h = crossing cs false 0 g g (together 0 g zero-le) keeps in
+      let h = crossing cs false zeroMillis g g (together zeroMillis g zero-le) keeps in
       record {
         replies = h .replies;
         end-states = rw (h .end-state) (advance-settled (askedIn false (events g cs)) (greatest (events g cs)) _);

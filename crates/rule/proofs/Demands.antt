@@ -1,15 +1,17 @@
 -- Demand 3 in its forms: as lent, by request, without refused calls, at the calls' own readings.
-use Prim.Native.Nat.{ℕ, _≤_, max}
+use Prim.Native.Nat.{_≤_}
 use native.Mathlib.Omega.{arith}
 use mathlib.Core.Path.{_≡_, refl, ap, subst}
 use mathlib.Core.Bool.{true, false}
 use mathlib.Core.List.{List, [], _∷_, _++_}
-use Rattle.rule.specs.Gateway.{Gateway, advance}
+use Rattle.rule.specs.declared.Millis.{Millis}
+use Rattle.rule.specs.Gateway.{Gateway, zeroMillis, advance}
 use Rattle.rule.specs.Rule.{Landing}
 use Rattle.rule.specs.Calls.{Call, Outcome, refused, asks, lands, call}
 use Rattle.rule.specs.Runs.{Event, events, endOf, callsOf, RunsTo, Every, isAccepted, acceptedIn, heard, heardIn, Turn, turn, turnsFrom, alone, servedAlone, oneAtATime}
 use Rattle.rule.specs.Order.{EveryAccepted, Keeps, ownFrame, ownAnswers, AsLent, AloneFinds, Demand3, RefusedUnread, RefusedDropOut, NeverFall, OwnReadings}
 use Rattle.rule.proofs.Cases.{cond-cases, true-not-false}
+use Rattle.rule.proofs.Clock.{same-count}
 use Rattle.rule.proofs.Plans.{asks-not-lands, refused-not-lands}
 use Rattle.rule.proofs.Crossing.{eventBy, planOf, own-cases, own-agrees, any-order}
 use Rattle.rule.proofs.RowLaws.{same-landing}
@@ -36,11 +38,11 @@ carried P g es end runs h = subst (λ (es : List Event). P es end) (runs .events
 -- ## Refused calls drop out
 
 -- a refused call is not read
-record Unread (m : ℕ) (few es : List Event) : Type 0 where
+record Unread (m : Millis) (few es : List Event) : Type 0 where
   same-turns : turnsFrom m few ≡ turnsFrom m es
   same-heard : heardIn m few ≡ heardIn m es
 
-unread : (es : List Event) (m : ℕ) → Unread m (acceptedIn es) es
+unread : (es : List Event) (m : Millis) → Unread m (acceptedIn es) es
 unfolding acceptedIn isAccepted turnsFrom turn heardIn heard
 unread [] m = record { same-turns = refl; same-heard = refl }
 unread (e ∷ es) m =
@@ -54,7 +56,7 @@ unread (e ∷ es) m =
     without (lands l) never rest = absurd (true-not-false never)
 
 pub refused-unread : RefusedUnread
-refused-unread es = let u = unread es 0 in record { landings-stay = u .same-turns; greatest-stays = u .same-heard }
+refused-unread es = let u = unread es zeroMillis in record { landings-stay = u .same-turns; greatest-stays = u .same-heard }
 
 refused-stays : (g : Gateway) (c : Call) → isAccepted (call g c .outcome) ≡ false → call g c .gateway ≡ g
 unfolding isAccepted
@@ -77,19 +79,19 @@ refused-drop-out g (c ∷ cs) =
 abbrev Own : Turn → Type 0
 Own t = t .reading ≡ t .by .reading
 
-own-from : (es : List Event) (m : ℕ) → NeverFall m es → Every Own (turnsFrom m es)
+own-from : (es : List Event) (m : Millis) → NeverFall m es → Every Own (turnsFrom m es)
 unfolding isAccepted turnsFrom turn heard NeverFall
 own-from [] m _ = tt
 own-from (e ∷ es) m (low, rest) = by (e .outcome) low (own-from es (heard m e) rest)
   where
-    by : (o : Outcome) → (isAccepted o ≡ true → m ≤ e .by .reading) → Every Own (turnsFrom (heard m (record { by = e .by; outcome = o })) es)
+    by : (o : Outcome) → (isAccepted o ≡ true → m .count ≤ e .by .reading .count) → Every Own (turnsFrom (heard m (record { by = e .by; outcome = o })) es)
         → Every Own (turnsFrom m (record { by = e .by; outcome = o } ∷ es))
     by (refused n) low rest = rest
     by (asks q) low rest = rest
-    by (lands l) low rest = let h : m ≤ e .by .reading = low refl in (omega arith, rest)
+    by (lands l) low rest = let h : m .count ≤ e .by .reading .count = low refl in (same-count (omega arith), rest)
 
 pub own-readings : OwnReadings
-own-readings es = own-from es 0
+own-readings es = own-from es zeroMillis
 
 pub alone-finds : AloneFinds
 unfolding oneAtATime servedAlone

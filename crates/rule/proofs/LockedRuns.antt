@@ -1,5 +1,5 @@
 -- Between a lock and an unlock: what the rule does while locked, a run of it, and the lock's success.
-use Prim.Native.Nat.{ℕ, max, zero-le}
+use Prim.Native.Nat.{ℕ, zero-le}
 use mathlib.Core.Path.{_≡_, refl, ap}
 use mathlib.Core.Bool.{Bool, true, false, cond}
 use mathlib.Core.Option.{Option, none}
@@ -8,7 +8,8 @@ use borrow.Author.Tests.{ltb-true, lt-ltb, eqb-true}
 use lib.ListN.{length}
 use lib.Dec.{ltb, eqb}
 use Rattle.wire.specs.Read.{cutOf, same, stringAt}
-use Rattle.rule.specs.Gateway.{Gateway, locked, opened, advance}
+use Rattle.rule.specs.declared.Millis.{Millis}
+use Rattle.rule.specs.Gateway.{Gateway, zeroMillis, locked, opened, later, advance}
 use Rattle.rule.specs.Rule.{Question, gate, Answer, Landing, FAILURE, SUCCESS, Plan, land, ask, fails, unlocking, gated, row, table, rule}
 use Rattle.rule.specs.Calls.{Call, asks, Result, call}
 use Rattle.rule.specs.Runs.{Event, events, endOf, Every, isAccepted, heard, heardIn, greatest, turn, turnsFrom, someAccepted, Landed, alone}
@@ -96,32 +97,32 @@ module _ (g : Gateway) (h : locked g ≡ true) where
 
 -- ## A run while locked
 
-locked-advance : (r : ℕ) (g : Gateway) → locked g ≡ true → locked (advance r g) ≡ true
+locked-advance : (r : Millis) (g : Gateway) → locked g ≡ true → locked (advance r g) ≡ true
 locked-advance r g h = rw (advance-lock r g) h
 
-record Shut (b : Bool) (m : ℕ) (before : Gateway) (es : List Event) (end : Gateway) : Type 0 where
+record Shut (b : Bool) (m : Millis) (before : Gateway) (es : List Event) (end : Gateway) : Type 0 where
   all-fail : Every (λ t. t .landing ≡ FAILURE) (turnsFrom m es)
   exactly : end ≡ settled (someAccepted b es) (heardIn m es) before
   only-gate-7 : EveryQuestion (λ c. Gate7 (c .frame .payload)) es
 
 -- the run from a gateway on, and from a call on by what the call gives
-abbrev Run : List Call → Bool → ℕ → Gateway → Gateway → Type 0
+abbrev Run : List Call → Bool → Millis → Gateway → Gateway → Type 0
 Run cs b m g before = NoUnlocking (turnsFrom m (events g cs)) → Shut b m before (events g cs) (endOf g cs)
 
-From : List Call → Bool → ℕ → Gateway → Call → Option ℕ → Result → Type 0
+From : List Call → Bool → Millis → Gateway → Call → Option ℕ → Result → Type 0
 From cs b m before c o r =
     NoUnlocking (turnsFrom m (eventBy c r ∷ events (r .gateway) cs)) → Shut b m before (eventBy c r ∷ events (r .gateway) cs) (endOf (r .gateway) cs)
 
-asked-while-locked : (cs : List Call) (b : Bool) (m : ℕ) (g before : Gateway) (c : Call) (q : Question) → Gate7 (c .frame .payload) q
-    → Run cs true (max m (c .reading)) g before
+asked-while-locked : (cs : List Call) (b : Bool) (m : Millis) (g before : Gateway) (c : Call) (q : Question) → Gate7 (c .frame .payload) q
+    → Run cs true (later m (c .reading)) g before
     → From cs b m before c none (record { outcome = asks q; gateway = g })
 unfolding From turnsFrom heardIn someAccepted heard isAccepted turn
 asked-while-locked cs b m g before c q gated run no-unlocking =
     let after = run no-unlocking in
     record { all-fail = after .all-fail; exactly = after .exactly; only-gate-7 = (λ p e. let same : q ≡ p = cc in rw same at gated, after .only-gate-7) }
 
-landed-while-locked : (cs : List Call) (b : Bool) (m : ℕ) (g before : Gateway) (c : Call) (x : Landed) → LockedLanding g (c .frame .payload) (x .landing) (x .gateway)
-    → Run cs true (max m (c .reading)) g before
+landed-while-locked : (cs : List Call) (b : Bool) (m : Millis) (g before : Gateway) (c : Call) (x : Landed) → LockedLanding g (c .frame .payload) (x .landing) (x .gateway)
+    → Run cs true (later m (c .reading)) g before
     → From cs b m before c none (landingResult x)
 unfolding From turnsFrom heardIn someAccepted heard isAccepted turn
 landed-while-locked cs b m g before c x (unlocks begins s) run no-unlocking = absurd (no-unlocking .0 (begins, s))
@@ -130,13 +131,13 @@ landed-while-locked cs b m g before c x (stays f e) run no-unlocking =
     (let after = run (rw e at (no-unlocking .1)) in
     record { all-fail = (f, after .all-fail); exactly = after .exactly; only-gate-7 = (λ q never. absurd (lands-not-asks _ q never), after .only-gate-7) })
 
-stays-locked : (cs : List Call) (b : Bool) (m : ℕ) (g before : Gateway) → Together b m g before → locked g ≡ true → Run cs b m g before
+stays-locked : (cs : List Call) (b : Bool) (m : Millis) (g before : Gateway) → Together b m g before → locked g ≡ true → Run cs b m g before
 unfolding events turnsFrom heardIn endOf someAccepted heard isAccepted turn From
 stays-locked [] b m g before t h = λ _. record { all-fail = tt; exactly = t .same; only-gate-7 = tt }
 stays-locked (c ∷ cs) b m g before t h =
     let now = advance (c .reading) g in
     let l = locked-advance (c .reading) g h in
-    let run = stays-locked cs true (max m (c .reading)) now before (together-asked b m (c .reading) g before t) l in
+    let run = stays-locked cs true (later m (c .reading)) now before (together-asked b m (c .reading) g before t) l in
     own-cases g c (From cs b m before c)
     (λ n no-unlocking.
     let after = stays-locked cs b m g before t h no-unlocking in
@@ -147,7 +148,7 @@ stays-locked (c ∷ cs) b m g before t h =
 
 pub while-locked : WhileLocked
 while-locked g cs h no-unlocking =
-    let run = stays-locked cs false 0 g g (together 0 g zero-le) h no-unlocking in
+    let run = stays-locked cs false zeroMillis g g (together zeroMillis g zero-le) h no-unlocking in
     record {
       all-fail = run .all-fail;
       only-expiry = rw (run .exactly) (advance-settled (someAccepted false (events g cs)) (greatest (events g cs)) g);

@@ -12,6 +12,7 @@ use lib.Dec.{eqb}
 use borrow.Author.Tests.{eqb-true, eqb-false}
 use Rattle.wire.specs.Read.{same}
 use Rattle.wire.proofs.Reading.{same-rule}
+use Rattle.rule.specs.declared.Millis.{Millis}
 use Rattle.rule.specs.declared.Found.the-variants.{At, Nothing}
 use Rattle.rule.specs.Gateway.{Entry, Place, dueAt, lasting, seek, holds, isFree, entryWith, placeFor, vacate}
 use Rattle.rule.specs.Soundness.{EveryEntry, Apart, Distinct}
@@ -105,7 +106,7 @@ frees-kept f frees (some x) e h = by-taken (frees .taken x)
 pub freed-fewer : (f : Place → Place) → Frees f → (ps : List Place) → Fewer ps (map f ps)
 freed-fewer f frees ps i e h = frees-kept f frees (getD ps i none) e (sym (getD-map f (frees .free) ps i) ∙ h)
 
-pub lasting-frees : (clock : ℕ) → Frees (lasting clock)
+pub lasting-frees : (clock : Millis) → Frees (lasting clock)
 unfolding lasting
 lasting-frees clock = record {
   free = refl;

@@ -12,6 +12,7 @@ use Rattle.wire.specs.Read.{cutOf, same, stringAt, numberAt}
 use Rattle.wire.specs.Write.{string}
 use Rattle.keys.specs.Kinds.{blobOf}
 use Rattle.keys.specs.Additions.{additionAt}
+use Rattle.rule.specs.declared.Millis.{Millis}
 use Rattle.rule.specs.declared.Hash.{Hash}
 use Rattle.rule.specs.Gateway.{Entry, Place, Gateway, locked, opened, advance, seek, holds, entryWith, placeFor, withEntry}
 use Rattle.rule.specs.Soundness.{EveryEntry, SoundEntry, Sound, fit}
@@ -30,7 +31,7 @@ size close = 0
 
 -- ## The longest list
 
-items-length : (clock next : ℕ) (ps : List Place) → EveryEntry (SoundEntry clock next) ps → length (items (live ps)) ≤ itemRoom * length ps
+items-length : (clock : Millis) (next : ℕ) (ps : List Place) → EveryEntry (SoundEntry clock next) ps → length (items (live ps)) ≤ itemRoom * length ps
 unfolding items live
 items-length clock next [] h = omega arith
 items-length clock next (none ∷ ps) h = let r = items-length clock next ps h in omega arith

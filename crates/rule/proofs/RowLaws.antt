@@ -8,6 +8,7 @@ use mathlib.Core.List.{List}
 use borrow.Author.Tests.{ltb-true, lt-ltb, eqb-true}
 use lib.ListN.{length, getD}
 use lib.Dec.{ltb, eqb}
+use Rattle.rule.specs.declared.Millis.{Millis}
 use Rattle.rule.specs.Gateway.{Gateway, locked, opened, advance, atClock}
 use Rattle.rule.specs.Rule.{Question, gate, Landing, FAILURE, SUCCESS, Plan, land, fails, listing, adding, removing, removingAll, signing, locking, unlocking, gated, row, table, rule}
 use Rattle.rule.specs.Calls.{lent, Call, refusal, Outcome, refused, asks, lands, Result, follow, served, call}
@@ -105,7 +106,7 @@ no-row g payload none-begins = rule-cases (λ plan. plan ≡ land FAILURE g) g p
 
 -- ## Past the gate
 
-advance-locked : (reading : ℕ) (g : Gateway) → locked (advance reading g) ≡ locked g
+advance-locked : (reading : Millis) (g : Gateway) → locked (advance reading g) ≡ locked g
 unfolding advance atClock
 advance-locked reading g = refl
 

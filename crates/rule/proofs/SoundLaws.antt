@@ -1,5 +1,5 @@
 -- The test of soundness says what the facts say; every effect keeps them, so every call does, and refusal 3 never occurs; numbers only rise.
-use Prim.Native.Nat.{ℕ, _+_, _≤_, _<_, max}
+use Prim.Native.Nat.{ℕ, _+_, _≤_, _<_}
 use native.Mathlib.Omega.{arith}
 use mathlib.Core.Path.{_≡_, refl, sym, ap, _∙_}
 use mathlib.Core.Logic.{_↔_, _≢_}
@@ -12,7 +12,8 @@ use lib.ListN.{length, length-set, length-map}
 use Rattle.wire.specs.Limits.{blobLimit, fieldsLimit, commentLimit, passphraseLimit, lastNumber}
 use Rattle.wire.specs.Numbers.{within}
 use Rattle.wire.specs.Read.{same}
-use Rattle.rule.specs.Gateway.{Entry, Place, Gateway, lasting, atClock, advance, withLock, without, withoutAll, withEntry, vacate}
+use Rattle.rule.specs.declared.Millis.{Millis}
+use Rattle.rule.specs.Gateway.{Entry, Place, Gateway, lasting, atClock, later, advance, withLock, without, withoutAll, withEntry, vacate}
 use Rattle.rule.specs.Soundness.{EveryEntry, Apart, Distinct, Fits, SoundEntry, Sound, everyEntry, apart, distinct, fit, soundEntry, sound}
 use Rattle.rule.specs.Rule.{Question, Answer, Landing, Plan, land, ask, rule}
 use Rattle.rule.specs.Calls.{lent, Call, refusal, refused, Result, follow, served, call}
@@ -81,9 +82,9 @@ fit-says blob fields comment =
       (λ s. all .1 ((s .blob-some, s .blob-fits), ((s .fields-some, s .fields-fit), s .comment-fits))),
     )
 
-entry-says : (clock next : ℕ) (e : Entry) → Says (soundEntry clock next e) (SoundEntry clock next e)
+entry-says : (clock : Millis) (next : ℕ) (e : Entry) → Says (soundEntry clock next e) (SoundEntry clock next e)
 entry-says clock next e =
-    let n = both-say _ _ _ _ (both-say _ _ _ _ (le-says 1 (e .number)) (lt-says (e .number) next)) (le-says (e .reading) clock) in
+    let n = both-say _ _ _ _ (both-say _ _ _ _ (le-says 1 (e .number)) (lt-says (e .number) next)) (le-says (e .reading .count) (clock .count)) in
     let all = both-say _ _ _ _ (fit-says (e .blob) (e .fields) (e .comment)) n in (
       (λ t.
           let h = all .0 t in
@@ -125,7 +126,7 @@ fresh-sound = record { eight-places = refl; entries = tt; distinct = tt; lock-fi
 
 -- fewer entries, a later clock
 pub sound-fewer : (g after : Gateway) → length (after .places) ≡ length (g .places) → Fewer (g .places) (after .places)
-    → after .lock ≡ g .lock → g .clock ≤ after .clock → after .next ≡ g .next → Sound g → Sound after
+    → after .lock ≡ g .lock → g .clock .count ≤ after .clock .count → after .next ≡ g .next → Sound g → Sound after
 sound-fewer g after l f lock clock next s = record {
   eight-places = l ∙ s .eight-places;
   entries = fewer-every _ (g .places) (after .places) f (every-imp (SoundEntry (g .clock) (g .next)) _ (λ e h. omega arith) (g .places) (s .entries));
@@ -135,11 +136,11 @@ sound-fewer g after l f lock clock next s = record {
   next-last = rw next (s .next-last);
 }
 
-pub sound-advance : (r : ℕ) (g : Gateway) → Sound g → Sound (advance r g)
+pub sound-advance : (r : Millis) (g : Gateway) → Sound g → Sound (advance r g)
 unfolding advance atClock
 sound-advance r g s =
-    let later : g .clock ≤ max (g .clock) r = omega arith in
-    sound-fewer g (advance r g) (length-map (g .places) _) (freed-fewer (lasting (max (g .clock) r)) (lasting-frees (max (g .clock) r)) (g .places)) refl later refl s
+    let raised : g .clock .count ≤ later (g .clock) r .count = omega arith in
+    sound-fewer g (advance r g) (length-map (g .places) _) (freed-fewer (lasting (later (g .clock) r)) (lasting-frees (later (g .clock) r)) (g .places)) refl raised refl s
 
 pub sound-lock : (passphrase : List ℕ) (g : Gateway) → length passphrase ≤ passphraseLimit → Sound g → Sound (withLock passphrase g)
 sound-lock passphrase g h s = record {
@@ -168,7 +169,7 @@ sound-entry : (g : Gateway) (e : Entry) (i : ℕ) → Storable g e i → Sound g
 sound-entry g e i h s =
     let left : g .next < lastNumber = h .numbers-left in
     let number : e .number ≡ g .next = h .number in
-    let reading : e .reading ≡ g .clock = h .reading in
+    let reading : e .reading .count ≡ g .clock .count = ap (λ (t : Millis). t .count) (h .reading) in
     let first : 1 ≤ g .next = s .next-first in
     let new : SoundEntry (g .clock) (g .next + 1) e
     = record { lengths = fit-says (e .blob) (e .fields) (e .comment) .0 (h .fits); number-first = omega arith; number-taken = omega arith; reading-past = omega arith } in

@@ -1,5 +1,5 @@
 -- An accepted call raises the clock to its reading and leaves no entry whose time is up but what it has itself added with lifetime 0.
-use Prim.Native.Nat.{ℕ, zero, suc, _-_, _<_, max}
+use Prim.Native.Nat.{ℕ, zero, suc, _-_, _<_}
 use native.Mathlib.Omega.{arith}
 use mathlib.Core.Path.{_≡_, refl, sym, ap, _∙_}
 use mathlib.Core.Logic.{_⊎_, inl, inr}
@@ -12,7 +12,8 @@ use borrow.Author.Tests.{leb-false}
 use Rattle.wire.specs.declared.Seconds.{Seconds}
 use Rattle.keys.specs.declared.constraints.Lifetime.{Lifetime}
 use Rattle.keys.specs.declared.constraints.Lifetime.the-variants.{Forever, For}
-use Rattle.rule.specs.Gateway.{Entry, Place, Gateway, millisOf, dueAt, lasting, atClock, advance, vacate}
+use Rattle.rule.specs.declared.Millis.{Millis}
+use Rattle.rule.specs.Gateway.{Entry, Place, Gateway, millisOf, dueAt, lasting, atClock, later, advance, vacate}
 use Rattle.rule.specs.Soundness.{EveryEntry}
 use Rattle.rule.specs.Rule.{Landing}
 use Rattle.rule.specs.Calls.{Call, refusal, call}
@@ -38,18 +39,18 @@ accepted-keeps P g c now effects =
 pub clock-raised : ClockRaised
 clock-raised g c =
     let raised = advance-clock (c .reading) g in
-    accepted-keeps (λ after. after .clock ≡ max (g .clock) (c .reading)) g c raised (λ l after h. effect-clock h ∙ raised)
+    accepted-keeps (λ after. after .clock ≡ later (g .clock) (c .reading)) g c raised (λ l after h. effect-clock h ∙ raised)
 
 -- ## On time
 
-not-due : (clock : ℕ) (e : Entry) → dueAt clock (e .reading) (e .lifetime) ≡ false → OnTime clock e
+not-due : (clock : Millis) (e : Entry) → dueAt clock (e .reading) (e .lifetime) ≡ false → OnTime clock e
 unfolding dueAt
 not-due clock e h seconds for =
-    let early : leb (millisOf seconds) (clock - e .reading) ≡ false = rw for at h in
-    let l : clock - e .reading < millisOf seconds = leb-false _ _ early in
+    let early : leb (millisOf seconds .count) (clock .count - e .reading .count) ≡ false = rw for at h in
+    let l : clock .count - e .reading .count < millisOf seconds .count = leb-false _ _ early in
     omega arith
 
-lasting-on-time : (clock : ℕ) (ps : List Place) → EveryEntry (OnTime clock) (map (lasting clock) ps)
+lasting-on-time : (clock : Millis) (ps : List Place) → EveryEntry (OnTime clock) (map (lasting clock) ps)
 unfolding lasting
 lasting-on-time clock [] = tt
 lasting-on-time clock (none ∷ ps) = lasting-on-time clock ps
@@ -59,7 +60,7 @@ lasting-on-time clock (some e ∷ ps) =
     (λ early. (not-due clock e early, lasting-on-time clock ps))
 
 -- on time, or just added with lifetime 0
-abbrev Timely : ℕ → ℕ → Entry → Type 0
+abbrev Timely : Millis → ℕ → Entry → Type 0
 Timely clock next e = OnTime clock e ⊎ ((e .number ≡ next) × (e .lifetime ≡ For (record { count = 0 })))
 
 forever-not-for : (seconds : Seconds) → Forever ≡ For seconds → ⊥
@@ -71,12 +72,15 @@ same-seconds e = cc
 still-timely : (g : Gateway) (ps : List Place) → Fewer (g .places) ps → EveryEntry (OnTime (g .clock)) (g .places) → EveryEntry (Timely (g .clock) (g .next)) ps
 still-timely g ps fewer all = every-imp (OnTime (g .clock)) (Timely (g .clock) (g .next)) (λ e. inl) ps (fewer-every (OnTime (g .clock)) (g .places) ps fewer all)
 
-new-timely : (clock next : ℕ) (e : Entry) → e .number ≡ next → e .reading ≡ clock → Timely clock next e
+new-timely : (clock : Millis) (next : ℕ) (e : Entry) → e .number ≡ next → e .reading ≡ clock → Timely clock next e
 new-timely clock next e number reading = by-lifetime (e .lifetime) refl
   where
     by-count : (n : ℕ) → e .lifetime ≡ For (record { count = n }) → Timely clock next e
     by-count zero is = inr (number, is)
-    by-count (suc n) is = inl (λ seconds for. let count : suc n ≡ seconds .count = ap (λ s. s .count) (same-seconds (sym is ∙ for)) in omega arith)
+    by-count (suc n) is = inl λ seconds for.
+        let count : suc n ≡ seconds .count = ap (λ s. s .count) (same-seconds (sym is ∙ for)) in
+        let now : e .reading .count ≡ clock .count = ap (λ (t : Millis). t .count) reading in
+        omega arith
 
     by-lifetime : (l : Lifetime) → e .lifetime ≡ l → Timely clock next e
     by-lifetime Forever is = inl (λ seconds never. absurd (forever-not-for seconds (sym is ∙ never)))
@@ -97,7 +101,7 @@ pub gone-on-time : GoneOnTime
 unfolding advance atClock
 gone-on-time g c e accepted (i, held) =
     let now : Gateway = atCall g c in
-    let on-time : EveryEntry (OnTime (now .clock)) (now .places) = lasting-on-time (max (g .clock) (c .reading)) (g .places) in
+    let on-time : EveryEntry (OnTime (now .clock)) (now .places) = lasting-on-time (later (g .clock) (c .reading)) (g .places) in
     every-at (Timely (now .clock) (now .next)) (call g c .gateway .places)
     (accepted-keeps (λ after. EveryEntry (Timely (now .clock) (now .next)) (after .places)) g c
     (still-timely now (now .places) (λ i x h. h) on-time)

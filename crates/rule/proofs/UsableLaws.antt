@@ -1,5 +1,5 @@
 -- A held entry stays, in its place, until its time is up, or a request's SUCCESS removes it, clears all, or adds its blob again.
-use Prim.Native.Nat.{ℕ, _-_, _≤_, max}
+use Prim.Native.Nat.{ℕ, _-_, _≤_}
 use native.Mathlib.Omega.{arith}
 use mathlib.Core.Path.{_≡_, refl, sym, ap, _∙_, subst}
 use mathlib.Core.Logic.{_⊎_, inl, inr}
@@ -12,7 +12,7 @@ use Rattle.wire.specs.Numbers.{Bytes}
 use Rattle.keys.specs.declared.constraints.Lifetime.{Lifetime}
 use Rattle.keys.specs.declared.constraints.Lifetime.the-variants.{Forever, For}
 use Rattle.keys.specs.Kinds.{blobOf}
-use Rattle.rule.specs.Gateway.{Entry, Gateway, millisOf, dueAt, lasting, atClock, advance, isFree, vacate}
+use Rattle.rule.specs.Gateway.{Entry, Gateway, millisOf, dueAt, lasting, atClock, later, advance, isFree, vacate}
 use Rattle.rule.specs.Soundness.{SoundEntry, Sound}
 use Rattle.rule.specs.Rule.{Landing, listing, removingAll}
 use Rattle.rule.specs.Calls.{lent, Call, Outcome, Result, refusal, follow, call}
@@ -34,17 +34,17 @@ use Rattle.rule.proofs.BodyLaws.{removing-cases, locking-cases, unlocki
 
 -- ## Time
 
-due-expired : (g : Gateway) (c : Call) (e : Entry) → dueAt (max (g .clock) (c .reading)) (e .reading) (e .lifetime) ≡ true → Leaves g c e
+due-expired : (g : Gateway) (c : Call) (e : Entry) → dueAt (later (g .clock) (c .reading)) (e .reading) (e .lifetime) ≡ true → Leaves g c e
 unfolding dueAt
 due-expired g c e = by-lifetime (e .lifetime) refl
   where
-    by-lifetime : (l : Lifetime) → e .lifetime ≡ l → dueAt (max (g .clock) (c .reading)) (e .reading) l ≡ true → Leaves g c e
+    by-lifetime : (l : Lifetime) → e .lifetime ≡ l → dueAt (later (g .clock) (c .reading)) (e .reading) l ≡ true → Leaves g c e
     by-lifetime Forever is t = absurd (true-not-false (sym t))
-    by-lifetime (For seconds) is t = let up : millisOf seconds ≤ max (g .clock) (c .reading) - e .reading = leb-true _ _ t in expired seconds is (omega arith)
+    by-lifetime (For seconds) is t = let up : millisOf seconds .count ≤ later (g .clock) (c .reading) .count - e .reading .count = leb-true _ _ t in expired seconds is (omega arith)
 
-still-held : (g : Gateway) (c : Call) (i : ℕ) (e : Entry) → HeldAt g i e → dueAt (max (g .clock) (c .reading)) (e .reading) (e .lifetime) ≡ false → HeldAt (atCall g c) i e
+still-held : (g : Gateway) (c : Call) (i : ℕ) (e : Entry) → HeldAt g i e → dueAt (later (g .clock) (c .reading)) (e .reading) (e .lifetime) ≡ false → HeldAt (atCall g c) i e
 unfolding advance atClock lasting
-still-held g c i e held early = getD-map (lasting (max (g .clock) (c .reading))) refl (g .places) i ∙ rw (held, early)
+still-held g c i e held early = getD-map (lasting (later (g .clock) (c .reading))) refl (g .places) i ∙ rw (held, early)
 
 -- ## Requests
 
@@ -99,13 +99,13 @@ module _ (g : Gateway) (c : Call) (bytes : Bytes (payloadOf c)) (i : ℕ) (e : E
       refl
 
 pub usable-until : UsableUntil
-usable-until g c e bytes (i, held) = by-time (dueAt (max (g .clock) (c .reading)) (e .reading) (e .lifetime)) refl
+usable-until g c e bytes (i, held) = by-time (dueAt (later (g .clock) (c .reading)) (e .reading) (e .lifetime)) refl
   where
     somewhere : HeldAt (call g c .gateway) i e ⊎ Leaves g c e → Held (call g c .gateway) e ⊎ Leaves g c e
     somewhere (inl there) = inl (i, there)
     somewhere (inr why) = inr why
 
-    by-time : (b : Bool) → dueAt (max (g .clock) (c .reading)) (e .reading) (e .lifetime) ≡ b → Held (call g c .gateway) e ⊎ Leaves g c e
+    by-time : (b : Bool) → dueAt (later (g .clock) (c .reading)) (e .reading) (e .lifetime) ≡ b → Held (call g c .gateway) e ⊎ Leaves g c e
     by-time true due = inr (due-expired g c e due)
     by-time false early = somewhere (call-keeps g c bytes i e (still-held g c i e held early) held)
 
@@ -129,7 +129,7 @@ module _ (g : Gateway) (c : Call) where
 
   stood-now : Stood (atCall g c)
   unfolding advance atClock Stood
-  stood-now j x h = let clock = max (g .clock) (c .reading) in inl (freed-fewer (lasting clock) (lasting-frees clock) (g .places) j x h)
+  stood-now j x h = let clock = later (g .clock) (c .reading) in inl (freed-fewer (lasting clock) (lasting-frees clock) (g .places) j x h)
 
   stood-after : (l : Landing) (after : Gateway) → Effect (atCall g c) l after → Stood after
   unfolding Stood

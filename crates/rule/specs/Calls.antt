@@ -6,6 +6,7 @@ use mathlib.Core.List.{List}
 use lib.ListN.{length}
 use lib.Dec.{eqb, ltb}
 use Rattle.wire.specs.Limits.{payloadLimit, storeSize, signatureLimit, replyRoom}
+use Rattle.rule.specs.declared.Millis.{Millis}
 use Rattle.rule.specs.Gateway.{Gateway, advance}
 use Rattle.rule.specs.Soundness.{sound}
 use Rattle.rule.specs.Rule.{Question, gate, check, confirmation, signature, Answer, Landing, Plan, land, ask, rule}
@@ -70,7 +71,7 @@ pub record Frame : Type 0 where
 pub record Call : Type 0 where
   pub request : ℕ  -- which request makes it
   pub frame : Frame
-  pub reading : ℕ
+  pub reading : Millis
   pub answers : Answers
   pub buffer : ℕ  -- the reply buffer's length
   pub store : ℕ  -- the key store's length

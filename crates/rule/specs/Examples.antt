@@ -11,7 +11,7 @@ use Rattle.wire.specs.Frames.{splitOf}
 use Rattle.keys.specs.declared.constraints.Lifetime.the-variants.{Forever}
 use Rattle.rule.specs.declared.Hash.{Hash}
 use Rattle.rule.specs.declared.Hash.the-variants.{Plain, Sha256, Sha512}
-use Rattle.rule.specs.Gateway.{Place, Gateway, fresh}
+use Rattle.rule.specs.Gateway.{Place, Gateway, zeroMillis, fresh}
 use Rattle.rule.specs.Soundness.{Sound, sound}
 use Rattle.rule.specs.Rule.{gate, signature, reply, close, FAILURE, SUCCESS}
 use Rattle.rule.specs.Calls.{Answers, nothingLent, refusalOf, Call, Outcome, asks, lands, call}
@@ -19,7 +19,7 @@ use Rattle.rule.specs.Runs.{events, endOf, turns, landings}
 
 -- a call of a request at reading 0, with room for every reply
 abbrev pub lending : ℕ → Answers → List ℕ → Call
-lending request answers payload = record { request = request; frame = record { payload = payload }; reading = 0; answers = answers; buffer = replyRoom; store = storeSize }
+lending request answers payload = record { request = request; frame = record { payload = payload }; reading = zeroMillis; answers = answers; buffer = replyRoom; store = storeSize }
 
 abbrev pub gateYes : Answers
 gateYes = record { gate = some true; check = none; confirmation = none; signature = none }
@@ -38,14 +38,14 @@ lockCd = 0x16 ∷ 0 ∷ 0 ∷ 0 ∷ 2 ∷ 0x63 ∷ 0x64 ∷ []
 
 -- the fresh gateway, locked with "ab"
 abbrev pub lockedAb : Gateway
-lockedAb = record { places = replicate 8 none; lock = 0x61 ∷ 0x62 ∷ []; clock = 0; next = 1 }
+lockedAb = record { places = replicate 8 none; lock = 0x61 ∷ 0x62 ∷ []; clock = zeroMillis; next = 1 }
 
 -- one key, held under the blob 61, and a request for its signature over no data
 abbrev pub oneKey : Gateway
 oneKey = record {
-  places = some (record { number = 1; reading = 0; lifetime = Forever; confirm = false; blob = 0x61 ∷ []; fields = 0 ∷ []; comment = [] }) ∷ replicate 7 none;
+  places = some (record { number = 1; reading = zeroMillis; lifetime = Forever; confirm = false; blob = 0x61 ∷ []; fields = 0 ∷ []; comment = [] }) ∷ replicate 7 none;
   lock = [];
-  clock = 0;
+  clock = zeroMillis;
   next = 2;
 }
 
@@ -57,7 +57,7 @@ asksHash hash = asks (signature 1 10 10 hash)
 
 -- the fresh gateway, locked with "cd"
 abbrev pub lockedCd : Gateway
-lockedCd = record { places = replicate 8 none; lock = 0x63 ∷ 0x64 ∷ []; clock = 0; next = 1 }
+lockedCd = record { places = replicate 8 none; lock = 0x63 ∷ 0x64 ∷ []; clock = zeroMillis; next = 1 }
 
 -- two LOCKs cross: both ask the gate, both get their yes, and both land, in the one order or the other
 abbrev pub abLandsFirst : List Call
@@ -96,22 +96,22 @@ pub record StarredExamples : Type 0 where
 -- 01's soundness at its limits, on one held key
 abbrev pub keyWith : ℕ → ℕ → ℕ → ℕ → ℕ → Gateway
 keyWith number reading blob fields comment = record {
-  places = some (record { number = number; reading = reading; lifetime = Forever; confirm = false; blob = replicate blob 1; fields = replicate fields 1; comment = replicate comment 1 }) ∷ replicate 7 none;
+  places = some (record { number = number; reading = record { count = reading }; lifetime = Forever; confirm = false; blob = replicate blob 1; fields = replicate fields 1; comment = replicate comment 1 }) ∷ replicate 7 none;
   lock = [];
-  clock = 5;
+  clock = record { count = 5 };
   next = 3;
 }
 
 abbrev pub lockOfLength : ℕ → ℕ → Gateway
-lockOfLength n next = record { places = replicate 8 none; lock = replicate n 1; clock = 0; next = next }
+lockOfLength n next = record { places = replicate 8 none; lock = replicate n 1; clock = zeroMillis; next = next }
 
 -- a second key beside one of number 1 and blob 61
 abbrev pub besides : ℕ → ℕ → Gateway
 besides number byte = record {
-  places = some (record { number = 1; reading = 0; lifetime = Forever; confirm = false; blob = 0x61 ∷ []; fields = 0 ∷ []; comment = [] })
-      ∷ some (record { number = number; reading = 0; lifetime = Forever; confirm = false; blob = byte ∷ []; fields = 0 ∷ []; comment = [] }) ∷ replicate 6 none;
+  places = some (record { number = 1; reading = zeroMillis; lifetime = Forever; confirm = false; blob = 0x61 ∷ []; fields = 0 ∷ []; comment = [] })
+      ∷ some (record { number = number; reading = zeroMillis; lifetime = Forever; confirm = false; blob = byte ∷ []; fields = 0 ∷ []; comment = [] }) ∷ replicate 6 none;
   lock = [];
-  clock = 0;
+  clock = zeroMillis;
   next = 3;
 }
 
@@ -134,8 +134,8 @@ pub record SoundnessLimits : Type 0 where
   pub numbers-alike : sound (besides 1 0x62) ≡ false
   pub blobs-alike : sound (besides 2 0x61) ≡ false
   pub next-over : sound (lockOfLength 0 0x1_0000_0000_0000_0000) ≡ false
-  pub seven-places : sound (record { places = replicate 7 none; lock = []; clock = 0; next = 1 }) ≡ false
-  pub nine-places : sound (record { places = replicate 9 none; lock = []; clock = 0; next = 1 }) ≡ false
+  pub seven-places : sound (record { places = replicate 7 none; lock = []; clock = zeroMillis; next = 1 }) ≡ false
+  pub nine-places : sound (record { places = replicate 9 none; lock = []; clock = zeroMillis; next = 1 }) ≡ false
 
 -- 01's refusals at their limits, by the lengths of reply buffer and key store, soundness, and the lengths of payload and lent signature
 pub record RefusalLimits : Type 0 where
@@ -149,13 +149,13 @@ pub record RefusalLimits : Type 0 where
 
 -- eight keys, each with the longest blob and the longest comment
 abbrev pub longKey : ℕ → Place
-longKey n = some (record { number = n; reading = 0; lifetime = Forever; confirm = false; blob = n ∷ replicate 1023 0; fields = 0 ∷ []; comment = replicate 255 0x61 })
+longKey n = some (record { number = n; reading = zeroMillis; lifetime = Forever; confirm = false; blob = n ∷ replicate 1023 0; fields = 0 ∷ []; comment = replicate 255 0x61 })
 
 abbrev pub fullTable : Gateway
 fullTable = record {
   places = longKey 1 ∷ longKey 2 ∷ longKey 3 ∷ longKey 4 ∷ longKey 5 ∷ longKey 6 ∷ longKey 7 ∷ longKey 8 ∷ [];
   lock = [];
-  clock = 0;
+  clock = zeroMillis;
   next = 9;
 }
 

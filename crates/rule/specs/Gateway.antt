@@ -9,6 +9,7 @@ use Rattle.wire.specs.declared.Seconds.{Seconds}
 use Rattle.wire.specs.Read.{same}
 use Rattle.keys.specs.declared.constraints.Lifetime.{Lifetime}
 use Rattle.keys.specs.declared.constraints.Lifetime.the-variants.{Forever, For}
+use Rattle.rule.specs.declared.Millis.{Millis}
 use Rattle.rule.specs.declared.Found.{Found}
 use Rattle.rule.specs.declared.Found.the-variants.{At, Nothing}
 
@@ -16,7 +17,7 @@ use Rattle.rule.specs.declared.Found.the-variants.{At, Nothing}
 -- (#101) its comment
 pub record Entry : Type 0 where
   pub number : ℕ
-  pub reading : ℕ
+  pub reading : Millis
   pub lifetime : Lifetime
   pub confirm : Bool
   pub blob : List ℕ
@@ -30,12 +31,16 @@ Place = Option Entry
 pub record Gateway : Type 0 where
   pub places : List Place
   pub lock : List ℕ  -- the passphrase, empty while open
-  pub clock : ℕ  -- the kept clock, in milliseconds
+  pub clock : Millis  -- the kept clock
   pub next : ℕ  -- the next insertion number
+
+-- a clock's zero
+abbrev pub zeroMillis : Millis
+zeroMillis = record { count = 0 }
 
 -- "Fresh: all zero, next insertion number 1."
 abbrev pub fresh : Gateway
-fresh = record { places = replicate 8 none; lock = []; clock = 0; next = 1 }
+fresh = record { places = replicate 8 none; lock = []; clock = zeroMillis; next = 1 }
 
 -- "Locked means length above 0."
 abbrev pub locked : Gateway → Bool
@@ -47,24 +52,28 @@ opened g = not (locked g)
 -- ## Clock and expiry
 
 -- "Lifetimes count seconds and the clock counts milliseconds."
-abbrev pub millisOf : Seconds → ℕ
-millisOf seconds = seconds .count * 1000
+abbrev pub millisOf : Seconds → Millis
+millisOf seconds = record { count = seconds .count * 1000 }
 
 -- "each entry with lifetime L is removed .. if clock minus insertion reading is at least 1,000 L"
-unfoldable pub dueAt : ℕ → ℕ → Lifetime → Bool
+unfoldable pub dueAt : Millis → Millis → Lifetime → Bool
 dueAt clock reading Forever = false
-dueAt clock reading (For seconds) = leb (millisOf seconds) (clock - reading)
+dueAt clock reading (For seconds) = leb (millisOf seconds .count) (clock .count - reading .count)
 
-unfoldable pub lasting : ℕ → Place → Place
+unfoldable pub lasting : Millis → Place → Place
 lasting clock none = none
 lasting clock (some e) = cond (dueAt clock (e .reading) (e .lifetime)) none (some e)
 
-unfoldable pub atClock : ℕ → Gateway → Gateway
+unfoldable pub atClock : Millis → Gateway → Gateway
 atClock clock g = record { places = map (lasting clock) (g .places); lock = g .lock; clock = clock; next = g .next }
 
+-- the later of two readings
+abbrev pub later : Millis → Millis → Millis
+later a b = record { count = max (a .count) (b .count) }
+
 -- "An accepted call first raises the kept clock .. to its reading; a lower reading counts as the kept one. Then each entry .. is removed"
-unfoldable pub advance : ℕ → Gateway → Gateway
-advance reading g = atClock (max (g .clock) reading) g
+unfoldable pub advance : Millis → Gateway → Gateway
+advance reading g = atClock (later (g .clock) reading) g
 
 -- ## Places
 
@@ -122,7 +131,7 @@ pub record NewKey : Type 0 where
   pub confirm : Bool
 
 -- the entry of a new key, by its number and reading
-abbrev pub newEntry : ℕ → ℕ → NewKey → Entry
+abbrev pub newEntry : ℕ → Millis → NewKey → Entry
 newEntry number reading k = record {
   number = number;
   reading = reading;

@@ -7,7 +7,8 @@ use mathlib.Core.Option.{Option, none, some}
 use mathlib.Core.List.{List, [], _∷_}
 use lib.ListN.{length, getD}
 use Rattle.wire.specs.Limits.{replyRoom}
-use Rattle.rule.specs.Gateway.{Entry, Gateway, fresh, locked, advance}
+use Rattle.rule.specs.declared.Millis.{Millis}
+use Rattle.rule.specs.Gateway.{Entry, Gateway, zeroMillis, fresh, locked, advance}
 use Rattle.rule.specs.Soundness.{Sound, sound}
 use Rattle.rule.specs.Rule.{Question, gate, check, confirmation, signature, Answer, Landing, reply, FAILURE, SUCCESS, Plan, land, ask, rule}
 use Rattle.rule.specs.Calls.{given, lent, Frame, Call, refusal, refused, asks, lands, call}
@@ -24,7 +25,7 @@ EveryAccepted P es = Every (λ e. isAccepted (e .outcome) ≡ true → P (e .by)
 abbrev pub Agrees : ((q : Question) → Option (Answer q)) → Oracle → Type 0
 Agrees lent oracle = (q : Question) (a : Answer q) → lent q ≡ some a → oracle q ≡ a
 
-unfoldable pub settled : Bool → ℕ → Gateway → Gateway
+unfoldable pub settled : Bool → Millis → Gateway → Gateway
 settled false reading g = g
 settled true reading g = advance reading g
 
@@ -96,13 +97,13 @@ RefusedDropOut = (g : Gateway) (cs : List Call) → RunsTo g (acceptedIn (events
 -- ## Readings
 
 -- accepted calls whose readings never fall
-unfoldable pub NeverFall : ℕ → List Event → Type 0
+unfoldable pub NeverFall : Millis → List Event → Type 0
 NeverFall m [] = Unit {0}
-NeverFall m (e ∷ es) = (isAccepted (e .outcome) ≡ true → m ≤ e .by .reading) × NeverFall (heard m e) es
+NeverFall m (e ∷ es) = (isAccepted (e .outcome) ≡ true → m .count ≤ e .by .reading .count) × NeverFall (heard m e) es
 
 -- of any events: then each landing is at its own call's reading
 abbrev pub OwnReadings : Type 0
-OwnReadings = (es : List Event) → NeverFall 0 es → Every (λ t. t .reading ≡ t .by .reading) (turns es)
+OwnReadings = (es : List Event) → NeverFall zeroMillis es → Every (λ t. t .reading ≡ t .by .reading) (turns es)
 
 -- ## Between a non-empty lock's success and the next unlock's success
 

@@ -1,9 +1,9 @@
 -- Runs of calls, what is read off their events, and the one-at-a-time rule (demand 3).
-use Prim.Native.Nat.{ℕ, max}
 use mathlib.Core.Path.{_≡_}
 use mathlib.Core.Bool.{Bool, true, false, cond}
 use mathlib.Core.List.{List, [], _∷_, _++_, map}
-use Rattle.rule.specs.Gateway.{Gateway, advance}
+use Rattle.rule.specs.declared.Millis.{Millis}
+use Rattle.rule.specs.Gateway.{Gateway, zeroMillis, later, advance}
 use Rattle.rule.specs.Rule.{Question, Answer, Landing, Plan, land, ask, rule}
 use Rattle.rule.specs.Calls.{Frame, Call, Outcome, refused, asks, lands, call}
 
@@ -48,35 +48,35 @@ acceptedIn [] = []
 acceptedIn (e ∷ es) = cond (isAccepted (e .outcome)) (e ∷ acceptedIn es) (acceptedIn es)
 
 -- the greatest reading accepted so far, with this call; a refused one is not heard
-unfoldable pub heard : ℕ → Event → ℕ
-heard greatest e = cond (isAccepted (e .outcome)) (max greatest (e .by .reading)) greatest
+unfoldable pub heard : Millis → Event → Millis
+heard greatest e = cond (isAccepted (e .outcome)) (later greatest (e .by .reading)) greatest
 
-unfoldable pub heardIn : ℕ → List Event → ℕ
+unfoldable pub heardIn : Millis → List Event → Millis
 heardIn greatest [] = greatest
 heardIn greatest (e ∷ es) = heardIn (heard greatest e) es
 
 -- the greatest reading accepted in a run
-abbrev pub greatest : List Event → ℕ
-greatest es = heardIn 0 es
+abbrev pub greatest : List Event → Millis
+greatest es = heardIn zeroMillis es
 
 -- a landing of a run: the call that landed, the greatest reading accepted so far, and the landing
 pub record Turn : Type 0 where
   pub by : Call
-  pub reading : ℕ
+  pub reading : Millis
   pub landing : Landing
 
-unfoldable pub turn : ℕ → Call → Outcome → List Turn
+unfoldable pub turn : Millis → Call → Outcome → List Turn
 turn reading c (refused n) = []
 turn reading c (asks q) = []
 turn reading c (lands l) = record { by = c; reading = reading; landing = l } ∷ []
 
-unfoldable pub turnsFrom : ℕ → List Event → List Turn
+unfoldable pub turnsFrom : Millis → List Event → List Turn
 turnsFrom reading [] = []
 turnsFrom reading (e ∷ es) = turn (heard reading e) (e .by) (e .outcome) ++ turnsFrom (heard reading e) es
 
 -- the landings of a run, in landing order
 abbrev pub turns : List Event → List Turn
-turns es = turnsFrom 0 es
+turns es = turnsFrom zeroMillis es
 
 abbrev pub landings : List Turn → List Landing
 landings [] = []

@@ -10,6 +10,7 @@ use lib.Dec.{leb, ltb, eqb}
 use Rattle.wire.specs.Limits.{blobLimit, fieldsLimit, commentLimit, passphraseLimit, lastNumber}
 use Rattle.wire.specs.Numbers.{within}
 use Rattle.wire.specs.Read.{same}
+use Rattle.rule.specs.declared.Millis.{Millis}
 use Rattle.rule.specs.Gateway.{Entry, Place, Gateway}
 
 -- ## The facts
@@ -37,11 +38,11 @@ pub record Fits (blob fields comment : List ℕ) : Type 0 where
   pub fields-fit : length fields ≤ fieldsLimit
   pub comment-fits : length comment ≤ commentLimit
 
-pub record SoundEntry (clock next : ℕ) (e : Entry) : Type 0 where
+pub record SoundEntry (clock : Millis) (next : ℕ) (e : Entry) : Type 0 where
   pub lengths : Fits (e .blob) (e .fields) (e .comment)
   pub number-first : 1 ≤ e .number
   pub number-taken : e .number < next
-  pub reading-past : e .reading ≤ clock
+  pub reading-past : e .reading .count ≤ clock .count
 
 pub record Sound (g : Gateway) : Type 0 where
   pub eight-places : length (g .places) ≡ 8
@@ -69,10 +70,10 @@ distinct (some e ∷ ps) = everyEntry (apart e) ps && distinct ps
 unfoldable pub fit : List ℕ → List ℕ → List ℕ → Bool
 fit blob fields comment = within 1 blobLimit (length blob) && (within 1 fieldsLimit (length fields) && leb (length comment) commentLimit)
 
-abbrev pub soundEntry : ℕ → ℕ → Entry → Bool
+abbrev pub soundEntry : Millis → ℕ → Entry → Bool
 soundEntry clock next e =
     fit (e .blob) (e .fields) (e .comment)
-    && ((leb 1 (e .number) && ltb (e .number) next) && leb (e .reading) clock)
+    && ((leb 1 (e .number) && ltb (e .number) next) && leb (e .reading .count) (clock .count))
 
 unfoldable pub sound : Gateway → Bool
 sound g =

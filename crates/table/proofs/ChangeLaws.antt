@@ -1,5 +1,5 @@
 -- Laws of changes: what is written as a sound gateway is means it, so a change is right where it writes what the rule's change means.
-use Prim.Native.Nat.{ℕ, zero, suc, _+_, _-_, _≤_, _<_, max}
+use Prim.Native.Nat.{ℕ, zero, suc, _+_, _-_, _≤_, _<_}
 use mathlib.Core.Path.{_≡_, refl, sym, ap, _∙_}
 use mathlib.Core.Logic.{_≢_}
 use mathlib.Core.Bool.{true, false}
@@ -13,7 +13,7 @@ use lib.Dec.{eqb}
 use lib.ListN.{length, getD, set, replicate, length-map, length-set}
 use Rattle.wire.specs.Limits.{storeSize, passphraseLimit, lastNumber}
 use Rattle.rule.specs.declared.Millis.{Millis}
-use Rattle.rule.specs.Gateway.{Entry as Key, Place, Gateway, dueAt, lasting, atClock, advance, vacate, withLock, without, withoutAll, NewKey, newEntry, withEntry}
+use Rattle.rule.specs.Gateway.{Entry as Key, Place, Gateway, dueAt, lasting, atClock, later, advance, vacate, withLock, without, withoutAll, NewKey, newEntry, withEntry}
 use Rattle.rule.specs.Soundness.{EveryEntry, Fits, SoundEntry, Apart}
 use Rattle.rule.specs.Soundness as rule
 use Rattle.rule.proofs.Cases.{cond-cases}
@@ -33,10 +33,10 @@ use Rattle.table.proofs.WritingLaws.{Writing, sound-writing, sound-mean
 
 -- a state written field by field as a sound gateway is means it
 written-means : (g : Gateway) (es : List Entry) (l : LockRecord) (x : List ℕ) → rule.Sound g → es ≡ map entryFor (g .places) → l ≡ lockOf (g .lock) → x ≡ laid (g .places)
-    → Means (record { entries = es; lock = l; clock = record { count = g .clock }; next = g .next }) x g
+    → Means (record { entries = es; lock = l; clock = g .clock; next = g .next }) x g
 unfolding stateOf layout
 written-means g es l x G entries lock store =
-    means-of _ x g G (λ j. record { entries = entries j; lock = lock j; clock = record { count = g .clock }; next = g .next }) store
+    means-of _ x g G (λ j. record { entries = entries j; lock = lock j; clock = g .clock; next = g .next }) store
 
 -- ## A key is put
 
@@ -56,13 +56,13 @@ pub record New (g : Gateway) (k : Key) : Type 0 where
 sound-put : (g : Gateway) (i : ℕ) (k : Key) → rule.Sound g → New g k → g .next < lastNumber → NoOther i (k .blob) (g .places) → rule.Sound (withEntry i k g)
 sound-put g i k G new left alone =
     let number : k .number ≡ g .next = new .number in
-    let reading : k .reading ≡ g .clock = new .reading in
+    let reading : k .reading .count ≡ g .clock .count = ap (λ (t : Millis). t .count) (new .reading) in
     let first : 1 ≤ g .next = G .next-first in
-    let later : SoundEntry (g .clock) (g .next + 1) k
+    let added : SoundEntry (g .clock) (g .next + 1) k
     = record { lengths = new .lengths; number-first = omega arith; number-taken = omega arith; reading-past = omega arith } in
     record {
       eight-places = length-set (g .places) i (some k) ∙ G .eight-places;
-      entries = set-every (SoundEntry (g .clock) (g .next + 1)) (g .places) i k later
+      entries = set-every (SoundEntry (g .clock) (g .next + 1)) (g .places) i k added
           (every-imp (SoundEntry (g .clock) (g .next)) (SoundEntry (g .clock) (g .next + 1)) (λ x h. omega arith) (g .places) (G .entries));
       distinct = set-distinct (g .places) i k apart (G .distinct);
       lock-fits = G .lock-fits;
@@ -110,7 +110,7 @@ module _ (s : State) (x : List ℕ) (S : Sound s x) (i from to : ℕ) (h : i < 8
       let ps = view (s .entries) x in
       let entries : set (s .entries) i e ≡ map entryFor (set ps i q) = (λ j. set (old .entries j) i (w .entry j)) ∙ entries-set ps i q in
       let store : putMid from (to - from) x p ≡ laid (set ps i q) = put-laid ps i from to inside spans x (old .store) q p (w .bytes) in
-      written-means (record { places = set ps i q; lock = gatewayOf s x .lock; clock = s .clock .count; next = n }) _ _ _ G entries (lock-written (s .lock) (S .lock)) store
+      written-means (record { places = set ps i q; lock = gatewayOf s x .lock; clock = s .clock; next = n }) _ _ _ G entries (lock-written (s .lock) (S .lock)) store
 
   -- 18: "removed and zeroed"
   pub removed : (e : Entry) (p : List ℕ) → e ≡ entryFor none → p ≡ replicate (length (midOf from (to - from) x)) 0
@@ -124,12 +124,12 @@ module _ (s : State) (x : List ℕ) (S : Sound s x) (i from to : ℕ) (h : i < 8
       (sound-fewer g (without i g) (length-set (g .places) i none) (set-none-fewer (g .places) i) refl (omega arith) refl G)
 
   -- "stored, next number taken"
-  pub stored : (new : NewKey) (e : Entry) (p : List ℕ) → MayPut s x i new → e ≡ entryFor (some (newEntry (s .next) (s .clock .count) new)) → p ≡ heldBytes (new .blob) (new .fields)
+  pub stored : (new : NewKey) (e : Entry) (p : List ℕ) → MayPut s x i new → e ≡ entryFor (some (newEntry (s .next) (s .clock) new)) → p ≡ heldBytes (new .blob) (new .fields)
       → Means (record { entries = set (s .entries) i e; lock = s .lock; clock = s .clock; next = s .next + 1 }) (putMid from (to - from) x p)
       (withEntry i (newEntry (g .next) (g .clock) new) g)
   unfolding gatewayOf bytesFor
   stored new e p may entry bytes =
-      let k = newEntry (s .next) (s .clock .count) new in
+      let k = newEntry (s .next) (s .clock) new in
       let sound = sound-put g i k (sound-meaning s x S) (record { number = refl; reading = refl; lengths = may .lengths }) (may .numbers-left) (may .alone) in
       changed (some k) e p (s .next + 1) (record { entry = entry; bytes = bytes }) sound
 
@@ -161,12 +161,12 @@ relocked s x p l S h lock =
 -- ## Expiry, place after place
 
 -- the first i places at the clock, the others as they were
-unfoldable pub swept : ℕ → ℕ → List Place → List Place
+unfoldable pub swept : Millis → ℕ → List Place → List Place
 swept clock zero ps = ps
 swept clock (suc i) [] = []
 swept clock (suc i) (p ∷ ps) = lasting clock p ∷ swept clock i ps
 
-module _ (clock : ℕ) where
+module _ (clock : Millis) where
   pub swept-length : (i : ℕ) (ps : List Place) → length (swept clock i ps) ≡ length ps
   unfolding swept
   swept-length zero ps = refl
@@ -213,20 +213,20 @@ module _ (clock : ℕ) where
   swept-every P (suc i) (p ∷ ps) all = lasting-every P p ps (swept clock i ps) all (swept-every P i ps (every-rest P p ps all))
 
 -- a due key is gone at the clock, another place is as it was
-module _ (clock : ℕ) (e : Entry) (p : List ℕ) where
-  pub due-gone : dueAt clock (e .reading .count) (lifetimeOf e) ≡ true → lasting clock (placeOf e p) ≡ none
+module _ (clock : Millis) (e : Entry) (p : List ℕ) where
+  pub due-gone : dueAt clock (e .reading) (lifetimeOf e) ≡ true → lasting clock (placeOf e p) ≡ none
   unfolding placeOf lasting
   due-gone due = cond-cases (λ q. lasting clock q ≡ none) (eqb (e .number) 0) (λ _. refl) (λ _. rw due)
 
-  pub undue-stays : dueAt clock (e .reading .count) (lifetimeOf e) ≡ false → lasting clock (placeOf e p) ≡ placeOf e p
+  pub undue-stays : dueAt clock (e .reading) (lifetimeOf e) ≡ false → lasting clock (placeOf e p) ≡ placeOf e p
   unfolding placeOf lasting
   undue-stays due = cond-cases (λ q. lasting clock q ≡ q) (eqb (e .number) 0) (λ _. refl) (λ _. rw due)
 
-pub data KeyIn (clock next : ℕ) (q : Place) : Type 0 where
+pub data KeyIn (clock : Millis) (next : ℕ) (q : Place) : Type 0 where
   no-key : q ≡ none → KeyIn clock next q
   a-key : (k : Key) → q ≡ some k → SoundEntry clock next k → KeyIn clock next q
 
-key-in : (clock next : ℕ) (ps : List Place) → EveryEntry (SoundEntry clock next) ps → (i : ℕ) → KeyIn clock next (getD ps i none)
+key-in : (clock : Millis) (next : ℕ) (ps : List Place) → EveryEntry (SoundEntry clock next) ps → (i : ℕ) → KeyIn clock next (getD ps i none)
 key-in clock next ps all i = by-place (getD ps i none) refl
   where
     by-place : (q : Place) → getD ps i none ≡ q → KeyIn clock next q
@@ -239,11 +239,11 @@ getD-map f (a ∷ l) zero d b h = refl
 getD-map f (a ∷ l) (suc i) d b h = getD-map f l i d b (le-of-suc-le-suc h)
 
 -- an entry and bytes that are written as this place mean it, and stand as sound ones do
-pub record Stands (clock : ℕ) (e : Entry) (p : List ℕ) (q : Place) : Type 0 where
+pub record Stands (clock : Millis) (e : Entry) (p : List ℕ) (q : Place) : Type 0 where
   pub place : placeOf e p ≡ q
   pub standing : Standing clock e p
 
-written-stands : (clock next : ℕ) (e : Entry) (p : List ℕ) (q : Place) → KeyIn clock next q → Written e p q → Stands clock e p q
+written-stands : (clock : Millis) (next : ℕ) (e : Entry) (p : List ℕ) (q : Place) → KeyIn clock next q → Written e p q → Stands clock e p q
 unfolding entryFor
 written-stands clock next e p q (no-key is) w =
     let there : placeOf e p ≡ none = (λ j. placeOf (w .entry j) (w .bytes j)) ∙ rw is free-back in
@@ -261,17 +261,17 @@ written-stands clock next e p q (a-key k is sound) w =
       place = there ∙ sym is;
       standing = record {
         whole = ap length (w .bytes) ∙ rw is (key-size k (key-fits clock next k sound));
-        reading-past = let r : e .reading .count ≡ k .reading = ap (λ (x : Entry). x .reading .count) (w .entry) ∙ rw is in let past = sound .reading-past in omega arith;
+        reading-past = let r : e .reading .count ≡ k .reading .count = ap (λ (x : Entry). x .reading .count) (w .entry) ∙ rw is in let past = sound .reading-past in omega arith;
         written = rw (there ∙ sym is) w;
       };
     }
 
 -- a store of eight places
-pub writing-size : (clock next : ℕ) (es : List Entry) (x : List ℕ) (ps : List Place) → Writing clock next es x ps → length ps ≡ 8 → length x ≡ storeSize
+pub writing-size : (clock : Millis) (next : ℕ) (es : List Entry) (x : List ℕ) (ps : List Place) → Writing clock next es x ps → length ps ≡ 8 → length x ≡ storeSize
 writing-size clock next es x ps w eight = ap length (w .store) ∙ laid-store ps (writing-fits clock next es x ps w) eight
 
 -- one turn of the sweep
-module _ (clock next : ℕ) (ps : List Place) (i from to : ℕ) (es : List Entry) (x : List ℕ) (e₀ : Entry)
+module _ (clock : Millis) (next : ℕ) (ps : List Place) (i from to : ℕ) (es : List Entry) (x : List ℕ) (e₀ : Entry)
     (all : EveryEntry (SoundEntry clock next) ps) (w : Writing clock next es x (swept clock i ps)) (h : i < length ps) (spans : Spans (swept clock i ps) i from to) where
   abbrev here : Entry
   here = getD es i e₀
@@ -300,21 +300,23 @@ module _ (clock next : ℕ) (ps : List Place) (i from to : ℕ) (es : List Entry
       }
 
 -- the sweep's beginning and its end
-module _ (s : State) (x : List ℕ) (S : Sound s x) (reading : ℕ) (clock : Millis) (later : clock .count ≡ max (s .clock .count) reading) where
-  pub sweep-keys : EveryEntry (SoundEntry (clock .count) (s .next)) (view (s .entries) x)
-  sweep-keys = every-imp (SoundEntry (s .clock .count) (s .next)) (SoundEntry (clock .count) (s .next)) (λ k h. omega arith) (view (s .entries) x) (sound-writing s x S .keys)
+module _ (s : State) (x : List ℕ) (S : Sound s x) (reading clock : Millis) (is : clock ≡ later (s .clock) reading) where
+  pub sweep-keys : EveryEntry (SoundEntry clock (s .next)) (view (s .entries) x)
+  sweep-keys =
+      let raised : clock .count ≡ later (s .clock) reading .count = ap (λ (t : Millis). t .count) is in
+      every-imp (SoundEntry (s .clock) (s .next)) (SoundEntry clock (s .next)) (λ k h. omega arith) (view (s .entries) x) (sound-writing s x S .keys)
 
-  pub sweep-start : Writing (clock .count) (s .next) (s .entries) x (swept (clock .count) 0 (view (s .entries) x))
+  pub sweep-start : Writing clock (s .next) (s .entries) x (swept clock 0 (view (s .entries) x))
   unfolding swept
   sweep-start = let w = sound-writing s x S in record { entries = w .entries; store = w .store; keys = sweep-keys }
 
-  pub sweep-end : (i : ℕ) (es : List Entry) (y : List ℕ) → 8 ≤ i → Writing (clock .count) (s .next) es y (swept (clock .count) i (view (s .entries) x))
+  pub sweep-end : (i : ℕ) (es : List Entry) (y : List ℕ) → 8 ≤ i → Writing clock (s .next) es y (swept clock i (view (s .entries) x))
       → Means (record { entries = es; lock = s .lock; clock = clock; next = s .next }) y (advance reading (gatewayOf s x))
   unfolding gatewayOf advance atClock
   sweep-end i es y h w =
       let G = sound-advance reading (gatewayOf s x) (sound-meaning s x S) in
       let ps = view (s .entries) x in
       let eight : length ps ≡ 8 = sound-meaning s x S .eight-places in
-      let end : swept (clock .count) i ps ≡ map (lasting (clock .count)) ps = swept-end (clock .count) i ps (omega arith) in
-      rw (← later) (written-means (record { places = map (lasting (clock .count)) ps; lock = gatewayOf s x .lock; clock = clock .count; next = s .next }) es (s .lock) y (rw later G)
+      let end : swept clock i ps ≡ map (lasting clock) ps = swept-end clock i ps (omega arith) in
+      rw (← is) (written-means (record { places = map (lasting clock) ps; lock = gatewayOf s x .lock; clock = clock; next = s .next }) es (s .lock) y (rw is G)
       (w .entries ∙ ap (map entryFor) end) (lock-written (s .lock) (S .lock)) (w .store ∙ ap laid end))

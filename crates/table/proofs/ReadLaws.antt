@@ -10,6 +10,7 @@ use lib.Dec.{eqb, ltb}
 use lib.ListN.{length, take, drop, getD, length-drop}
 use lib.Seq.{length-take-le}
 use Rattle.wire.specs.Limits.{placeSize, storeSize, blobLimit}
+use Rattle.rule.specs.declared.Millis.{Millis}
 use Rattle.rule.specs.Gateway.{isFree}
 use Rattle.rule.proofs.Cases.{cond-cases}
 use Rattle.table.specs.declared.Entry.{Entry}
@@ -37,7 +38,7 @@ module _ (es : List Entry) (x : List ℕ) (eight : length es ≡ 8) where
   pub view-at : (i : ℕ) → i < 8 → getD (view es x) i none ≡ placeOf (getD es i noEntry) (partAt x i)
   view-at i h = each-at size placeOf es x i noEntry none (omega arith) ∙ rw (place-start es i (omega arith))
 
-  sound-at : (clock next i : ℕ) → i < 8 → Each (SoundPlace clock next) size es x → SoundPlace clock next (getD es i noEntry) (partAt x i)
+  sound-at : (clock : Millis) (next i : ℕ) → i < 8 → Each (SoundPlace clock next) size es x → SoundPlace clock next (getD es i noEntry) (partAt x i)
   sound-at clock next i h all = rw (place-start es i (omega arith)) at (every-at size (SoundPlace clock next) es x i noEntry (omega arith) all)
 
 -- ## What an entry says of its place
@@ -61,7 +62,7 @@ module _ (e : Entry) (p : List ℕ) where
 
 -- ## What soundness adds
 
-module _ (clock next : ℕ) (e : Entry) (p : List ℕ) (whole : length p ≡ placeSize) where
+module _ (clock : Millis) (next : ℕ) (e : Entry) (p : List ℕ) (whole : length p ≡ placeSize) where
   pub sound-confirm : SoundPlace clock next e p → isSet (e .confirm) ≡ confirmIn (placeOf e p)
   unfolding entryFor
   sound-confirm S = by-seen (seen clock next e p whole S)
@@ -79,7 +80,7 @@ module _ (clock next : ℕ) (e : Entry) (p : List ℕ) (whole : length p ≡ pla
       by-seen (seen-held is _ _ _) = rw is
 
 -- what a free place keeps, and a held one, of its comment
-sound-comment : (clock next : ℕ) (e : Entry) (p : List ℕ) → length p ≡ placeSize → SoundPlace clock next e p → e .comment ≡ keptComment (commentIn (placeOf e p))
+sound-comment : (clock : Millis) (next : ℕ) (e : Entry) (p : List ℕ) → length p ≡ placeSize → SoundPlace clock next e p → e .comment ≡ keptComment (commentIn (placeOf e p))
 unfolding entryFor keptComment padded
 sound-comment clock next e p whole S = by-seen (seen clock next e p whole S)
   where
@@ -87,13 +88,13 @@ sound-comment clock next e p whole S = by-seen (seen clock next e p whole S)
     by-seen (seen-free is entry _) = ap (λ (x : Entry). x .comment) entry ∙ rw is
     by-seen (seen-held is entry _ _) = ap (λ (x : Entry). x .comment) entry ∙ rw is
 
-sound-blob-fits : (clock next : ℕ) (e : Entry) (p : List ℕ) → SoundPlace clock next e p → e .«blob_len» ≤ blobLimit
+sound-blob-fits : (clock : Millis) (next : ℕ) (e : Entry) (p : List ℕ) → SoundPlace clock next e p → e .«blob_len» ≤ blobLimit
 sound-blob-fits clock next e p (free f _) = let h : e .«blob_len» ≡ 0 = ap (λ (x : Entry). x .«blob_len») f in omega arith
 sound-blob-fits clock next e p (held s) = s .blob-fits
 
 -- ## Of all places
 
-pub housed-by : (clock next : ℕ) (es : List Entry) (x : List ℕ) → length es ≡ 8 → length x ≡ storeSize → soundPlaces clock next es x ≡ true → Housed es x
+pub housed-by : (clock : Millis) (next : ℕ) (es : List Entry) (x : List ℕ) → length es ≡ 8 → length x ≡ storeSize → soundPlaces clock next es x ≡ true → Housed es x
 unfolding soundPlaces
 housed-by clock next es x eight size-x t =
     let every = each-says size (SoundPlace clock next) (soundPlace clock next) (place-says clock next) es x .0 t in
@@ -102,8 +103,8 @@ housed-by clock next es x eight size-x t =
 -- ## Of a sound state and store
 
 module _ (s : State) (x : List ℕ) (S : Sound s x) (i : ℕ) (h : i < 8) where
-  pub state-sound-at : SoundPlace (s .clock .count) (s .next) (getD (s .entries) i noEntry) (partAt x i)
-  state-sound-at = sound-at (s .entries) x (S .eight-entries) (s .clock .count) (s .next) i h (S .places)
+  pub state-sound-at : SoundPlace (s .clock) (s .next) (getD (s .entries) i noEntry) (partAt x i)
+  state-sound-at = sound-at (s .entries) x (S .eight-entries) (s .clock) (s .next) i h (S .places)
 
   pub state-blob : take (getD (s .entries) i noEntry .«blob_len») (partAt x i) ≡ blobIn (getD (gatewayOf s x .places) i none)
   unfolding gatewayOf

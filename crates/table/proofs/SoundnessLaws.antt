@@ -14,6 +14,7 @@ use lib.Seq.{take-all, take-nil, drop-drop, drop-cons}
 use Rattle.wire.specs.Limits.{placeSize, blobLimit, fieldsAt}
 use Rattle.wire.specs.Read.{same}
 use Rattle.wire.proofs.Steps.{steps}
+use Rattle.rule.specs.declared.Millis.{Millis}
 use Rattle.rule.specs.Gateway.{Place}
 use Rattle.rule.specs.Soundness.{everyEntry, apart, distinct}
 use Rattle.table.specs.declared.Comment.{Comment}
@@ -66,7 +67,7 @@ no-comment-tested v b c = turned v b (zeroComment c)
 pub lock-tested : (v b : Bool) (l : LockRecord) → not b ≡ not v → b ≡ soundLock l → v ≡ soundLock l
 lock-tested v b l = turned v b (soundLock l)
 
-pub places-tested : (v b : Bool) (clock next : ℕ) (es : List Entry) (x : List ℕ) → not b ≡ not v → b ≡ soundPlaces clock next es x → v ≡ soundPlaces clock next es x
+pub places-tested : (v b : Bool) (clock : Millis) (next : ℕ) (es : List Entry) (x : List ℕ) → not b ≡ not v → b ≡ soundPlaces clock next es x → v ≡ soundPlaces clock next es x
 places-tested v b clock next es x = turned v b (soundPlaces clock next es x)
 
 -- the parts that are tested for zeros are the unused ones
@@ -116,14 +117,14 @@ all-none : all [] ≡ true
 unfolding all
 all-none = refl
 
-abbrev pub PlacesLeft : ℕ → ℕ → List Entry → List ℕ → ℕ → Type 0
+abbrev pub PlacesLeft : Millis → ℕ → List Entry → List ℕ → ℕ → Type 0
 PlacesLeft clock next es x i = all (drop i (each (soundPlace clock next) size es x)) ≡ soundPlaces clock next es x
 
-pub places-all : (clock next : ℕ) (es : List Entry) (x : List ℕ) → PlacesLeft clock next es x 0
+pub places-all : (clock : Millis) (next : ℕ) (es : List Entry) (x : List ℕ) → PlacesLeft clock next es x 0
 unfolding soundPlaces
 places-all clock next es x = refl
 
-module _ (clock next : ℕ) (es : List Entry) (x : List ℕ) (eight : length es ≡ 8) where
+module _ (clock : Millis) (next : ℕ) (es : List Entry) (x : List ℕ) (eight : length es ≡ 8) where
   eight-tests : length (each (soundPlace clock next) size es x) ≡ 8
   eight-tests = each-length size (soundPlace clock next) es x ∙ eight
 

@@ -9,6 +9,7 @@ use lib.Dec.{eqb}
 use lib.ListN.{length, take, drop, replicate, length-replicate}
 use Rattle.wire.specs.Limits.{storeSize, blobLimit, fieldsLimit, fieldsAt, commentLimit, passphraseLimit, lastNumber}
 use Rattle.rule.proofs.SoundLaws.{Says, both-say, le-says, lt-says, eq-says, within-says, distinct-says}
+use Rattle.rule.specs.declared.Millis.{Millis}
 use Rattle.table.specs.declared.Comment.{Comment}
 use Rattle.table.specs.declared.Entry.{Entry}
 use Rattle.table.specs.declared.LockRecord.{LockRecord}
@@ -104,12 +105,12 @@ free-says e p number =
           )),
     )
 
-held-says : (clock next : ℕ) (e : Entry) (p : List ℕ) → (e .number ≡ 0 → ⊥) → Says (soundHeld clock next e p) (SoundHeld clock next e p)
+held-says : (clock : Millis) (next : ℕ) (e : Entry) (p : List ℕ) → (e .number ≡ 0 → ⊥) → Says (soundHeld clock next e p) (SoundHeld clock next e p)
 unfolding soundHeld soundContent
 held-says clock next e p number =
     let tests =
     both-say _ _ _ _ (lt-says (e .number) next)
-    (both-say _ _ _ _ (le-says (e .reading .count) clock)
+    (both-say _ _ _ _ (le-says (e .reading .count) (clock .count))
     (both-say _ _ _ _ (flags-say e)
     (both-say _ _ _ _ (lifetime-says e)
     (both-say _ _ _ _ (within-says 1 blobLimit (e .«blob_len»))
@@ -136,7 +137,7 @@ held-says clock next e p number =
       (λ s. tests .1 (s .number-taken, (s .reading-past, ((s .limited-flag, s .confirm-flag), (s .no-seconds, ((s .blob-some, s .blob-fits), ((s .fields-some, s .fields-fit), (s .comment, (s .blob-rest, s .fields-rest))))))))),
     )
 
-pub place-says : (clock next : ℕ) (e : Entry) (p : List ℕ) → Says (soundPlace clock next e p) (SoundPlace clock next e p)
+pub place-says : (clock : Millis) (next : ℕ) (e : Entry) (p : List ℕ) → Says (soundPlace clock next e p) (SoundPlace clock next e p)
 unfolding soundPlace
 place-says clock next e p = by-number (eqb (e .number) 0) refl
   where
@@ -174,7 +175,7 @@ sound-state-rule s x eight long =
     both-say _ _ _ _ (eq-says (length x) storeSize)
     (both-say _ _ _ _ (within-says 1 lastNumber (s .next))
     (both-say _ _ _ _ (lock-says (s .lock) long)
-    (both-say _ _ _ _ (each-says size _ _ (place-says (s .clock .count) (s .next)) (s .entries) x) (distinct-says (view (s .entries) x))))) in (
+    (both-say _ _ _ _ (each-says size _ _ (place-says (s .clock) (s .next)) (s .entries) x) (distinct-says (view (s .entries) x))))) in (
       (λ t.
           let (store, (next, (lock, (places, distinct)))) = tests .0 t in
           record {

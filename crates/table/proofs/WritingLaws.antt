@@ -12,6 +12,7 @@ use lib.Seq.{length-take-le, take-take, take-at, drop-at, take-append-le}
 use Rattle.wire.specs.Limits.{storeSize, blobLimit, fieldsLimit, fieldsAt, commentLimit, passphraseLimit}
 use Rattle.keys.specs.declared.constraints.Lifetime.{Lifetime}
 use Rattle.keys.specs.declared.constraints.Lifetime.the-variants.{Forever, For}
+use Rattle.rule.specs.declared.Millis.{Millis}
 use Rattle.rule.specs.Gateway.{Entry as Key, Place, Gateway, fresh}
 use Rattle.rule.specs.Soundness.{EveryEntry, SoundEntry}
 use Rattle.rule.specs.Soundness as rule
@@ -61,11 +62,11 @@ comment-written c C =
     λ j. record { bytes = bytes j; len = sym size j }
 
 -- what a sound place is: free and written as free places are, or a sound key, written as that key is
-pub data Seen (clock next : ℕ) (e : Entry) (p : List ℕ) : Type 0 where
+pub data Seen (clock : Millis) (next : ℕ) (e : Entry) (p : List ℕ) : Type 0 where
   seen-free : placeOf e p ≡ none → e ≡ entryFor none → p ≡ bytesFor none → Seen clock next e p
   seen-held : placeOf e p ≡ some (keyOf e p) → e ≡ entryFor (some (keyOf e p)) → p ≡ bytesFor (some (keyOf e p)) → SoundEntry clock next (keyOf e p) → Seen clock next e p
 
-module _ (clock next : ℕ) (e : Entry) (p : List ℕ) (whole : length p ≡ size e) where
+module _ (clock : Millis) (next : ℕ) (e : Entry) (p : List ℕ) (whole : length p ≡ size e) where
   pub seen : SoundPlace clock next e p → Seen clock next e p
   unfolding placeOf entryFor bytesFor heldBytes
   seen (free f z) = seen-free (rw f) f (z ∙ ap (λ (n : ℕ). replicate n 0) whole)
@@ -109,12 +110,12 @@ module _ (clock next : ℕ) (e : Entry) (p : List ℕ) (whole : length p ≡ siz
 
 -- ## From what is written to what is meant
 
-pub record Writing (clock next : ℕ) (es : List Entry) (x : List ℕ) (ps : List Place) : Type 0 where
+pub record Writing (clock : Millis) (next : ℕ) (es : List Entry) (x : List ℕ) (ps : List Place) : Type 0 where
   pub entries : es ≡ map entryFor ps
   pub store : x ≡ laid ps
   pub keys : EveryEntry (SoundEntry clock next) ps
 
-module _ (clock next : ℕ) where
+module _ (clock : Millis) (next : ℕ) where
   writing-first : (e : Entry) (p : List ℕ) (es : List Entry) (x : List ℕ) (ps : List Place) → Seen clock next e p → Writing clock next es x ps
       → Writing clock next (e ∷ es) (p ++ x) (placeOf e p ∷ ps)
   unfolding laid
@@ -134,13 +135,13 @@ module _ (clock next : ℕ) where
       let w = writing-first e (take (size e) x) es (drop (size e) x) (view es (drop (size e) x)) first (writing es (drop (size e) x) rest (all .1)) in
       rw take-append-drop at w
 
-pub sound-writing : (s : State) (x : List ℕ) → Sound s x → Writing (s .clock .count) (s .next) (s .entries) x (view (s .entries) x)
-sound-writing s x S = writing (s .clock .count) (s .next) (s .entries) x (entries-end (s .entries) (S .eight-entries) ∙ sym (S .store-size)) (S .places)
+pub sound-writing : (s : State) (x : List ℕ) → Sound s x → Writing (s .clock) (s .next) (s .entries) x (view (s .entries) x)
+sound-writing s x S = writing (s .clock) (s .next) (s .entries) x (entries-end (s .entries) (S .eight-entries) ∙ sym (S .store-size)) (S .places)
 
-pub key-fits : (clock next : ℕ) (k : Key) → SoundEntry clock next k → KeyFits k
+pub key-fits : (clock : Millis) (next : ℕ) (k : Key) → SoundEntry clock next k → KeyFits k
 key-fits clock next k s = s .lengths
 
-pub writing-fits : (clock next : ℕ) (es : List Entry) (x : List ℕ) (ps : List Place) → Writing clock next es x ps → EveryEntry KeyFits ps
+pub writing-fits : (clock : Millis) (next : ℕ) (es : List Entry) (x : List ℕ) (ps : List Place) → Writing clock next es x ps → EveryEntry KeyFits ps
 writing-fits clock next es x ps w = every-imp (SoundEntry clock next) KeyFits (key-fits clock next) ps (w .keys)
 
 pub view-fits : (s : State) (x : List ℕ) → Sound s x → EveryEntry KeyFits (view (s .entries) x)
@@ -206,7 +207,7 @@ comment-sound : (c : List ℕ) → length c ≤ commentLimit → SoundComment (k
 unfolding keptComment
 comment-sound c h = record { comment-size = padded-size commentLimit c h; comment-fits = h; comment-rest = padded-rest commentLimit c }
 
-module _ (clock next : ℕ) (k : Key) (s : SoundEntry clock next k) where
+module _ (clock : Millis) (next : ℕ) (k : Key) (s : SoundEntry clock next k) where
   blob-padded : length (padded blobLimit (k .blob)) ≡ blobLimit
   blob-padded = padded-size blobLimit (k .blob) (s .lengths .blob-fits)
 
@@ -259,11 +260,11 @@ pub free-back : placeOf (entryFor none) (bytesFor none) ≡ none
 unfolding placeOf entryFor
 free-back = refl
 
-free-sound : (clock next : ℕ) → SoundPlace clock next (entryFor none) (bytesFor none)
+free-sound : (clock : Millis) (next : ℕ) → SoundPlace clock next (entryFor none) (bytesFor none)
 unfolding entryFor bytesFor
 free-sound clock next = free refl free-zeros
 
-module _ (clock next : ℕ) where
+module _ (clock : Millis) (next : ℕ) where
   view-back : (ps : List Place) → EveryEntry (SoundEntry clock next) ps → view (map entryFor ps) (laid ps) ≡ ps
   unfolding each laid
   view-back [] all = refl

@@ -6,6 +6,7 @@ use mathlib.Core.Option.{none, some}
 use mathlib.Core.List.{List}
 use lib.ListN.{length, getD}
 use Rattle.wire.specs.Limits.{placeSize, lastNumber}
+use Rattle.rule.specs.declared.Millis.{Millis}
 use Rattle.rule.specs.Gateway.{Entry as Key, Place, NewKey}
 use Rattle.rule.specs.Soundness.{Fits}
 use Rattle.table.specs.declared.Entry.{Entry}
@@ -14,9 +15,9 @@ use Rattle.table.specs.Meaning.{placeOf, gatewayOf, Written}
 use Rattle.table.specs.Soundness.{Sound}
 
 -- an entry and the bytes of its place, as a sound state and store have them
-pub record Standing (clock : ℕ) (e : Entry) (p : List ℕ) : Type 0 where
+pub record Standing (clock : Millis) (e : Entry) (p : List ℕ) : Type 0 where
   pub whole : length p ≡ placeSize
-  pub reading-past : e .reading .count ≤ clock
+  pub reading-past : e .reading .count ≤ clock .count
   pub written : Written e p (placeOf e p)
 
 -- no other place than i holds the blob

@@ -40,7 +40,7 @@ commentOf c = take (c .len) (c .bytes)
 abbrev pub keyOf : Entry → List ℕ → Key
 keyOf e p = record {
   number = e .number;
-  reading = e .reading .count;
+  reading = e .reading;
   lifetime = lifetimeOf e;
   confirm = isSet (e .confirm);
   blob = take (e .«blob_len») p;
@@ -77,7 +77,7 @@ abbrev pub passphrase : LockRecord → List ℕ
 passphrase l = take (l .len) (l .bytes)
 
 unfoldable pub gatewayOf : State → List ℕ → Gateway
-gatewayOf s x = record { places = view (s .entries) x; lock = passphrase (s .lock); clock = s .clock .count; next = s .next }
+gatewayOf s x = record { places = view (s .entries) x; lock = passphrase (s .lock); clock = s .clock; next = s .next }
 
 -- what is read behind the end of the entries, where no place is
 abbrev pub noEntry : Entry
@@ -131,7 +131,7 @@ unfoldable pub entryFor : Place → Entry
 entryFor none = freeEntry
 entryFor (some k) = record {
   number = k .number;
-  reading = record { count = k .reading };
+  reading = k .reading;
   limited = limitedFlag (k .lifetime);
   seconds = keptSeconds (k .lifetime);
   confirm = flagOf (k .confirm);
@@ -158,7 +158,7 @@ unfoldable pub lockOf : List ℕ → LockRecord
 lockOf p = record { bytes = padded passphraseLimit p; len = length p }
 
 unfoldable pub stateOf : Gateway → State
-stateOf g = record { entries = map entryFor (g .places); lock = lockOf (g .lock); clock = record { count = g .clock }; next = g .next }
+stateOf g = record { entries = map entryFor (g .places); lock = lockOf (g .lock); clock = g .clock; next = g .next }
 
 unfoldable pub layout : Gateway → List ℕ
 layout g = laid (g .places)

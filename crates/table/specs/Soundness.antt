@@ -8,6 +8,7 @@ use lib.ListN.{length, getD, take, drop}
 use lib.Dec.{leb, ltb, eqb}
 use Rattle.wire.specs.Limits.{storeSize, blobLimit, fieldsLimit, fieldsAt, commentLimit, passphraseLimit, lastNumber}
 use Rattle.wire.specs.Numbers.{within}
+use Rattle.rule.specs.declared.Millis.{Millis}
 use Rattle.rule.specs.Gateway.{Place, Gateway}
 use Rattle.rule.specs.Soundness.{everyEntry, apart, distinct, Distinct}
 use Rattle.table.specs.declared.Comment.{Comment}
@@ -62,17 +63,17 @@ soundContent e p =
     && allZero (drop (e .«fields_len») (drop fieldsAt p)))))
 
 -- "insertion numbers .. below the next one, .. insertion readings not above the kept clock"
-unfoldable pub soundHeld : ℕ → ℕ → Entry → List ℕ → Bool
-soundHeld clock next e p = ltb (e .number) next && (leb (e .reading .count) clock && (soundFlags e && (soundLifetime e && soundContent e p)))
+unfoldable pub soundHeld : Millis → ℕ → Entry → List ℕ → Bool
+soundHeld clock next e p = ltb (e .number) next && (leb (e .reading .count) (clock .count) && (soundFlags e && (soundLifetime e && soundContent e p)))
 
-unfoldable pub soundPlace : ℕ → ℕ → Entry → List ℕ → Bool
+unfoldable pub soundPlace : Millis → ℕ → Entry → List ℕ → Bool
 soundPlace clock next e p = cond (eqb (e .number) 0) (soundFree e p) (soundHeld clock next e p)
 
 unfoldable pub all : List Bool → Bool
 all [] = true
 all (b ∷ bs) = b && all bs
 
-unfoldable pub soundPlaces : ℕ → ℕ → List Entry → List ℕ → Bool
+unfoldable pub soundPlaces : Millis → ℕ → List Entry → List ℕ → Bool
 soundPlaces clock next es x = all (each (soundPlace clock next) size es x)
 
 -- "The passphrase is kept with its length, at most 1,024 bytes, the rest zero."
@@ -89,7 +90,7 @@ soundState s x =
     eqb (length x) storeSize
     && (within 1 lastNumber (s .next)
     && (soundLock (s .lock)
-    && (soundPlaces (s .clock .count) (s .next) (s .entries) x
+    && (soundPlaces (s .clock) (s .next) (s .entries) x
     && distinct (view (s .entries) x))))
 
 -- ## The facts
@@ -102,10 +103,10 @@ pub record SoundComment (c : Comment) : Type 0 where
   pub comment-fits : c .len ≤ commentLimit
   pub comment-rest : Zeros (drop (c .len) (c .bytes))
 
-pub record SoundHeld (clock next : ℕ) (e : Entry) (p : List ℕ) : Type 0 where
+pub record SoundHeld (clock : Millis) (next : ℕ) (e : Entry) (p : List ℕ) : Type 0 where
   pub number-first : 1 ≤ e .number
   pub number-taken : e .number < next
-  pub reading-past : e .reading .count ≤ clock
+  pub reading-past : e .reading .count ≤ clock .count
   pub limited-flag : Flag (e .limited)
   pub confirm-flag : Flag (e .confirm)
   pub no-seconds : isSet (e .limited) ≡ false → e .seconds .count ≡ 0
@@ -117,7 +118,7 @@ pub record SoundHeld (clock next : ℕ) (e : Entry) (p : List ℕ) : Type 0 wher
   pub blob-rest : Zeros (drop (e .«blob_len») (take fieldsAt p))
   pub fields-rest : Zeros (drop (e .«fields_len») (drop fieldsAt p))
 
-pub data SoundPlace (clock next : ℕ) (e : Entry) (p : List ℕ) : Type 0 where
+pub data SoundPlace (clock : Millis) (next : ℕ) (e : Entry) (p : List ℕ) : Type 0 where
   free : e ≡ freeEntry → Zeros p → SoundPlace clock next e p
   held : SoundHeld clock next e p → SoundPlace clock next e p
 
@@ -132,7 +133,7 @@ pub record Sound (s : State) (x : List ℕ) : Type 0 where
   pub next-first : 1 ≤ s .next
   pub next-last : s .next ≤ lastNumber
   pub lock : SoundLock (s .lock)
-  pub places : Each (SoundPlace (s .clock .count) (s .next)) size (s .entries) x
+  pub places : Each (SoundPlace (s .clock) (s .next)) size (s .entries) x
   pub distinct : Distinct (view (s .entries) x)
 
 -- entries whose blobs lie within their places

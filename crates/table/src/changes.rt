@@ -16,10 +16,10 @@ use wire::limits;
 use wire::read::cut;
 ghost use mathlib.Core.Path.{_≡_};
 ghost use mathlib.Core.Option.{some};
-ghost use Prim.Native.Nat.{_≤_, _<_, max};
+ghost use Prim.Native.Nat.{_≤_, _<_};
 ghost use lib.ListN.{length};
 ghost use Rattle.wire.specs.Limits.{placeSize, blobLimit, fieldsLimit, commentLimit};
-ghost use Rattle.rule.specs.Gateway.{millisOf, dueAt, lasting, advance, without, withoutAll, newEntry, withEntry};
+ghost use Rattle.rule.specs.Gateway.{millisOf, dueAt, lasting, later, advance, without, withoutAll, newEntry, withEntry};
 ghost use Rattle.rule.specs.Rule.{brought, entryOf};
 ghost use Rattle.table.specs.Meaning.{lifetimeOf, gatewayOf, placeOf, limitedFlag, keptSeconds, entryFor, heldBytes, Written};
 ghost use Rattle.table.specs.Soundness.{Sound, Means};
@@ -27,7 +27,7 @@ ghost use Rattle.table.specs.Changes.{Standing, MayPut};
 
 // Lifetimes count seconds and the clock counts milliseconds.
 pub fn millis_of(seconds: Seconds) -> Millis
-    ensures { λ r. ⌜ r .count ≡ millisOf seconds ⌝ }
+    ensures { λ r. ⌜ r ≡ millisOf seconds ⌝ }
 {
     Millis {
         count: (seconds.count as u64) * 1000,
@@ -37,7 +37,7 @@ pub fn millis_of(seconds: Seconds) -> Millis
 // Is this entry due at a clock that its reading is not above?
 fn is_due(e: Entry, clock: Millis) -> bool
     requires { ⌜ e .reading .count ≤ clock .count ⌝ }
-    ensures { λ r. ⌜ r ≡ dueAt (clock .count) (e .reading .count) (lifetimeOf e) ⌝ }
+    ensures { λ r. ⌜ r ≡ dueAt clock (e .reading) (lifetimeOf e) ⌝ }
 {
     if !is_set(e.limited) {
         return false;
@@ -49,8 +49,8 @@ fn is_due(e: Entry, clock: Millis) -> bool
 
 // What is left at the clock of one place, its entry and its bytes: nothing if it is due.
 fn last(e: Entry, p: &mut [u8], clock: Millis) -> Entry
-    requires { ⌜ Standing (clock .count) e (now p) ⌝ }
-    ensures { λ r. ⌜ Written r (now (p .exit)) (lasting (clock .count) (placeOf e (now (p .entry)))) ⌝ }
+    requires { ⌜ Standing clock e (now p) ⌝ }
+    ensures { λ r. ⌜ Written r (now (p .exit)) (lasting clock (placeOf e (now (p .entry)))) ⌝ }
 {
     if is_due(e, clock) {
         wipe(p);
@@ -61,7 +61,7 @@ fn last(e: Entry, p: &mut [u8], clock: Millis) -> Entry
 
 // The later of two readings.
 fn later(a: Millis, b: Millis) -> Millis
-    ensures { λ r. ⌜ r .count ≡ max (a .count) (b .count) ⌝ }
+    ensures { λ r. ⌜ r ≡ later a b ⌝ }
 {
     if a.count < b.count {
         return b;
@@ -72,7 +72,7 @@ fn later(a: Millis, b: Millis) -> Millis
 // The kept clock is raised to the reading, and what is due goes.
 pub fn advance(state: State, store: &mut [u8], reading: Millis) -> State
     requires { ⌜ Sound state (now store) ⌝ }
-    ensures { λ r. ⌜ Means r (now (store .exit)) (advance (reading .count) (gatewayOf state (now (store .entry)))) ⌝ }
+    ensures { λ r. ⌜ Means r (now (store .exit)) (advance reading (gatewayOf state (now (store .entry)))) ⌝ }
 {
     let kept = state.clock;
     let clock = later(kept, reading);
@@ -153,7 +153,7 @@ fn kept_seconds(lifetime: Lifetime) -> Seconds
 // The entry of a new key.
 fn held_entry(number: u64, reading: Millis, payload: &[u8], carried: Carried, blob: &[u8]) -> Entry
     requires { ⌜ length (brought (now payload) carried (now blob) .comment) ≤ commentLimit ⌝ }
-    ensures { λ r. ⌜ r ≡ entryFor (some (newEntry number (reading .count) (brought (now (payload .entry)) carried (now (blob .entry))))) ⌝ }
+    ensures { λ r. ⌜ r ≡ entryFor (some (newEntry number reading (brought (now (payload .entry)) carried (now (blob .entry))))) ⌝ }
 {
     let lifetime = carried.lifetime;
     let fields = cut(payload, 1, carried.places.end);

@@ -106,7 +106,7 @@ fn is_content_sound(e: Entry, p: &[u8]) -> bool
 
 fn is_held_sound(e: Entry, p: &[u8], clock: Millis, next: u64) -> bool
     requires { ⌜ length (now p) ≡ placeSize ⌝ }
-    ensures { λ r. ⌜ r ≡ soundHeld (clock .count) next e (now (p .entry)) ⌝ }
+    ensures { λ r. ⌜ r ≡ soundHeld clock next e (now (p .entry)) ⌝ }
 {
     if next <= e.number {
         return false;
@@ -125,7 +125,7 @@ fn is_held_sound(e: Entry, p: &[u8], clock: Millis, next: u64) -> bool
 
 fn is_place_sound(e: Entry, p: &[u8], clock: Millis, next: u64) -> bool
     requires { ⌜ length (now p) ≡ placeSize ⌝ }
-    ensures { λ r. ⌜ r ≡ soundPlace (clock .count) next e (now (p .entry)) ⌝ }
+    ensures { λ r. ⌜ r ≡ soundPlace clock next e (now (p .entry)) ⌝ }
 {
     if e.number == 0 {
         return is_free_sound(e, p);
@@ -135,7 +135,7 @@ fn is_place_sound(e: Entry, p: &[u8], clock: Millis, next: u64) -> bool
 
 fn are_places_sound(es: [Entry; 8], store: &[u8], clock: Millis, next: u64) -> bool
     requires { ⌜ length (now store) ≡ storeSize ⌝ }
-    ensures { λ r. ⌜ r ≡ soundPlaces (clock .count) next es (now (store .entry)) ⌝ }
+    ensures { λ r. ⌜ r ≡ soundPlaces clock next es (now (store .entry)) ⌝ }
 {
     let mut i = 0;
     while i < 8 {

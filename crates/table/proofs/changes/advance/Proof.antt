@@ -14,7 +14,7 @@ use Rattle.table.proofs.changes.advance.Tie as tie
 
 abbrev Inv-loop : tie.InvT-loop
 Inv-loop state store₀ clock es₀ i₀ store es i =
-    (i ≤ 8) × (length store ≡ storeSize) × Writing (clock .count) (state .next) es store (swept (clock .count) i (view (state .entries) store₀))
+    (i ≤ 8) × (length store ≡ storeSize) × Writing clock (state .next) es store (swept clock i (view (state .entries) store₀))
 
 abbrev μ-loop : tie.MeasureT-loop
 μ-loop state store₀ clock es₀ i₀ store es i = 8 - i
@@ -23,7 +23,7 @@ loop-holds : tie.Need-loop-holds Inv-loop μ-loop
 loop-holds c =
     let st = c .before .before .before .before in
     let l = c .before .later in
-    (search needs, st .pre .store-size, sweep-start (st .args .state) (st .args .store .now) (st .pre) (st .args .reading .count) (l .result) (l .ensures))
+    (search needs, st .pre .store-size, sweep-start (st .args .state) (st .args .store .now) (st .pre) (st .args .reading) (l .result) (l .ensures))
 
 last-requires : tie.Need-last-requires Inv-loop μ-loop
 last-requires c κs =
@@ -36,8 +36,8 @@ last-requires c κs =
     let s = st .args .state in
     let x = st .args .store .now in
     let n : length (view (s .entries) x) ≡ 8 = view-eight s x (st .pre) in
-    let keys = sweep-keys s x (st .pre) (st .args .reading .count) (l .result) (l .ensures) in
-    sweep-stands (l .result .count) (s .next) (view (s .entries) x) (loop .i) (from .result) (to .result) (loop .es) (loop .store) noEntry keys (loop .inv .2) (omega arith)
+    let keys = sweep-keys s x (st .pre) (st .args .reading) (l .result) (l .ensures) in
+    sweep-stands (l .result) (s .next) (view (s .entries) x) (loop .i) (from .result) (to .result) (loop .es) (loop .store) noEntry keys (loop .inv .2) (omega arith)
     (spanning _ (writing-fits _ _ _ _ _ (loop .inv .2)) (swept-length _ _ _ ∙ n) (loop .i) _ _ (omega arith) (from .ensures) (to .ensures)) .standing
 
 loop-again : tie.Need-loop-again Inv-loop μ-loop
@@ -54,8 +54,8 @@ loop-again c =
     let s = st .args .state in
     let x = st .args .store .now in
     let n : length (view (s .entries) x) ≡ 8 = view-eight s x (st .pre) in
-    let keys = sweep-keys s x (st .pre) (st .args .reading .count) (l .result) (l .ensures) in
-    let w = sweep-step (l .result .count) (s .next) (view (s .entries) x) (loop .i) (from .result) (to .result) (loop .es) (loop .store) noEntry keys (loop .inv .2) (omega arith)
+    let keys = sweep-keys s x (st .pre) (st .args .reading) (l .result) (l .ensures) in
+    let w = sweep-step (l .result) (s .next) (view (s .entries) x) (loop .i) (from .result) (to .result) (loop .es) (loop .store) noEntry keys (loop .inv .2) (omega arith)
     (spanning _ (writing-fits _ _ _ _ _ (loop .inv .2)) (swept-length _ _ _ ∙ n) (loop .i) _ _ (omega arith) (from .ensures) (to .ensures)) (last .result) (last .last .1 .0) (last .ensures) in
     (omega arith, writing-size _ _ _ _ _ w (swept-length _ _ _ ∙ n), w)
 
@@ -71,7 +71,7 @@ returns c =
     let st = turn .before .before .before .before .before in
     let l = turn .before .before .later in
     let loop = turn .loop in
-    sweep-end (st .args .state) (st .args .store .now) (st .pre) (st .args .reading .count) (l .result) (l .ensures) (loop .i) (loop .es) (loop .store) (omega arith) (loop .inv .2)
+    sweep-end (st .args .state) (st .args .store .now) (st .pre) (st .args .reading) (l .result) (l .ensures) (loop .i) (loop .es) (loop .store) (omega arith) (loop .inv .2)
 
 pub advance-spec : {M : Type 1} → statement M
 advance-spec =

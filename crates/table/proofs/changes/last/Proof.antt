@@ -15,13 +15,13 @@ returns c =
     let asked = tested .before in
     let st = asked .before .before in
     let due = sym (asked .is-due .ensures) ∙ tested .if1 .taken in
-    rw (due-gone (st .args .clock .count) (st .args .e) (st .args .p .now) due)
+    rw (due-gone (st .args .clock) (st .args .e) (st .args .p .now) due)
     (record { entry = c .free-entry .ensures; bytes = wiped .wipe .ensures ∙ ap (λ n. replicate n 0) (st .pre .whole) })
 
 returns-2 : tie.Need-returns-2
 returns-2 c =
     let st = c .before .before .before in
-    rw (undue-stays (st .args .clock .count) (st .args .e) (st .args .p .now) (sym (c .before .is-due .ensures) ∙ c .if1 .left)) (st .pre .written)
+    rw (undue-stays (st .args .clock) (st .args .e) (st .args .p .now) (sym (c .before .is-due .ensures) ∙ c .if1 .left)) (st .pre .written)
 
 pub last-spec : {M : Type 1} → statement M
 last-spec =

@@ -10,7 +10,7 @@ use Rattle.table.proofs.soundness.are_places_sound.Statement.{statement
 use Rattle.table.proofs.soundness.are_places_sound.Tie as tie
 
 abbrev Inv-loop : tie.InvT-loop
-Inv-loop store clock next es i₀ i = (i ≤ 8) × (length es ≡ 8) × PlacesLeft (clock .count) next es store i
+Inv-loop store clock next es i₀ i = (i ≤ 8) × (length es ≡ 8) × PlacesLeft clock next es store i
 
 abbrev μ-loop : tie.MeasureT-loop
 μ-loop store clock next es i₀ i = 8 - i
