@@ -44,11 +44,11 @@ module _ (flags : ℕ) (hash : Hash) (rules : call oneKey (pastGate (signWith fl
   tells : TellsBits flags (hashBits hash)
   unfolding code flatOf lentOf answersOf saidOf confirmedOf signedOf
   tells state store signature buffer outcome after storeAfter reply means long m =
-      let d : Done = callOf state store (signWith flags) (record { count = 0 }) (answersOf gateYes) signature buffer in
+      let d : Done = callOf state store (signWith flags) zeroMillis (answersOf gateYes) signature buffer in
       let k : Step = record {
         request = 0;
         payload = signWith flags;
-        reading = record { count = 0 };
+        reading = zeroMillis;
         answers = answersOf gateYes;
         signature = signature;
         buffer = buffer;
@@ -58,7 +58,7 @@ module _ (flags : ℕ) (hash : Hash) (rules : call oneKey (pastGate (signWith fl
       let same-call : asCall k ≡ pastGate (signWith flags) = λ j. record {
         request = 0;
         frame = record { payload = signWith flags };
-        reading = 0;
+        reading = zeroMillis;
         answers = lentOf (answersOf gateYes) signature;
         buffer = long j;
         store = storeSize;

@@ -180,10 +180,10 @@ passed buffer store isSound payload lentBytes =
 -- a reply of a call that was not refused fits the buffer
 module _ (s : State) (x payload : List ℕ) (reading : Millis) (answers : rule.Answers) (buffer : ℕ) (eight : length (s .entries) ≡ 8) (long : length (s .lock .bytes) ≡ passphraseLimit) where
   abbrev made : Call
-  made = record { request = 0; frame = record { payload = payload }; reading = reading .count; answers = answers; buffer = buffer; store = length x }
+  made = record { request = 0; frame = record { payload = payload }; reading = reading; answers = answers; buffer = buffer; store = length x }
 
   reply-fits : refusalOf buffer (length x) (soundState s x) (length payload) (lentLength (answers .signature)) ≡ none
-      → (bytes : List ℕ) → served (advance (reading .count) (gatewayOf s x)) (record { payload = payload }) answers .outcome ≡ lands (reply bytes) → length bytes ≤ buffer
+      → (bytes : List ℕ) → served (advance reading (gatewayOf s x)) (record { payload = payload }) answers .outcome ≡ lands (reply bytes) → length bytes ≤ buffer
   unfolding call refusal
   reply-fits ok bytes e =
       let p = passed buffer (length x) (soundState s x) (length payload) (lentLength (answers .signature)) ok in
@@ -218,11 +218,11 @@ unfolding callOf served flatOf
 call-names-within state store payload reading answers bytes buffer eight long =
     given-cases (λ (d : Done). NamesWithin payload buffer (flatOf (d .called .outcome)))
     (refusalOf (length buffer) (length store) (soundState state store) (length payload) (lentLength (lentOf answers bytes .signature)))
-    {z = laidOut buffer (served (advance (reading .count) (gatewayOf state store)) (record { payload = payload }) (lentOf answers bytes))}
+    {z = laidOut buffer (served (advance reading (gatewayOf state store)) (record { payload = payload }) (lentOf answers bytes))}
     {f = λ n. record { called = record { outcome = Refused n; state = state }; store = store; reply = buffer }}
     (λ ok.
-    coded payload buffer (served (advance (reading .count) (gatewayOf state store)) (record { payload = payload }) (lentOf answers bytes) .outcome)
-    (rule-inside payload (lent (lentOf answers bytes)) (advance (reading .count) (gatewayOf state store)) .inside)
+    coded payload buffer (served (advance reading (gatewayOf state store)) (record { payload = payload }) (lentOf answers bytes) .outcome)
+    (rule-inside payload (lent (lentOf answers bytes)) (advance reading (gatewayOf state store)) .inside)
     (reply-fits state store payload reading (lentOf answers bytes) (length buffer) eight long ok))
     (λ n _. record { ordered = omega arith; of-payload = λ _. omega arith; of-reply = λ _. omega arith })
 

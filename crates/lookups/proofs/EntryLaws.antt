@@ -36,7 +36,7 @@ kept clock next e p (free f _) =
 kept clock next e p (held s) = record { blob-fits = s .blob-fits; fields-fit = s .fields-fit; reading-past = s .reading-past }
 
 module _ (s : State) (x : List ℕ) (S : Sound s x) (i : ℕ) (h : i < 8) where
-  pub entry-kept : Kept (s .clock .count) (getD (s .entries) i noEntry)
+  pub entry-kept : Kept (s .clock) (getD (s .entries) i noEntry)
   entry-kept = kept _ _ _ _ (state-sound-at s x S i h)
 
   -- it is written as the key is
@@ -50,7 +50,7 @@ module _ (s : State) (x : List ℕ) (S : Sound s x) (i : ℕ) (h : i < 8) where
       place : placeOf e (partAt x i) ≡ some k
       place = sym (view-at (s .entries) x (S .eight-entries) i h) ∙ there
 
-      by-seen : Seen (s .clock .count) (s .next) e (partAt x i) → e ≡ entryFor (some k)
+      by-seen : Seen (s .clock) (s .next) e (partAt x i) → e ≡ entryFor (some k)
       by-seen (seen-free is _ _) = absurd (some-not-none (sym place ∙ is))
       by-seen (seen-held is entry _ _) = entry ∙ ap (λ (k : Key). entryFor (some k)) (same-entry (sym is ∙ place))
 

@@ -86,7 +86,7 @@ module _ (s : State) (x : List ℕ) (i : ℕ) (k : Key) (S : Sound s x) (there :
   meant : rule.Sound g
   meant = sound-meaning s x S
 
-  told-held : keyTold s x (k .number) ≡ toldOf (s .clock .count) i k
+  told-held : keyTold s x (k .number) ≡ toldOf (s .clock) i k
   told-held = sym (key-found s x (k .number) (is-sound s x S) i k (number-found (g .places) (meant .distinct) i k there) there)
 
   pub key-sound : SoundEntry (g .clock) (g .next) k
@@ -129,7 +129,7 @@ unfolding keptComment
 kept-says c h = record { long = refl; text-is = padded-front commentLimit c; rest = padded-rest commentLimit c; whole = padded-size commentLimit c h }
 
 module _ (s : State) (x : List ℕ) (i : ℕ) (k : Key) (S : Sound s x) (there : HeldAt (gatewayOf s x) i k) where
-  told-tells : Tells x k (toldOf (s .clock .count) i k)
+  told-tells : Tells x k (toldOf (s .clock) i k)
   unfolding toldOf entryFor
   told-tells =
       let e = getD (s .entries) i noEntry in
@@ -154,7 +154,7 @@ module _ (s : State) (x : List ℕ) (i : ℕ) (k : Key) (S : Sound s x) (there :
         comment = kept-says (k .comment) (lengths .comment-fits);
       }
 
-  told-within : PartsWithin x (toldOf (s .clock .count) i k)
+  told-within : PartsWithin x (toldOf (s .clock) i k)
   unfolding toldOf keptComment
   told-within =
       let lengths = key-sound s x i k S there .lengths in
@@ -227,10 +227,10 @@ nothing-zero = record { number = refl; confirm = refl; limited = refl; left = re
 -- a lookup ends so: with nothing, or with a held key of a sound pair
 data Ended (s : State) (x : List ℕ) (n : ℕ) : Type 0 where
   untold : keyTold s x n ≡ nothing → (Sound s x → Held (gatewayOf s x) n → ⊥) → Ended s x n
-  told : (S : Sound s x) (h : Held (gatewayOf s x) n) → keyTold s x n ≡ toldOf (s .clock .count) (h .place) (h .key) → Ended s x n
+  told : (S : Sound s x) (h : Held (gatewayOf s x) n) → keyTold s x n ≡ toldOf (s .clock) (h .place) (h .key) → Ended s x n
 
 module _ (s : State) (x : List ℕ) (n : ℕ) (a : Arrays s) where
-  held-told : (S : Sound s x) (h : Held (gatewayOf s x) n) → keyTold s x n ≡ toldOf (s .clock .count) (h .place) (h .key)
+  held-told : (S : Sound s x) (h : Held (gatewayOf s x) n) → keyTold s x n ≡ toldOf (s .clock) (h .place) (h .key)
   held-told S h = ap (keyTold s x) (sym (h .number)) ∙ told-held s x (h .place) (h .key) S (h .there)
 
   ended : Ended s x n

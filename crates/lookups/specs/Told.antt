@@ -61,7 +61,7 @@ unfoldable pub keyTold : State → List ℕ → ℕ → HeldKey
 keyTold s x n =
     cond (soundState s x)
     (found nothing (seek (hasNumber n) 0 (gatewayOf s x .places)) λ i.
-    toldIn (s .clock .count) i (getD (gatewayOf s x .places) i none))
+    toldIn (s .clock) i (getD (gatewayOf s x .places) i none))
     nothing
 
 -- ## The next number

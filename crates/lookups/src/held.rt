@@ -67,7 +67,7 @@ fn left_at(e: Entry, clock: Millis) -> Millis
 // What is told of the key in place i.
 fn told_at(state: State, store: &[u8], i: usize) -> HeldKey
     requires { ⌜ (i < 8) × Sound state (now store) ⌝ }
-    ensures { λ r. ⌜ ((k : Key) → HeldAt (gatewayOf state (now (store .entry))) i k → r ≡ toldOf (state .clock .count) i k) ⌝ }
+    ensures { λ r. ⌜ ((k : Key) → HeldAt (gatewayOf state (now (store .entry))) i k → r ≡ toldOf (state .clock) i k) ⌝ }
 {
     let es = state.entries;
     let e = es[i];

@@ -87,7 +87,7 @@ module _ (s : State) (x p : List ℕ) (t : Millis) (answers : Answers) (bytes bu
       unfolding refusalOf lentOf
       none-applies b = rw (le-ltb (length buffer) replyRoom h, eq-eqb (length x) storeSize (S .store-size), sound-passed s x S, le-ltb payloadLimit (length p) a, ← lent, le-ltb signatureLimit n b)
 
-      pub accepts : (r : Called) (y out : List ℕ) (raised : State) (z : List ℕ) → n ≤ signatureLimit → Means raised z (advance (t .count) (gatewayOf s x))
+      pub accepts : (r : Called) (y out : List ℕ) (raised : State) (z : List ℕ) → n ≤ signatureLimit → Means raised z (advance t (gatewayOf s x))
           → Ends buffer r y out (served (gatewayOf raised z) (record { payload = p }) (lentOf answers bytes)) → Gives r y out
       unfolding callOf
       accepts r y out raised z b m e =

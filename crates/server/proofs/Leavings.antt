@@ -75,7 +75,7 @@ refusedDone state store buffer n = record { called = record { outcome = Refused 
 
 -- what the rule gives of a step that is not refused
 abbrev servedHere : State → List ℕ → Step → Result
-servedHere state store k = served (advance (k .reading .count) (gatewayOf state store)) (record { payload = k .payload }) (lentOf (k .answers) (k .signature))
+servedHere state store k = served (advance (k .reading) (gatewayOf state store)) (record { payload = k .payload }) (lentOf (k .answers) (k .signature))
 
 abbrev refusalAt : State → List ℕ → Step → Option ℕ
 refusalAt state store k = refusalHere state store (k .payload) (k .reading) (k .answers) (k .signature) (k .buffer)
@@ -206,7 +206,7 @@ module _ (state : State) (store : List ℕ) (k : Step) (S : Sound state store) (
   ruled-by : (values : List ℕ) → EndedWith values k → ruled .outcome ≡ outcomeIn values (k .gave .reply)
   ruled-by values e = ruled-is _ (ap (λ (vs : List ℕ). outcomeIn vs (k .gave .reply)) e)
 
-  only-clock : ruled .gateway ≡ advance (k .reading .count) g → OnlyClock state store k
+  only-clock : ruled .gateway ≡ advance (k .reading) g → OnlyClock state store k
   only-clock e = subst (Means (k .gave .state) (k .gave .store)) e (ends .means)
 
   wrote : (o : calls.Outcome) → ruled .outcome ≡ o → k .gave .reply ≡ written o (k .buffer)

@@ -21,7 +21,7 @@ module _ (state : State) (store payload : List ℕ) (reading : Millis) (answers 
   callOf =
       given
       (refusalOf (length buffer) (length store) (soundState state store) (length payload) (lentLength (lentOf answers signature .signature)))
-      (laidOut buffer (served (advance (reading .count) (gatewayOf state store)) (record { payload = payload }) (lentOf answers signature)))
+      (laidOut buffer (served (advance reading (gatewayOf state store)) (record { payload = payload }) (lentOf answers signature)))
       λ n. record { called = record { outcome = Refused n; state = state }; store = store; reply = buffer }
 
   -- what a call gave is what `callOf` gives: the contract of every form of the call

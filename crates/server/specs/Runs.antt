@@ -89,7 +89,7 @@ abbrev pub asCall : Step → Call
 asCall k = record {
   request = k .request;
   frame = record { payload = k .payload };
-  reading = k .reading .count;
+  reading = k .reading;
   answers = lentOf (k .answers) (k .signature);
   buffer = length (k .buffer);
   store = storeSize;
@@ -148,7 +148,7 @@ pub record BitsTable (flags bits : ℕ) : Type 0 where
 
 -- state and store mean the gateway as it was, its clock raised and its due entries gone, and are sound
 abbrev pub OnlyClock : State → List ℕ → Step → Type 0
-OnlyClock state store k = Means (k .gave .state) (k .gave .store) (advance (k .reading .count) (gatewayOf state store))
+OnlyClock state store k = Means (k .gave .state) (k .gave .store) (advance (k .reading) (gatewayOf state store))
 
 -- and no byte of the reply buffer changed
 pub record Quiet (state : State) (store : List ℕ) (k : Step) : Type 0 where
@@ -253,7 +253,7 @@ module _ (Met : State → List ℕ → Step → Type 0) where
   abbrev pub CodeLists : Type 0
   CodeLists =
       (state : State) (store : List ℕ) (k : Step) (es : List Entry) → Sound state store → Met state store k → Accepted k → Begins 11 (k .payload)
-      → locked (gatewayOf state store) ≡ false → k .answers .gate ≡ Yes → Lists (advance (k .reading .count) (gatewayOf state store) .places) es
+      → locked (gatewayOf state store) ≡ false → k .answers .gate ≡ Yes → Lists (advance (k .reading) (gatewayOf state store) .places) es
       → Fronted (string (12 ∷ (be32 (length es) ++ itemForms es))) k
 
   -- "Questions and closing alter nothing but clock and expiry"

@@ -16,15 +16,15 @@ use Rattle.table.specs.Meaning.{entryFor, bytesFor, laid}
 abbrev pub roomOf : Place → ℕ
 roomOf p = length (bytesFor p)
 
-abbrev pub startOf : List Place → ℕ → ℕ
-startOf ps i = offset roomOf ps i
+abbrev pub startIn : List Place → ℕ → ℕ
+startIn ps i = offset roomOf ps i
 
-pub laid-size : (ps : List Place) → length (laid ps) ≡ startOf ps (length ps)
+pub laid-size : (ps : List Place) → length (laid ps) ≡ startIn ps (length ps)
 unfolding laid offset
 laid-size [] = refl
 laid-size (p ∷ ps) = rw (length-append, laid-size ps)
 
-laid-at : (ps : List Place) (i : ℕ) → i < length ps → take (roomOf (getD ps i none)) (drop (startOf ps i) (laid ps)) ≡ bytesFor (getD ps i none)
+laid-at : (ps : List Place) (i : ℕ) → i < length ps → take (roomOf (getD ps i none)) (drop (startIn ps i) (laid ps)) ≡ bytesFor (getD ps i none)
 unfolding laid offset
 laid-at [] i h = absurd (not-suc-le-zero h)
 laid-at (p ∷ ps) zero h = take-at (bytesFor p) (laid ps) (roomOf p) refl
@@ -35,16 +35,16 @@ laid-at (p ∷ ps) (suc i) h = rw (← drop-drop, drop-at (bytesFor p) (laid ps)
 put-behind : (a s b : List ℕ) (n k : ℕ) → putMid (length a + n) k (a ++ s) b ≡ a ++ putMid n k s b
 put-behind a s b n k = rw (take-append-add, drop-append-add, append-assoc)
 
-laid-set : (ps : List Place) (i : ℕ) (q : Place) → i < length ps → putMid (startOf ps i) (roomOf (getD ps i none)) (laid ps) (bytesFor q) ≡ laid (set ps i q)
+laid-set : (ps : List Place) (i : ℕ) (q : Place) → i < length ps → putMid (startIn ps i) (roomOf (getD ps i none)) (laid ps) (bytesFor q) ≡ laid (set ps i q)
 unfolding laid offset
 laid-set [] i q h = absurd (not-suc-le-zero h)
 laid-set (p ∷ ps) zero q h = rw (drop-at (bytesFor p) (laid ps) (roomOf p) refl)
 laid-set (p ∷ ps) (suc i) q h =
-    put-behind (bytesFor p) (laid ps) (bytesFor q) (startOf ps i) (roomOf (getD ps i none)) ∙ ap (λ (r : List ℕ). bytesFor p ++ r) (laid-set ps i q (le-of-suc-le-suc h))
+    put-behind (bytesFor p) (laid ps) (bytesFor q) (startIn ps i) (roomOf (getD ps i none)) ∙ ap (λ (r : List ℕ). bytesFor p ++ r) (laid-set ps i q (le-of-suc-le-suc h))
 
 -- the part of the store from `from` up to `to` is place i
 pub record Spans (ps : List Place) (i from to : ℕ) : Type 0 where
-  pub start : from ≡ startOf ps i
+  pub start : from ≡ startIn ps i
   pub span : to - from ≡ roomOf (getD ps i none)
 
 module _ (ps : List Place) (i from to : ℕ) (h : i < length ps) (spans : Spans ps i from to) (x : List ℕ) (store : x ≡ laid ps) where

@@ -1,5 +1,5 @@
 -- What is read of one place: its entry and its part of the store are the place that the meaning has there.
-use Prim.Native.Nat.{ℕ, zero, suc, _*_, _-_, _≤_, _<_}
+use Prim.Native.Nat.{ℕ, zero, suc, _≤_, _<_}
 use mathlib.Core.Path.{_≡_, refl, sym, ap, _∙_}
 use mathlib.Core.Bool.{true, not}
 use mathlib.Core.Option.{none, some}
@@ -7,9 +7,8 @@ use mathlib.Core.List.{List, [], _∷_}
 use native.Mathlib.Omega.{arith}
 use borrow.Author.Tests.{lt-ltb, eq-eqb, ne-eqb, eqb-true}
 use lib.Dec.{eqb, ltb}
-use lib.ListN.{length, take, drop, getD, length-drop}
-use lib.Seq.{length-take-le}
-use Rattle.wire.specs.Limits.{placeSize, storeSize, blobLimit}
+use lib.ListN.{length, take, getD}
+use Rattle.wire.specs.Limits.{storeSize, blobLimit}
 use Rattle.rule.specs.declared.Millis.{Millis}
 use Rattle.rule.specs.Gateway.{isFree}
 use Rattle.rule.proofs.Cases.{cond-cases}
@@ -17,29 +16,22 @@ use Rattle.table.specs.declared.Entry.{Entry}
 use Rattle.table.specs.declared.State.{State}
 use Rattle.table.specs.Each.{Each}
 use Rattle.table.specs.Bytes.{padded}
-use Rattle.table.specs.Meaning.{size, isSet, keyOf, placeOf, numberIn, confirmIn, blobIn, commentIn, view, gatewayOf, noEntry, keptComment, entryFor}
+use Rattle.table.specs.Meaning.{size, isSet, keyOf, placeOf, numberIn, confirmIn, blobIn, commentIn, view, gatewayOf, noEntry, partAt, keptComment, entryFor}
 use Rattle.table.specs.Soundness.{soundPlace, soundPlaces, SoundPlace, free, held, Housed, Sound}
 use Rattle.table.proofs.EachLaws.{each-length, each-at, every-at, each-says}
-use Rattle.table.proofs.SizeLaws.{place-start}
+use Rattle.table.proofs.SizeLaws.{place-lies}
 use Rattle.table.proofs.TestLaws.{place-says}
 use Rattle.table.proofs.WritingLaws.{Seen, seen-free, seen-held, seen}
-
--- the bytes of place i
-abbrev pub partAt : List ℕ → ℕ → List ℕ
-partAt x i = take placeSize (drop (i * placeSize) x)
-
-pub part-size : (x : List ℕ) (i : ℕ) → length x ≡ storeSize → i < 8 → length (partAt x i) ≡ placeSize
-part-size x i l h = let room : placeSize ≤ length (drop (i * placeSize) x) = rw length-drop (omega arith) in length-take-le placeSize (drop (i * placeSize) x) room
 
 module _ (es : List Entry) (x : List ℕ) (eight : length es ≡ 8) where
   pub view-length : length (view es x) ≡ 8
   view-length = each-length size placeOf es x ∙ eight
 
-  pub view-at : (i : ℕ) → i < 8 → getD (view es x) i none ≡ placeOf (getD es i noEntry) (partAt x i)
-  view-at i h = each-at size placeOf es x i noEntry none (omega arith) ∙ rw (place-start es i (omega arith))
+  pub view-at : (i : ℕ) → i < 8 → getD (view es x) i none ≡ placeOf (getD es i noEntry) (partAt es x i)
+  view-at i h = each-at size placeOf es x i noEntry none (omega arith)
 
-  sound-at : (clock : Millis) (next i : ℕ) → i < 8 → Each (SoundPlace clock next) size es x → SoundPlace clock next (getD es i noEntry) (partAt x i)
-  sound-at clock next i h all = rw (place-start es i (omega arith)) at (every-at size (SoundPlace clock next) es x i noEntry (omega arith) all)
+  sound-at : (clock : Millis) (next i : ℕ) → i < 8 → Each (SoundPlace clock next) size es x → SoundPlace clock next (getD es i noEntry) (partAt es x i)
+  sound-at clock next i h all = every-at size (SoundPlace clock next) es x i noEntry (omega arith) all
 
 -- ## What an entry says of its place
 
@@ -62,7 +54,7 @@ module _ (e : Entry) (p : List ℕ) where
 
 -- ## What soundness adds
 
-module _ (clock : Millis) (next : ℕ) (e : Entry) (p : List ℕ) (whole : length p ≡ placeSize) where
+module _ (clock : Millis) (next : ℕ) (e : Entry) (p : List ℕ) (whole : length p ≡ size e) where
   pub sound-confirm : SoundPlace clock next e p → isSet (e .confirm) ≡ confirmIn (placeOf e p)
   unfolding entryFor
   sound-confirm S = by-seen (seen clock next e p whole S)
@@ -80,7 +72,7 @@ module _ (clock : Millis) (next : ℕ) (e : Entry) (p : List ℕ) (whole : lengt
       by-seen (seen-held is _ _ _) = rw is
 
 -- what a free place keeps, and a held one, of its comment
-sound-comment : (clock : Millis) (next : ℕ) (e : Entry) (p : List ℕ) → length p ≡ placeSize → SoundPlace clock next e p → e .comment ≡ keptComment (commentIn (placeOf e p))
+sound-comment : (clock : Millis) (next : ℕ) (e : Entry) (p : List ℕ) → length p ≡ size e → SoundPlace clock next e p → e .comment ≡ keptComment (commentIn (placeOf e p))
 unfolding entryFor keptComment padded
 sound-comment clock next e p whole S = by-seen (seen clock next e p whole S)
   where
@@ -103,16 +95,16 @@ housed-by clock next es x eight size-x t =
 -- ## Of a sound state and store
 
 module _ (s : State) (x : List ℕ) (S : Sound s x) (i : ℕ) (h : i < 8) where
-  pub state-sound-at : SoundPlace (s .clock) (s .next) (getD (s .entries) i noEntry) (partAt x i)
+  pub state-sound-at : SoundPlace (s .clock) (s .next) (getD (s .entries) i noEntry) (partAt (s .entries) x i)
   state-sound-at = sound-at (s .entries) x (S .eight-entries) (s .clock) (s .next) i h (S .places)
 
-  pub state-blob : take (getD (s .entries) i noEntry .«blob_len») (partAt x i) ≡ blobIn (getD (gatewayOf s x .places) i none)
+  pub state-blob : take (getD (s .entries) i noEntry .«blob_len») (partAt (s .entries) x i) ≡ blobIn (getD (gatewayOf s x .places) i none)
   unfolding gatewayOf
-  state-blob = rw (view-at (s .entries) x (S .eight-entries) i h) (sound-blob _ _ _ _ (part-size x i (S .store-size) h) state-sound-at)
+  state-blob = rw (view-at (s .entries) x (S .eight-entries) i h) (sound-blob _ _ _ _ (place-lies (s .entries) x (S .eight-entries) (S .store-size) i h .whole) state-sound-at)
 
   pub state-comment : getD (s .entries) i noEntry .comment ≡ keptComment (commentIn (getD (gatewayOf s x .places) i none))
   unfolding gatewayOf
-  state-comment = rw (view-at (s .entries) x (S .eight-entries) i h) (sound-comment _ _ _ _ (part-size x i (S .store-size) h) state-sound-at)
+  state-comment = rw (view-at (s .entries) x (S .eight-entries) i h) (sound-comment _ _ _ _ (place-lies (s .entries) x (S .eight-entries) (S .store-size) i h .whole) state-sound-at)
 
   pub state-blob-fits : getD (s .entries) i noEntry .«blob_len» ≤ blobLimit
   state-blob-fits = sound-blob-fits _ _ _ _ state-sound-at

@@ -5,27 +5,39 @@ use mathlib.Core.Option.{none, some}
 use mathlib.Core.List.{List, [], _∷_, map}
 use native.Mathlib.Omega.{arith}
 use native.Mathlib.Nat.{not-suc-le-zero, le-of-suc-le-suc, le-refl, zero-mul, suc-mul}
-use lib.ListN.{length, getD, replicate, length-append, length-replicate}
+use lib.ListN.{length, drop, getD, replicate, length-append, length-drop, length-replicate}
+use lib.Seq.{length-take-le}
 use Rattle.wire.specs.Limits.{placeSize, storeSize, blobLimit, fieldsLimit}
 use Rattle.rule.specs.Gateway.{Entry as Key, Place, vacate}
 use Rattle.rule.specs.Soundness.{EveryEntry, Fits}
 use Rattle.table.specs.declared.Entry.{Entry}
 use Rattle.table.specs.Bytes.{Zeros}
 use Rattle.table.specs.Each.{offset}
-use Rattle.table.specs.Meaning.{size, heldBytes, entryFor, bytesFor, laid}
+use Rattle.table.specs.Meaning.{size, noEntry, startOf, partAt, heldBytes, entryFor, bytesFor, laid}
 use Rattle.table.proofs.ByteLaws.{padded-size, zeros-append}
 use Rattle.table.proofs.EachLaws.{offset-even}
-use Rattle.table.proofs.LayoutLaws.{roomOf, startOf, laid-size, Spans}
+use Rattle.table.proofs.LayoutLaws.{roomOf, startIn, laid-size, Spans}
 
 -- ## Entries
 
 -- place i begins behind i others
-pub place-start : (es : List Entry) (i : ℕ) → i ≤ length es → offset size es i ≡ i * placeSize
+pub place-start : (es : List Entry) (i : ℕ) → i ≤ length es → startOf es i ≡ i * placeSize
 place-start es i h = offset-even size placeSize (λ e. refl) es i h
 
 -- eight places fill the store
-pub entries-end : (es : List Entry) → length es ≡ 8 → offset size es (length es) ≡ storeSize
+pub entries-end : (es : List Entry) → length es ≡ 8 → startOf es (length es) ≡ storeSize
 entries-end es eight = place-start es (length es) (le-refl (length es)) ∙ ap (λ (n : ℕ). n * placeSize) eight
+
+-- place i lies in the store, and has room for its blob and its fields
+pub record Lies (es : List Entry) (x : List ℕ) (i : ℕ) : Type 0 where
+  pub inside : startOf es i + size (getD es i noEntry) ≤ length x
+  pub whole : length (partAt es x i) ≡ size (getD es i noEntry)
+
+pub place-lies : (es : List Entry) (x : List ℕ) → length es ≡ 8 → length x ≡ storeSize → (i : ℕ) → i < 8 → Lies es x i
+place-lies es x eight long i h =
+    let begins = place-start es i (omega arith) in
+    let room : placeSize ≤ length (drop (startOf es i) x) = rw length-drop (omega arith) in
+    record { inside = omega arith; whole = length-take-le placeSize (drop (startOf es i) x) room }
 
 -- ## What is written
 
@@ -64,7 +76,7 @@ fits-first : (p : Place) (ps : List Place) → EveryEntry KeyFits (p ∷ ps) →
 fits-first none ps all = record { first = free-size; rest = all }
 fits-first (some k) ps all = record { first = key-size k (all .0); rest = all .1 }
 
-start-even : (ps : List Place) → EveryEntry KeyFits ps → (i : ℕ) → i ≤ length ps → startOf ps i ≡ i * placeSize
+start-even : (ps : List Place) → EveryEntry KeyFits ps → (i : ℕ) → i ≤ length ps → startIn ps i ≡ i * placeSize
 unfolding offset
 start-even ps all zero h = sym (zero-mul placeSize)
 start-even [] all (suc i) h = absurd (not-suc-le-zero h)

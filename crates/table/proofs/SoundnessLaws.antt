@@ -11,7 +11,7 @@ use native.Mathlib.Nat.{not-suc-le-zero, le-of-suc-le-suc, sub-zero, suc-sub-suc
 use borrow.Author.Tests.{eq-eqb, ne-eqb}
 use lib.ListN.{length, take, drop, getD, length-drop, drop-of-length-le}
 use lib.Seq.{take-all, take-nil, drop-drop, drop-cons}
-use Rattle.wire.specs.Limits.{placeSize, blobLimit, fieldsAt}
+use Rattle.wire.specs.Limits.{blobLimit, fieldsAt}
 use Rattle.wire.specs.Read.{same}
 use Rattle.wire.proofs.Steps.{steps}
 use Rattle.rule.specs.declared.Millis.{Millis}
@@ -22,11 +22,11 @@ use Rattle.table.specs.declared.Entry.{Entry}
 use Rattle.table.specs.declared.LockRecord.{LockRecord}
 use Rattle.table.specs.Bytes.{allZero}
 use Rattle.table.specs.Each.{each}
-use Rattle.table.specs.Meaning.{size, keyOf, placeOf, view, noEntry}
+use Rattle.table.specs.Meaning.{size, keyOf, placeOf, view, noEntry, partAt}
 use Rattle.table.specs.Soundness.{soundComment, zeroComment, isFlag, soundFlags, soundLifetime, soundLock, soundPlace, all, soundPlaces, unlike, Housed}
 use Rattle.table.proofs.EachLaws.{each-length, each-at}
-use Rattle.table.proofs.SizeLaws.{place-start}
-use Rattle.table.proofs.ReadLaws.{partAt, part-size, view-length, view-at, place-free, place-held}
+use Rattle.table.proofs.SizeLaws.{place-lies}
+use Rattle.table.proofs.ReadLaws.{view-length, view-at, place-free, place-held}
 
 -- ## Tests
 
@@ -128,9 +128,9 @@ module _ (clock : Millis) (next : ℕ) (es : List Entry) (x : List ℕ) (eight :
   eight-tests : length (each (soundPlace clock next) size es x) ≡ 8
   eight-tests = each-length size (soundPlace clock next) es x ∙ eight
 
-  module _ (i : ℕ) (p : List ℕ) (b : Bool) (i-in : i < 8) (p-is : p ≡ partAt x i) (e : b ≡ soundPlace clock next (getD es i noEntry) p) where
+  module _ (i : ℕ) (p : List ℕ) (b : Bool) (i-in : i < 8) (p-is : p ≡ partAt es x i) (e : b ≡ soundPlace clock next (getD es i noEntry) p) where
     test-at : b ≡ getD (each (soundPlace clock next) size es x) i true
-    test-at = e ∙ rw (p-is, each-at size (soundPlace clock next) es x i noEntry true (omega arith), place-start es i (omega arith))
+    test-at = e ∙ rw (p-is, each-at size (soundPlace clock next) es x i noEntry true (omega arith))
 
     pub place-on : not b ≡ false → PlacesLeft clock next es x i → PlacesLeft clock next es x (i + 1)
     place-on t = walk-on all (λ t _. t) all-none all-goes true _ _ i b (rw eight-tests i-in) t test-at
@@ -200,13 +200,13 @@ module _ (es : List Entry) (x : List ℕ) (housed : Housed es x) where
   eight-places : length (view es x) ≡ 8
   eight-places = view-length es x (housed .eight-entries)
 
-  pub blob-inside : (i : ℕ) (p : List ℕ) → i < 8 → p ≡ partAt x i → getD es i noEntry .«blob_len» ≤ length p
+  pub blob-inside : (i : ℕ) (p : List ℕ) → i < 8 → p ≡ partAt es x i → getD es i noEntry .«blob_len» ≤ length p
   blob-inside i p h p-is =
-      let whole : length p ≡ placeSize = rw p-is (part-size x i (housed .store-size) h) in
+      let whole : length p ≡ size (getD es i noEntry) = rw p-is (place-lies es x (housed .eight-entries) (housed .store-size) i h .whole) in
       let fits = housed .blobs-fit i h in
       omega arith
 
-  module _ (i j : ℕ) (p q : List ℕ) (b : Bool) (i-in : i < 8) (j-in : j < 8) (p-is : p ≡ partAt x i) (q-is : q ≡ partAt x j) (e : b ≡ unlike (placeOf (getD es i noEntry) p) (placeOf (getD es j noEntry) q ∷ [])) where
+  module _ (i j : ℕ) (p q : List ℕ) (b : Bool) (i-in : i < 8) (j-in : j < 8) (p-is : p ≡ partAt es x i) (q-is : q ≡ partAt es x j) (e : b ≡ unlike (placeOf (getD es i noEntry) p) (placeOf (getD es j noEntry) q ∷ [])) where
     unlike-at : b ≡ unlike (getD (view es x) i none) (getD (view es x) j none ∷ [])
     unlike-at = e ∙ rw (p-is, q-is, view-at es x (housed .eight-entries) i i-in, view-at es x (housed .eight-entries) j j-in)
 

@@ -5,18 +5,18 @@ use mathlib.Core.Logic.{_≢_}
 use mathlib.Core.Option.{none, some}
 use mathlib.Core.List.{List}
 use lib.ListN.{length, getD}
-use Rattle.wire.specs.Limits.{placeSize, lastNumber}
+use Rattle.wire.specs.Limits.{lastNumber}
 use Rattle.rule.specs.declared.Millis.{Millis}
 use Rattle.rule.specs.Gateway.{Entry as Key, Place, NewKey}
 use Rattle.rule.specs.Soundness.{Fits}
 use Rattle.table.specs.declared.Entry.{Entry}
 use Rattle.table.specs.declared.State.{State}
-use Rattle.table.specs.Meaning.{placeOf, gatewayOf, Written}
+use Rattle.table.specs.Meaning.{size, placeOf, gatewayOf, Written}
 use Rattle.table.specs.Soundness.{Sound}
 
 -- an entry and the bytes of its place, as a sound state and store have them
 pub record Standing (clock : Millis) (e : Entry) (p : List ℕ) : Type 0 where
-  pub whole : length p ≡ placeSize
+  pub whole : length p ≡ size e
   pub reading-past : e .reading .count ≤ clock .count
   pub written : Written e p (placeOf e p)
 

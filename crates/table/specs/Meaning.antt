@@ -1,5 +1,5 @@
 -- What a state and its store mean, and the one way in which a gateway is written.
-use Prim.Native.Nat.{ℕ}
+use Prim.Native.Nat.{ℕ, _+_}
 use mathlib.Core.Path.{_≡_}
 use mathlib.Core.Bool.{Bool, true, false, cond}
 use mathlib.Core.Option.{none, some}
@@ -16,7 +16,7 @@ use Rattle.table.specs.declared.Entry.{Entry}
 use Rattle.table.specs.declared.LockRecord.{LockRecord}
 use Rattle.table.specs.declared.State.{State}
 use Rattle.table.specs.Bytes.{padded}
-use Rattle.table.specs.Each.{each}
+use Rattle.table.specs.Each.{each, offset, share}
 
 -- "Eight places, 4,096 bytes each in the store"
 abbrev pub size : Entry → ℕ
@@ -91,6 +91,20 @@ noEntry = record {
   «fields_len» = 0;
   comment = record { bytes = []; len = 0 };
 }
+
+-- ## Where it lies
+
+-- the bytes of place i begin behind those of the places before it
+abbrev pub startOf : List Entry → ℕ → ℕ
+startOf es i = offset size es i
+
+-- its key fields: "in the last 3,072"
+abbrev pub fieldsFrom : List Entry → ℕ → ℕ
+fieldsFrom es i = startOf es i + fieldsAt
+
+-- the bytes of place i
+abbrev pub partAt : List Entry → List ℕ → ℕ → List ℕ
+partAt es x i = share size es x i noEntry
 
 -- ## How it is written
 

@@ -11,12 +11,13 @@ ghost use mathlib.Core.Path.{_≡_};
 ghost use mathlib.Core.Bool.{not};
 ghost use mathlib.Core.Option.{none};
 ghost use mathlib.Core.List.{List};
-ghost use Prim.Native.Nat.{ℕ, _*_, _≤_, _<_};
-ghost use lib.ListN.{length, getD, take, drop};
-ghost use Rattle.wire.specs.Limits.{placeSize, storeSize};
+ghost use Prim.Native.Nat.{ℕ, _+_, _*_, _≤_, _<_};
+ghost use lib.ListN.{length, getD};
+ghost use Rattle.wire.specs.Limits.{placeSize, storeSize, fieldsAt};
 ghost use Rattle.wire.specs.Parts.{PartOf};
 ghost use Rattle.rule.specs.Gateway.{seek, holds, isFree, placeFor};
-ghost use Rattle.table.specs.Meaning.{isSet, gatewayOf, placeOf, numberIn, confirmIn, blobIn, commentIn, noEntry, keptComment};
+ghost use Rattle.table.specs.declared.Entry.{Entry};
+ghost use Rattle.table.specs.Meaning.{isSet, gatewayOf, placeOf, numberIn, confirmIn, blobIn, commentIn, noEntry, startOf, partAt, keptComment};
 ghost use Rattle.table.specs.Soundness.{Sound};
 
 // Where the bytes of place i begin; those of the last end where a ninth place would begin.
@@ -27,10 +28,18 @@ pub fn start_of(i: usize) -> usize
     i * limits::PLACE_SIZE
 }
 
+// Where its key fields begin.
+pub fn fields_from(i: usize) -> usize
+    requires { ⌜ i < 8 ⌝ }
+    ensures { λ r. ⌜ r ≡ i * placeSize + fieldsAt ⌝ }
+{
+    start_of(i) + limits::FIELDS_AT
+}
+
 // The bytes of place i.
 pub fn bytes_at(store: &[u8], i: usize) -> &[u8]
     requires { ⌜ (i < 8) × (length (now store) ≡ storeSize) ⌝ }
-    ensures { λ r. ⌜ PartOf (store .entry) (i * placeSize) (take placeSize (drop (i * placeSize) (now (store .entry)))) r ⌝ }
+    ensures { λ r. ⌜ ((es : List Entry) → length es ≡ 8 → PartOf (store .entry) (startOf es i) (partAt es (now (store .entry)) i) r) ⌝ }
 {
     let from = start_of(i);
     let to = start_of(i + 1);
@@ -70,7 +79,7 @@ pub fn confirm_at(state: State, i: usize) -> bool
 // The blob of a place's key, empty where the place is free; it begins where the place does.
 pub fn blob_at(state: State, store: &[u8], i: usize) -> &[u8]
     requires { ⌜ (i < 8) × Sound state (now store) ⌝ }
-    ensures { λ r. ⌜ PartOf (store .entry) (i * placeSize) (blobIn (getD (gatewayOf state (now (store .entry)) .places) i none)) r ⌝ }
+    ensures { λ r. ⌜ PartOf (store .entry) (startOf (state .entries) i) (blobIn (getD (gatewayOf state (now (store .entry)) .places) i none)) r ⌝ }
 {
     let es = state.entries;
     let e = es[i];

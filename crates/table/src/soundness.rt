@@ -15,9 +15,9 @@ ghost use mathlib.Core.Option.{none};
 ghost use mathlib.Core.List.{[], _∷_};
 ghost use Prim.Native.Nat.{_+_, _≤_, _<_};
 ghost use lib.ListN.{length, getD, drop};
-ghost use Rattle.wire.specs.Limits.{placeSize, storeSize};
+ghost use Rattle.wire.specs.Limits.{storeSize};
 ghost use Rattle.rule.specs.Soundness.{distinct};
-ghost use Rattle.table.specs.Meaning.{placeOf, view};
+ghost use Rattle.table.specs.Meaning.{size, placeOf, view};
 ghost use Rattle.table.specs.Soundness.{isFlag, soundFree, soundContent, soundHeld, soundPlace, soundPlaces, soundFlags, soundLifetime, soundLock, soundState, unlike, Housed};
 
 fn is_free_sound(e: Entry, p: &[u8]) -> bool
@@ -76,7 +76,7 @@ fn is_lifetime_sound(e: Entry) -> bool
 
 // The lengths of a held place, its comment, and the unused bytes.
 fn is_content_sound(e: Entry, p: &[u8]) -> bool
-    requires { ⌜ length (now p) ≡ placeSize ⌝ }
+    requires { ⌜ length (now p) ≡ size e ⌝ }
     ensures { λ r. ⌜ r ≡ soundContent e (now (p .entry)) ⌝ }
 {
     let n = e.blob_len;
@@ -105,7 +105,7 @@ fn is_content_sound(e: Entry, p: &[u8]) -> bool
 }
 
 fn is_held_sound(e: Entry, p: &[u8], clock: Millis, next: u64) -> bool
-    requires { ⌜ length (now p) ≡ placeSize ⌝ }
+    requires { ⌜ length (now p) ≡ size e ⌝ }
     ensures { λ r. ⌜ r ≡ soundHeld clock next e (now (p .entry)) ⌝ }
 {
     if next <= e.number {
@@ -124,7 +124,7 @@ fn is_held_sound(e: Entry, p: &[u8], clock: Millis, next: u64) -> bool
 }
 
 fn is_place_sound(e: Entry, p: &[u8], clock: Millis, next: u64) -> bool
-    requires { ⌜ length (now p) ≡ placeSize ⌝ }
+    requires { ⌜ length (now p) ≡ size e ⌝ }
     ensures { λ r. ⌜ r ≡ soundPlace clock next e (now (p .entry)) ⌝ }
 {
     if e.number == 0 {

@@ -2,10 +2,11 @@
 use native.Mathlib.Omega.{arith}
 use borrow.Author.Needs.{needs}
 use mathlib.Core.Path.{_≡_, sym, ap, _∙_}
-use lib.ListN.{length}
+use lib.ListN.{length, getD}
 use lib.Seq.{length-take-le}
-use Rattle.wire.specs.Limits.{placeSize}
-use Rattle.table.proofs.ReadLaws.{part-size, state-blob, state-blob-fits}
+use Rattle.table.specs.Meaning.{size, noEntry}
+use Rattle.table.proofs.SizeLaws.{place-lies}
+use Rattle.table.proofs.ReadLaws.{state-blob, state-blob-fits}
 use Rattle.table.proofs.places.blob_at.Statement.{statement}
 use Rattle.table.proofs.places.blob_at.Tie as tie
 
@@ -14,7 +15,10 @@ front c =
     let p = c .before in
     let st = p .before .before .before .before in
     let a = st .args in
-    let whole : length (p .bytes-at .result .now) ≡ placeSize = ap length (p .bytes-at .ensures .bytes) ∙ part-size (a .store .now) (a .i) (st .pre .1 .store-size) (st .pre .0) in
+    let es = a .state .entries in
+    let S = st .pre .1 in
+    let whole : length (p .bytes-at .result .now) ≡ size (getD es (a .i) noEntry)
+    = ap length (p .bytes-at .ensures es (S .eight-entries) .bytes) ∙ place-lies es (a .store .now) (S .eight-entries) (S .store-size) (a .i) (st .pre .0) .whole in
     let fits = state-blob-fits (a .state) (a .store .now) (st .pre .1) (a .i) (st .pre .0) in
     sym (length-take-le _ (p .bytes-at .result .now) (omega arith))
 
@@ -22,7 +26,7 @@ returns : tie.Need-returns
 returns c =
     let from = c .before in
     let st = from .before .before .before .before in
-    let place = from .bytes-at .ensures in
+    let place = from .bytes-at .ensures (st .args .state .entries) (st .pre .1 .eight-entries) in
     record {
       bytes = rw (place .bytes) (state-blob (st .args .state) (st .args .store .now) (st .pre .1) (st .args .i) (st .pre .0));
       block = place .block;

@@ -2,17 +2,21 @@
 use native.Mathlib.Omega.{arith}
 use borrow.Author.Needs.{needs}
 use Prim.Native.Nat.{_-_}
-use mathlib.Core.Path.{_≡_}
-use Rattle.wire.specs.Limits.{placeSize}
+use mathlib.Core.Path.{_≡_, sym, _∙_}
+use lib.ListN.{getD}
+use Rattle.table.specs.Meaning.{size, noEntry, startOf}
+use Rattle.table.proofs.SizeLaws.{place-start}
 use Rattle.table.proofs.places.bytes_at.Statement.{statement}
 use Rattle.table.proofs.places.bytes_at.Tie as tie
 
 returns : tie.Need-returns
-returns c =
+returns c es eight =
     let to = c .before .start-of2 in
     let from = c .before .before .start-of in
-    let span : to .result - from .result ≡ placeSize = omega (arith, to .ensures, from .ensures) in
-    record { bytes = rw (span, from .ensures); block = search needs; place = rw (from .ensures) (search needs) }
+    let i = c .before .before .before .before .args .i in
+    let begins : from .result ≡ startOf es i = from .ensures ∙ sym (place-start es i (omega arith)) in
+    let span : to .result - from .result ≡ size (getD es i noEntry) = omega (arith, to .ensures, from .ensures) in
+    record { bytes = rw (span, begins); block = search needs; place = rw begins (search needs) }
 
 pub bytes-at-spec : {M : Type 1} → statement M
 bytes-at-spec =

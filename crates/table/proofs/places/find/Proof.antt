@@ -3,11 +3,11 @@ use native.Mathlib.Omega.{arith}
 use borrow.Author.Needs.{needs}
 use Prim.Native.Nat.{_≤_, _-_}
 use mathlib.Core.Path.{_≡_, refl, sym, ap, _∙_}
-use lib.ListN.{length, drop}
-use Rattle.wire.specs.Limits.{placeSize}
+use lib.ListN.{length, drop, getD}
 use Rattle.rule.specs.Gateway.{seek, holds}
-use Rattle.table.specs.Meaning.{view, gatewayOf}
-use Rattle.table.proofs.ReadLaws.{view-length, view-at, part-size, state-blob-fits}
+use Rattle.table.specs.Meaning.{size, view, gatewayOf, noEntry}
+use Rattle.table.proofs.ReadLaws.{view-length, view-at, state-blob-fits}
+use Rattle.table.proofs.SizeLaws.{place-lies}
 use Rattle.table.proofs.SeekLaws.{seek-step, seek-stop, seek-end}
 use Rattle.table.proofs.places.find.Statement.{statement}
 use Rattle.table.proofs.places.find.Tie as tie
@@ -24,7 +24,10 @@ is-holding-requires c κs =
     let loop = turn .loop in
     let st = turn .before .before .before .before in
     let x = st .args .store .now in
-    let whole : length (c .bytes-at .result .now) ≡ placeSize = ap length (c .bytes-at .ensures .bytes) ∙ part-size x (loop .i) (st .pre .store-size) (omega arith) in
+    let es = st .args .state .entries in
+    let S = st .pre in
+    let whole : length (c .bytes-at .result .now) ≡ size (getD es (loop .i) noEntry)
+    = ap length (c .bytes-at .ensures es (S .eight-entries) .bytes) ∙ place-lies es x (S .eight-entries) (S .store-size) (loop .i) (omega arith) .whole in
     let fits = state-blob-fits (st .args .state) x (st .pre) (loop .i) (omega arith) in
     omega arith
 
@@ -39,7 +42,7 @@ returns c =
     let S = st .pre in
     let long = view-length (s .entries) x (S .eight-entries) in
     let test = holds (st .args .blob .now) in
-    let here = ap test (view-at (s .entries) x (S .eight-entries) (loop .i) (omega arith)) ∙ rw (← c .before .before .bytes-at .ensures .bytes) (sym (c .before .is-holding .ensures)) ∙ c .if1 .taken in
+    let here = ap test (view-at (s .entries) x (S .eight-entries) (loop .i) (omega arith)) ∙ rw (← c .before .before .bytes-at .ensures (s .entries) (S .eight-entries) .bytes) (sym (c .before .is-holding .ensures)) ∙ c .if1 .taken in
     sym (loop .inv .1 ∙ seek-stop test (view (s .entries) x) (loop .i) (omega arith) here)
 
 loop-again : tie.Need-loop-again Inv-loop μ-loop
@@ -52,7 +55,7 @@ loop-again c =
     let S = st .pre in
     let long = view-length (s .entries) x (S .eight-entries) in
     let test = holds (st .args .blob .now) in
-    let here = ap test (view-at (s .entries) x (S .eight-entries) (loop .i) (omega arith)) ∙ rw (← c .before .before .bytes-at .ensures .bytes) (sym (c .before .is-holding .ensures)) ∙ c .if1 .left in
+    let here = ap test (view-at (s .entries) x (S .eight-entries) (loop .i) (omega arith)) ∙ rw (← c .before .before .bytes-at .ensures (s .entries) (S .eight-entries) .bytes) (sym (c .before .is-holding .ensures)) ∙ c .if1 .left in
     (omega arith, loop .inv .1 ∙ seek-step test (view (s .entries) x) (loop .i) (omega arith) here)
 
 returns-2 : tie.Need-returns-2 Inv-loop μ-loop

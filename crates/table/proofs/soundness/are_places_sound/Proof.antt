@@ -2,9 +2,9 @@
 use borrow.Author.Needs.{needs}
 use native.Mathlib.Omega.{arith}
 use Prim.Native.Nat.{_≤_, _-_}
-use mathlib.Core.Path.{_≡_}
+use mathlib.Core.Path.{_≡_, ap, _∙_}
 use lib.ListN.{length}
-use Rattle.table.proofs.ReadLaws.{part-size}
+use Rattle.table.proofs.SizeLaws.{place-lies}
 use Rattle.table.proofs.SoundnessLaws.{PlacesLeft, places-all, place-on, place-out, places-end}
 use Rattle.table.proofs.soundness.are_places_sound.Statement.{statement}
 use Rattle.table.proofs.soundness.are_places_sound.Tie as tie
@@ -16,17 +16,21 @@ abbrev μ-loop : tie.MeasureT-loop
 μ-loop store clock next es i₀ i = 8 - i
 
 is-place-sound-requires : tie.Need-is-place-sound-requires Inv-loop μ-loop
-is-place-sound-requires c κs = rw (c .bytes-at .ensures .bytes) (part-size _ (c .before .before .before .loop .i) (c .before .before .before .before .before .pre) (omega arith))
+is-place-sound-requires c κs =
+    let turn = c .before .before .before in
+    let l = turn .loop in
+    let es = turn .before .before .args .t1 in
+    ap length (c .bytes-at .ensures es (l .inv .1) .bytes) ∙ place-lies es _ (l .inv .1) (turn .before .before .pre) (l .i) (omega arith) .whole
 
 returns : tie.Need-returns Inv-loop μ-loop
 returns c =
     let l = c .before .before .before .before .before .loop in
-    place-out _ _ _ _ (l .inv .1) (l .i) _ _ (omega arith) (c .before .before .bytes-at .ensures .bytes) (c .before .is-place-sound .ensures) (c .if1 .taken) (l .inv .2)
+    place-out _ _ _ _ (l .inv .1) (l .i) _ _ (omega arith) (c .before .before .bytes-at .ensures _ (l .inv .1) .bytes) (c .before .is-place-sound .ensures) (c .if1 .taken) (l .inv .2)
 
 loop-again : tie.Need-loop-again Inv-loop μ-loop
 loop-again c =
     let l = c .before .before .before .before .before .loop in
-    (omega arith, l .inv .1, place-on _ _ _ _ (l .inv .1) (l .i) _ _ (omega arith) (c .before .before .bytes-at .ensures .bytes) (c .before .is-place-sound .ensures) (c .if1 .left) (l .inv .2))
+    (omega arith, l .inv .1, place-on _ _ _ _ (l .inv .1) (l .i) _ _ (omega arith) (c .before .before .bytes-at .ensures _ (l .inv .1) .bytes) (c .before .is-place-sound .ensures) (c .if1 .left) (l .inv .2))
 
 returns-2 : tie.Need-returns-2 Inv-loop μ-loop
 returns-2 c = let l = c .before .loop in places-end _ _ _ _ (l .inv .1) (l .i) (omega arith) (l .inv .2)

@@ -19,7 +19,7 @@ is-apart-requires c κs =
     let first = turn .before in
     let h = first .before .before .before .pre in
     let l = turn .loop in
-    (blob-inside _ _ (h .1) _ _ (h .0) (first .bytes-at .ensures .bytes), blob-inside _ _ (h .1) (l .j) _ (omega arith) (c .bytes-at2 .ensures .bytes))
+    (blob-inside _ _ (h .1) _ _ (h .0) (first .bytes-at .ensures _ (h .1 .eight-entries) .bytes), blob-inside _ _ (h .1) (l .j) _ (omega arith) (c .bytes-at2 .ensures _ (h .1 .eight-entries) .bytes))
 
 returns : tie.Need-returns Inv-loop μ-loop
 returns c =
@@ -29,7 +29,7 @@ returns c =
     let first = turn .before in
     let h = first .before .before .before .pre in
     let l = turn .loop in
-    other-out _ _ (h .1) _ (l .j) _ _ _ (h .0) (omega arith) (first .bytes-at .ensures .bytes) (second .bytes-at2 .ensures .bytes) (asked .is-apart .ensures) (c .if1 .taken) (l .inv .1)
+    other-out _ _ (h .1) _ (l .j) _ _ _ (h .0) (omega arith) (first .bytes-at .ensures _ (h .1 .eight-entries) .bytes) (second .bytes-at2 .ensures _ (h .1 .eight-entries) .bytes) (asked .is-apart .ensures) (c .if1 .taken) (l .inv .1)
 
 loop-again : tie.Need-loop-again Inv-loop μ-loop
 loop-again c =
@@ -39,7 +39,7 @@ loop-again c =
     let first = turn .before in
     let h = first .before .before .before .pre in
     let l = turn .loop in
-    (omega arith, other-on _ _ (h .1) _ (l .j) _ _ _ (h .0) (omega arith) (first .bytes-at .ensures .bytes) (second .bytes-at2 .ensures .bytes) (asked .is-apart .ensures) (c .if1 .left) (l .inv .1))
+    (omega arith, other-on _ _ (h .1) _ (l .j) _ _ _ (h .0) (omega arith) (first .bytes-at .ensures _ (h .1 .eight-entries) .bytes) (second .bytes-at2 .ensures _ (h .1 .eight-entries) .bytes) (asked .is-apart .ensures) (c .if1 .left) (l .inv .1))
 
 returns-2 : tie.Need-returns-2 Inv-loop μ-loop
 returns-2 c = let l = c .before .loop in others-end _ _ (c .before .before .before .before .before .pre .1) _ (l .j) (omega arith) (l .inv .1)
