@@ -1,40 +1,42 @@
 -- What is promised of one key: the search ends at the place that holds it, and what is told of it there is the key's.
-use Prim.Native.Nat.{ℕ, zero, suc, _+_, _*_, _-_, max, _≤_, _<_}
+use Prim.Native.Nat.{ℕ, zero, suc, _+_, _-_, _≤_, _<_}
 use mathlib.Core.Path.{_≡_, refl, sym, ap, _∙_, subst}
 use mathlib.Core.Logic.{_≢_, _⊎_, inl, inr}
 use mathlib.Core.Bool.{Bool, true, false}
 use mathlib.Core.Option.{none, some}
 use mathlib.Core.List.{List, [], _∷_}
 use native.Mathlib.Omega.{arith}
-use native.Mathlib.Nat.{max-eq-right}
 use borrow.Author.Tests.{eq-eqb, le-leb, lt-leb, leb-true}
 use lib.Dec.{leb}
 use lib.ListN.{length, getD, take, drop, length-replicate}
 use lib.Seq.{take-take, drop-drop, length-take-le}
 use Rattle.wire.specs.declared.Seconds.{Seconds}
-use Rattle.wire.specs.Limits.{placeSize, storeSize, blobLimit, fieldsLimit, fieldsAt, commentLimit, passphraseLimit}
+use Rattle.wire.specs.Limits.{storeSize, blobLimit, fieldsLimit, fieldsAt, commentLimit, passphraseLimit}
 use Rattle.wire.specs.Read.{cutOf}
 use Rattle.wire.proofs.Reading.{le-or-lt, cut-there}
 use Rattle.keys.specs.declared.constraints.Lifetime.{Lifetime}
 use Rattle.keys.specs.declared.constraints.Lifetime.the-variants.{Forever, For}
+use Rattle.rule.specs.declared.Millis.{Millis}
 use Rattle.rule.specs.declared.Found.{Found}
 use Rattle.rule.specs.declared.Found.the-variants.{At, Nothing}
-use Rattle.rule.specs.Gateway.{Entry as Key, Place, Gateway, millisOf, dueAt, lasting, atClock, advance, seek, found}
+use Rattle.rule.specs.Gateway.{Entry as Key, Place, Gateway, millisOf, dueAt, lasting, atClock, later, advance, seek, found}
 use Rattle.rule.specs.Soundness as rule
 use Rattle.rule.specs.Soundness.{Distinct, SoundEntry}
 use Rattle.rule.specs.Words.{HeldAt}
 use Rattle.rule.proofs.Cases.{true-not-false, cond-cases}
+use Rattle.rule.proofs.Clock.{same-count}
 use Rattle.rule.proofs.PlaceLaws.{some-not-none, same-entry, Holds, every-at, distinct-at, getD-map, First, seek-first, seek-none}
 use Rattle.table.specs.declared.Comment.{Comment}
 use Rattle.table.specs.declared.Entry.{Entry}
 use Rattle.table.specs.declared.State.{State}
 use Rattle.table.specs.Bytes.{padded}
-use Rattle.table.specs.Meaning.{gatewayOf, placeOf, keyOf, noEntry, keptComment, flagOf, limitedFlag, entryFor}
+use Rattle.table.specs.Meaning.{size, gatewayOf, placeOf, keyOf, noEntry, startOf, fieldsFrom, partAt, keptComment, flagOf, limitedFlag, entryFor}
 use Rattle.table.specs.Soundness.{soundState, Sound}
 use Rattle.table.proofs.ByteLaws.{padded-size, padded-front, padded-rest}
+use Rattle.table.proofs.SizeLaws.{in-store}
 use Rattle.table.proofs.TestLaws.{sound-state-rule}
 use Rattle.table.proofs.WritingLaws.{sound-meaning}
-use Rattle.table.proofs.ReadLaws.{partAt, part-size, view-at, place-free, place-held}
+use Rattle.table.proofs.ReadLaws.{view-at, place-free, place-held}
 use Rattle.lookups.specs.declared.HeldKey.{HeldKey}
 use Rattle.lookups.specs.Told.{hasNumber, leftAt, nothing, toldOf, keyTold}
 use Rattle.lookups.specs.Promises.{Held, Arrays, Says, Tells, KeyRule, LeftSays, LeftRule, AllZero, NothingRule, ToldRule, PartsWithin, PartsRule}
@@ -86,7 +88,7 @@ module _ (s : State) (x : List ℕ) (i : ℕ) (k : Key) (S : Sound s x) (there :
   meant : rule.Sound g
   meant = sound-meaning s x S
 
-  told-held : keyTold s x (k .number) ≡ toldOf (s .clock) i k
+  told-held : keyTold s x (k .number) ≡ toldOf s i k
   told-held = sym (key-found s x (k .number) (is-sound s x S) i k (number-found (g .places) (meant .distinct) i k there) there)
 
   pub key-sound : SoundEntry (g .clock) (g .next) k
@@ -99,13 +101,13 @@ module _ (s : State) (x : List ℕ) (i : ℕ) (k : Key) (S : Sound s x) (there :
   entry = entry-is s x S i inside k there
 
   -- its bytes are those of its place
-  key-is : k ≡ keyOf (getD (s .entries) i noEntry) (partAt x i)
+  key-is : k ≡ keyOf (getD (s .entries) i noEntry) (partAt (s .entries) x i)
   unfolding gatewayOf entryFor
   key-is =
       let e = getD (s .entries) i noEntry in
       let same-number : e .number ≡ k .number = ap (λ (e : Entry). e .number) entry in
       let first = key-sound .number-first in
-      same-entry (sym there ∙ view-at (s .entries) x (S .eight-entries) i inside ∙ place-held e (partAt x i) (λ never. omega arith))
+      same-entry (sym there ∙ view-at (s .entries) x (S .eight-entries) i inside ∙ place-held e (partAt (s .entries) x i) (λ never. omega arith))
 
 -- a part of a place is a part of the store
 front : (at n w : ℕ) (l : List ℕ) → at + n ≤ w → take n (drop at (take w l)) ≡ take n (drop at l)
@@ -114,14 +116,14 @@ front (suc at) n zero l h = absurd (omega arith)
 front (suc at) n (suc w) [] h = refl
 front (suc at) n (suc w) (b ∷ l) h = front at n w l (omega arith)
 
-part-cut : (x : List ℕ) (o at n f : ℕ) (v : List ℕ) → v ≡ take n (drop at (take placeSize (drop o x))) → length v ≡ n → at + n ≤ placeSize → o + placeSize ≤ length x → f ≡ o + at
+part-cut : (x : List ℕ) (o w at n f : ℕ) (v : List ℕ) → v ≡ take n (drop at (take w (drop o x))) → length v ≡ n → at + n ≤ w → o + w ≤ length x → f ≡ o + at
     → cutOf x f (f + length v) ≡ v
-part-cut x o at n f v v-is long fits room f-is =
+part-cut x o w at n f v v-is long fits room f-is =
     let span : f + length v - f ≡ n = omega arith in
     sym (cut-there x f (f + length v) (omega arith) (omega arith))
     ∙ (λ j. take (span j) (drop (f-is j) x))
     ∙ ap (take n) (sym (drop-drop at o x))
-    ∙ sym (front at n placeSize (drop o x) fits)
+    ∙ sym (front at n w (drop o x) fits)
     ∙ sym v-is
 
 kept-says : (c : List ℕ) → length c ≤ commentLimit → Says (keptComment c) c
@@ -129,7 +131,7 @@ unfolding keptComment
 kept-says c h = record { long = refl; text-is = padded-front commentLimit c; rest = padded-rest commentLimit c; whole = padded-size commentLimit c h }
 
 module _ (s : State) (x : List ℕ) (i : ℕ) (k : Key) (S : Sound s x) (there : HeldAt (gatewayOf s x) i k) where
-  told-tells : Tells x k (toldOf (s .clock) i k)
+  told-tells : Tells x k (toldOf s i k)
   unfolding toldOf entryFor
   told-tells =
       let e = getD (s .entries) i noEntry in
@@ -138,9 +140,7 @@ module _ (s : State) (x : List ℕ) (i : ℕ) (k : Key) (S : Sound s x) (there :
       let lengths = key-sound s x i k S there .lengths in
       let blob-fits = lengths .blob-fits in
       let fields-fit = lengths .fields-fit in
-      let within = inside s x i k S there in
-      let whole = S .store-size in
-      let room : i * placeSize + placeSize ≤ length x = omega arith in
+      let room = in-store (s .entries) x (S .eight-entries) (S .store-size) i (inside s x i k S there) .inside in
       let blob-long : length (k .blob) ≡ e .«blob_len» = sym (ap (λ (e : Entry). e .«blob_len») written) in
       let fields-long : length (k .fields) ≡ e .«fields_len» = sym (ap (λ (e : Entry). e .«fields_len») written) in
       record {
@@ -149,19 +149,18 @@ module _ (s : State) (x : List ℕ) (i : ℕ) (k : Key) (S : Sound s x) (there :
         no-confirm = λ no. ap flagOf no;
         limited = λ seconds l. ap limitedFlag l;
         unlimited = λ l. ap limitedFlag l;
-        blob = part-cut x (i * placeSize) 0 (e .«blob_len») (i * placeSize) (k .blob) (ap (λ (k : Key). k .blob) bytes) blob-long (omega arith) room (omega arith);
-        fields = part-cut x (i * placeSize) fieldsAt (e .«fields_len») (i * placeSize + fieldsAt) (k .fields) (ap (λ (k : Key). k .fields) bytes) fields-long (omega arith) room refl;
+        blob = part-cut x (startOf (s .entries) i) (size e) 0 (e .«blob_len») (startOf (s .entries) i) (k .blob) (ap (λ (k : Key). k .blob) bytes) blob-long (omega arith) room (omega arith);
+        fields = part-cut x (startOf (s .entries) i) (size e) fieldsAt (e .«fields_len») (fieldsFrom (s .entries) i) (k .fields) (ap (λ (k : Key). k .fields) bytes) fields-long (omega arith) room refl;
         comment = kept-says (k .comment) (lengths .comment-fits);
       }
 
-  told-within : PartsWithin x (toldOf (s .clock) i k)
+  told-within : PartsWithin x (toldOf s i k)
   unfolding toldOf keptComment
   told-within =
       let lengths = key-sound s x i k S there .lengths in
       let blob-fits = lengths .blob-fits in
       let fields-fit = lengths .fields-fit in
-      let within = inside s x i k S there in
-      let whole = S .store-size in
+      let room = in-store (s .entries) x (S .eight-entries) (S .store-size) i (inside s x i k S there) .inside in
       record { blob-ordered = omega arith; blob-within = omega arith; fields-ordered = omega arith; fields-within = omega arith; comment-within = lengths .comment-fits }
 
 pub key-rule : KeyRule
@@ -169,40 +168,48 @@ key-rule s x i k S there = subst (Tells x k) (sym (told-held s x i k S there)) (
 
 -- ## What is left
 
-due-gone : (clock : ℕ) (k : Key) → dueAt clock (k .reading) (k .lifetime) ≡ true → lasting clock (some k) ≡ none
+due-gone : (clock : Millis) (k : Key) → dueAt clock (k .reading) (k .lifetime) ≡ true → lasting clock (some k) ≡ none
 unfolding lasting
 due-gone clock k t = rw t
 
-undue-stays : (clock : ℕ) (k : Key) → dueAt clock (k .reading) (k .lifetime) ≡ false → lasting clock (some k) ≡ some k
+undue-stays : (clock : Millis) (k : Key) → dueAt clock (k .reading) (k .lifetime) ≡ false → lasting clock (some k) ≡ some k
 unfolding lasting
 undue-stays clock k t = rw t
 
-module _ (g : Gateway) (i : ℕ) (k : Key) (there : HeldAt g i k) (past : k .reading ≤ g .clock) where
-  after : (reading clock : ℕ) → max (g .clock) reading ≡ clock → getD (advance reading g .places) i none ≡ lasting clock (some k)
+module _ (g : Gateway) (i : ℕ) (k : Key) (there : HeldAt g i k) (past : k .reading .count ≤ g .clock .count) where
+  after : (reading clock : Millis) → later (g .clock) reading ≡ clock → getD (advance reading g .places) i none ≡ lasting clock (some k)
   unfolding advance atClock lasting
-  after reading clock m = getD-map (lasting (max (g .clock) reading)) refl (g .places) i ∙ ap (lasting (max (g .clock) reading)) there ∙ ap (λ (c : ℕ). lasting c (some k)) m
+  after reading clock m = getD-map (lasting (later (g .clock) reading)) refl (g .places) i ∙ ap (lasting (later (g .clock) reading)) there ∙ ap (λ (c : Millis). lasting c (some k)) m
 
   module _ (seconds : Seconds) (l : k .lifetime ≡ For seconds) (t : ℕ) where
-    left-is : leftAt (g .clock) (k .reading) (k .lifetime) ≡ millisOf seconds - (g .clock - k .reading)
+    -- t more than the kept clock
+    abbrev then : Millis
+    then = record { count = g .clock .count + t }
+
+    -- how much of the lifetime is used up then
+    abbrev past-then : ℕ
+    past-then = then .count - k .reading .count
+
+    left-is : leftAt (g .clock) (k .reading) (k .lifetime) .count ≡ millisOf seconds .count - (g .clock .count - k .reading .count)
     unfolding leftAt
-    left-is = ap (leftAt (g .clock) (k .reading)) l
+    left-is = ap (λ (l : Lifetime). leftAt (g .clock) (k .reading) l .count) l
 
-    due-is : dueAt (g .clock + t) (k .reading) (k .lifetime) ≡ leb (millisOf seconds) (g .clock + t - k .reading)
+    due-is : dueAt then (k .reading) (k .lifetime) ≡ leb (millisOf seconds .count) past-then
     unfolding dueAt
-    due-is = ap (dueAt (g .clock + t) (k .reading)) l
+    due-is = ap (dueAt then (k .reading)) l
 
-    then : getD (advance (g .clock + t) g .places) i none ≡ lasting (g .clock + t) (some k)
-    then = after (g .clock + t) (g .clock + t) (max-eq-right (omega arith))
+    place-then : getD (advance then g .places) i none ≡ lasting then (some k)
+    place-then = after then then (same-count (omega arith))
 
-    goes-then : leftAt (g .clock) (k .reading) (k .lifetime) ≤ t → getD (advance (g .clock + t) g .places) i none ≡ none
-    goes-then h = then ∙ due-gone (g .clock + t) k (due-is ∙ le-leb (millisOf seconds) (g .clock + t - k .reading) (let e = left-is in omega arith))
+    goes-then : leftAt (g .clock) (k .reading) (k .lifetime) .count ≤ t → getD (advance then g .places) i none ≡ none
+    goes-then h = place-then ∙ due-gone then k (due-is ∙ le-leb (millisOf seconds .count) past-then (let e = left-is in omega arith))
 
-    was-left : getD (advance (g .clock + t) g .places) i none ≡ none → leftAt (g .clock) (k .reading) (k .lifetime) ≤ t
-    was-left gone = by-order (le-or-lt (millisOf seconds) (g .clock + t - k .reading))
+    was-left : getD (advance then g .places) i none ≡ none → leftAt (g .clock) (k .reading) (k .lifetime) .count ≤ t
+    was-left gone = by-order (le-or-lt (millisOf seconds .count) past-then)
       where
-        by-order : (millisOf seconds ≤ g .clock + t - k .reading) ⊎ (g .clock + t - k .reading < millisOf seconds) → leftAt (g .clock) (k .reading) (k .lifetime) ≤ t
+        by-order : (millisOf seconds .count ≤ past-then) ⊎ (past-then < millisOf seconds .count) → leftAt (g .clock) (k .reading) (k .lifetime) .count ≤ t
         by-order (inl h) = let e = left-is in omega arith
-        by-order (inr h) = absurd (some-not-none (sym (undue-stays (g .clock + t) k (due-is ∙ lt-leb _ _ h)) ∙ sym then ∙ gone))
+        by-order (inr h) = absurd (some-not-none (sym (undue-stays then k (due-is ∙ lt-leb _ _ h)) ∙ sym place-then ∙ gone))
 
   left-says : LeftSays g i k (leftAt (g .clock) (k .reading) (k .lifetime))
   unfolding leftAt dueAt
@@ -215,7 +222,7 @@ module _ (g : Gateway) (i : ℕ) (k : Key) (there : HeldAt g i k) (past : k .rea
 pub left-rule : LeftRule
 unfolding toldOf gatewayOf
 left-rule s x i k S there =
-    subst (λ (r : HeldKey). LeftSays (gatewayOf s x) i k (r .left .count)) (sym (told-held s x i k S there))
+    subst (λ (r : HeldKey). LeftSays (gatewayOf s x) i k (r .left)) (sym (told-held s x i k S there))
     (left-says (gatewayOf s x) i k there (key-sound s x i k S there .reading-past))
 
 -- ## Nothing told
@@ -227,10 +234,10 @@ nothing-zero = record { number = refl; confirm = refl; limited = refl; left = re
 -- a lookup ends so: with nothing, or with a held key of a sound pair
 data Ended (s : State) (x : List ℕ) (n : ℕ) : Type 0 where
   untold : keyTold s x n ≡ nothing → (Sound s x → Held (gatewayOf s x) n → ⊥) → Ended s x n
-  told : (S : Sound s x) (h : Held (gatewayOf s x) n) → keyTold s x n ≡ toldOf (s .clock) (h .place) (h .key) → Ended s x n
+  told : (S : Sound s x) (h : Held (gatewayOf s x) n) → keyTold s x n ≡ toldOf s (h .place) (h .key) → Ended s x n
 
 module _ (s : State) (x : List ℕ) (n : ℕ) (a : Arrays s) where
-  held-told : (S : Sound s x) (h : Held (gatewayOf s x) n) → keyTold s x n ≡ toldOf (s .clock) (h .place) (h .key)
+  held-told : (S : Sound s x) (h : Held (gatewayOf s x) n) → keyTold s x n ≡ toldOf s (h .place) (h .key)
   held-told S h = ap (keyTold s x) (sym (h .number)) ∙ told-held s x (h .place) (h .key) S (h .there)
 
   ended : Ended s x n

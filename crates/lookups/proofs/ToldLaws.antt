@@ -49,7 +49,7 @@ module _ (s : State) (x : List ℕ) (n : ℕ) where
     unfolding keyTold found
     key-absent e = rw (sound, e)
 
-    pub key-found : (i : ℕ) (k : Key) → seek (hasNumber n) 0 (gatewayOf s x .places) ≡ At i → HeldAt (gatewayOf s x) i k → toldOf (s .clock) i k ≡ keyTold s x n
+    pub key-found : (i : ℕ) (k : Key) → seek (hasNumber n) 0 (gatewayOf s x .places) ≡ At i → HeldAt (gatewayOf s x) i k → toldOf s i k ≡ keyTold s x n
     unfolding keyTold found
     key-found i k e there = rw (sound, e, there)
 

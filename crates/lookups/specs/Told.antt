@@ -1,16 +1,16 @@
 -- What is told of the held keys, over what state and store mean.
-use Prim.Native.Nat.{ℕ, _+_, _-_, _*_}
+use Prim.Native.Nat.{ℕ, _+_, _-_}
 use mathlib.Core.Bool.{Bool, false, cond}
 use mathlib.Core.Option.{none, some}
 use mathlib.Core.List.{List, [], _∷_}
 use lib.ListN.{length, getD}
 use lib.Dec.{leb, ltb, eqb}
-use Rattle.wire.specs.Limits.{placeSize, fieldsAt}
 use Rattle.keys.specs.declared.constraints.Lifetime.{Lifetime}
 use Rattle.keys.specs.declared.constraints.Lifetime.the-variants.{Forever, For}
-use Rattle.rule.specs.Gateway.{Entry as Key, Place, Gateway, millisOf, seek, found}
+use Rattle.rule.specs.declared.Millis.{Millis}
+use Rattle.rule.specs.Gateway.{Entry as Key, Place, zeroMillis, millisOf, seek, found}
 use Rattle.table.specs.declared.State.{State}
-use Rattle.table.specs.Meaning.{numberIn, gatewayOf, flagOf, limitedFlag, keptComment}
+use Rattle.table.specs.Meaning.{numberIn, gatewayOf, startOf, fieldsFrom, flagOf, limitedFlag, keptComment}
 use Rattle.table.specs.Soundness.{soundState}
 use Rattle.lookups.specs.declared.HeldKey.{HeldKey}
 
@@ -21,17 +21,17 @@ abbrev pub hasNumber : ℕ → Place → Bool
 hasNumber n none = false
 hasNumber n (some k) = eqb (k .number) n
 
--- what is left of a lifetime, in milliseconds: "clock minus insertion reading" is used up
-unfoldable pub leftAt : ℕ → ℕ → Lifetime → ℕ
-leftAt clock reading Forever = 0
-leftAt clock reading (For seconds) = millisOf seconds - (clock - reading)
+-- what is left of a lifetime: "clock minus insertion reading" is used up
+unfoldable pub leftAt : Millis → Millis → Lifetime → Millis
+leftAt clock reading Forever = zeroMillis
+leftAt clock reading (For seconds) = record { count = millisOf seconds .count - (clock .count - reading .count) }
 
 unfoldable pub nothing : HeldKey
 nothing = record {
   number = 0;
   confirm = 0;
   limited = 0;
-  left = record { count = 0 };
+  left = zeroMillis;
   «blob_from» = 0;
   «blob_to» = 0;
   «fields_from» = 0;
@@ -39,29 +39,29 @@ nothing = record {
   comment = keptComment [];
 }
 
--- of the key in place i: its blob at the place's front, its key fields "in the last 3,072"
-unfoldable pub toldOf : ℕ → ℕ → Key → HeldKey
-toldOf clock i k = record {
+-- of the key in place i; its blob begins where the place does
+unfoldable pub toldOf : State → ℕ → Key → HeldKey
+toldOf s i k = record {
   number = k .number;
   confirm = flagOf (k .confirm);
   limited = limitedFlag (k .lifetime);
-  left = record { count = leftAt clock (k .reading) (k .lifetime) };
-  «blob_from» = i * placeSize;
-  «blob_to» = i * placeSize + length (k .blob);
-  «fields_from» = i * placeSize + fieldsAt;
-  «fields_to» = i * placeSize + fieldsAt + length (k .fields);
+  left = leftAt (s .clock) (k .reading) (k .lifetime);
+  «blob_from» = startOf (s .entries) i;
+  «blob_to» = startOf (s .entries) i + length (k .blob);
+  «fields_from» = fieldsFrom (s .entries) i;
+  «fields_to» = fieldsFrom (s .entries) i + length (k .fields);
   comment = keptComment (k .comment);
 }
 
-abbrev pub toldIn : ℕ → ℕ → Place → HeldKey
-toldIn clock i none = nothing
-toldIn clock i (some k) = toldOf clock i k
+abbrev pub toldIn : State → ℕ → Place → HeldKey
+toldIn s i none = nothing
+toldIn s i (some k) = toldOf s i k
 
 unfoldable pub keyTold : State → List ℕ → ℕ → HeldKey
 keyTold s x n =
     cond (soundState s x)
     (found nothing (seek (hasNumber n) 0 (gatewayOf s x .places)) λ i.
-    toldIn (s .clock) i (getD (gatewayOf s x .places) i none))
+    toldIn s i (getD (gatewayOf s x .places) i none))
     nothing
 
 -- ## The next number

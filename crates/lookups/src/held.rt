@@ -7,6 +7,7 @@ use table::Entry;
 use table::State;
 use table::changes::millis_of;
 use table::is_set;
+use table::places::fields_from;
 use table::places::start_of;
 use table::soundness::is_sound;
 use wire::limits;
@@ -48,7 +49,7 @@ fn find_number(state: State, number: u64) -> Found
 // What is left of an entry's lifetime at a clock that its reading is not above.
 fn left_at(e: Entry, clock: Millis) -> Millis
     requires { ⌜ e .reading .count ≤ clock .count ⌝ }
-    ensures { λ r. ⌜ r .count ≡ leftAt (clock .count) (e .reading .count) (lifetimeOf e) ⌝ }
+    ensures { λ r. ⌜ r ≡ leftAt clock (e .reading) (lifetimeOf e) ⌝ }
 {
     if !is_set(e.limited) {
         return Millis { count: 0 };
@@ -67,7 +68,7 @@ fn left_at(e: Entry, clock: Millis) -> Millis
 // What is told of the key in place i.
 fn told_at(state: State, store: &[u8], i: usize) -> HeldKey
     requires { ⌜ (i < 8) × Sound state (now store) ⌝ }
-    ensures { λ r. ⌜ ((k : Key) → HeldAt (gatewayOf state (now (store .entry))) i k → r ≡ toldOf (state .clock) i k) ⌝ }
+    ensures { λ r. ⌜ ((k : Key) → HeldAt (gatewayOf state (now (store .entry))) i k → r ≡ toldOf state i k) ⌝ }
 {
     let es = state.entries;
     let e = es[i];
@@ -76,7 +77,7 @@ fn told_at(state: State, store: &[u8], i: usize) -> HeldKey
     let left = left_at(e, clock);
     let blob_from = start_of(i);
     let blob_to = blob_from + e.blob_len;
-    let fields_from = blob_from + limits::FIELDS_AT;
+    let fields_from = fields_from(i);
     let fields_to = fields_from + e.fields_len;
     HeldKey {
         number: e.number,

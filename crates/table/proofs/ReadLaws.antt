@@ -19,7 +19,7 @@ use Rattle.table.specs.Bytes.{padded}
 use Rattle.table.specs.Meaning.{size, isSet, keyOf, placeOf, numberIn, confirmIn, blobIn, commentIn, view, gatewayOf, noEntry, partAt, keptComment, entryFor}
 use Rattle.table.specs.Soundness.{soundPlace, soundPlaces, SoundPlace, free, held, Housed, Sound}
 use Rattle.table.proofs.EachLaws.{each-length, each-at, every-at, each-says}
-use Rattle.table.proofs.SizeLaws.{place-lies}
+use Rattle.table.proofs.SizeLaws.{in-store}
 use Rattle.table.proofs.TestLaws.{place-says}
 use Rattle.table.proofs.WritingLaws.{Seen, seen-free, seen-held, seen}
 
@@ -100,11 +100,11 @@ module _ (s : State) (x : List ℕ) (S : Sound s x) (i : ℕ) (h : i < 8) where
 
   pub state-blob : take (getD (s .entries) i noEntry .«blob_len») (partAt (s .entries) x i) ≡ blobIn (getD (gatewayOf s x .places) i none)
   unfolding gatewayOf
-  state-blob = rw (view-at (s .entries) x (S .eight-entries) i h) (sound-blob _ _ _ _ (place-lies (s .entries) x (S .eight-entries) (S .store-size) i h .whole) state-sound-at)
+  state-blob = rw (view-at (s .entries) x (S .eight-entries) i h) (sound-blob _ _ _ _ (in-store (s .entries) x (S .eight-entries) (S .store-size) i h .whole) state-sound-at)
 
   pub state-comment : getD (s .entries) i noEntry .comment ≡ keptComment (commentIn (getD (gatewayOf s x .places) i none))
   unfolding gatewayOf
-  state-comment = rw (view-at (s .entries) x (S .eight-entries) i h) (sound-comment _ _ _ _ (place-lies (s .entries) x (S .eight-entries) (S .store-size) i h .whole) state-sound-at)
+  state-comment = rw (view-at (s .entries) x (S .eight-entries) i h) (sound-comment _ _ _ _ (in-store (s .entries) x (S .eight-entries) (S .store-size) i h .whole) state-sound-at)
 
   pub state-blob-fits : getD (s .entries) i noEntry .«blob_len» ≤ blobLimit
   state-blob-fits = sound-blob-fits _ _ _ _ state-sound-at

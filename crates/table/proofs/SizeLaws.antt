@@ -28,13 +28,13 @@ place-start es i h = offset-even size placeSize (λ e. refl) es i h
 pub entries-end : (es : List Entry) → length es ≡ 8 → startOf es (length es) ≡ storeSize
 entries-end es eight = place-start es (length es) (le-refl (length es)) ∙ ap (λ (n : ℕ). n * placeSize) eight
 
--- place i lies in the store, and has room for its blob and its fields
-pub record Lies (es : List Entry) (x : List ℕ) (i : ℕ) : Type 0 where
+-- place i lies in the store, all of it
+pub record InStore (es : List Entry) (x : List ℕ) (i : ℕ) : Type 0 where
   pub inside : startOf es i + size (getD es i noEntry) ≤ length x
   pub whole : length (partAt es x i) ≡ size (getD es i noEntry)
 
-pub place-lies : (es : List Entry) (x : List ℕ) → length es ≡ 8 → length x ≡ storeSize → (i : ℕ) → i < 8 → Lies es x i
-place-lies es x eight long i h =
+pub in-store : (es : List Entry) (x : List ℕ) → length es ≡ 8 → length x ≡ storeSize → (i : ℕ) → i < 8 → InStore es x i
+in-store es x eight long i h =
     let begins = place-start es i (omega arith) in
     let room : placeSize ≤ length (drop (startOf es i) x) = rw length-drop (omega arith) in
     record { inside = omega arith; whole = length-take-le placeSize (drop (startOf es i) x) room }

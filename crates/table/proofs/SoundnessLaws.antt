@@ -25,7 +25,7 @@ use Rattle.table.specs.Each.{each}
 use Rattle.table.specs.Meaning.{size, keyOf, placeOf, view, noEntry, partAt}
 use Rattle.table.specs.Soundness.{soundComment, zeroComment, isFlag, soundFlags, soundLifetime, soundLock, soundPlace, all, soundPlaces, unlike, Housed}
 use Rattle.table.proofs.EachLaws.{each-length, each-at}
-use Rattle.table.proofs.SizeLaws.{place-lies}
+use Rattle.table.proofs.SizeLaws.{in-store}
 use Rattle.table.proofs.ReadLaws.{view-length, view-at, place-free, place-held}
 
 -- ## Tests
@@ -202,7 +202,7 @@ module _ (es : List Entry) (x : List ℕ) (housed : Housed es x) where
 
   pub blob-inside : (i : ℕ) (p : List ℕ) → i < 8 → p ≡ partAt es x i → getD es i noEntry .«blob_len» ≤ length p
   blob-inside i p h p-is =
-      let whole : length p ≡ size (getD es i noEntry) = rw p-is (place-lies es x (housed .eight-entries) (housed .store-size) i h .whole) in
+      let whole : length p ≡ size (getD es i noEntry) = rw p-is (in-store es x (housed .eight-entries) (housed .store-size) i h .whole) in
       let fits = housed .blobs-fit i h in
       omega arith
 

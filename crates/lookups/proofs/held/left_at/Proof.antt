@@ -1,7 +1,10 @@
 -- Without a lifetime nothing is left; with one, what the time since the reading has not used up. Assumes nothing.
+use mathlib.Core.Path.{ap}
 use native.Mathlib.Omega.{arith}
 use borrow.Author.Needs.{needs}
 use borrow.Author.Tests.{not-true, not-false}
+use Rattle.rule.specs.declared.Millis.{Millis}
+use Rattle.rule.proofs.Clock.{same-count}
 use Rattle.lookups.specs.Told.{leftAt}
 use Rattle.lookups.proofs.held.left_at.Statement.{statement}
 use Rattle.lookups.proofs.held.left_at.Tie as tie
@@ -13,9 +16,11 @@ returns c = let asked = c .before .is-set in rw (← asked .ensures, not-true (a
 returns-2 : tie.Need-returns-2
 unfolding leftAt
 returns-2 c =
-    let limited = c .before .before .before .before .before .before in
+    let lifetime = c .before .before .before .before in
+    let limited = lifetime .before .before in
     let asked = limited .before .is-set in
-    rw (← asked .ensures, not-false (asked .result) (limited .if1 .left)) (omega arith)
+    let long = ap (λ (t : Millis). t .count) (lifetime .millis-of .ensures) in
+    rw (← asked .ensures, not-false (asked .result) (limited .if1 .left)) (same-count (omega arith))
 
 returns-3 : tie.Need-returns-3
 unfolding leftAt
@@ -23,7 +28,8 @@ returns-3 c =
     let lifetime = c .before .before .before .before .before in
     let limited = lifetime .before .before in
     let asked = limited .before .is-set in
-    rw (← asked .ensures, not-false (asked .result) (limited .if1 .left)) (omega arith)
+    let long = ap (λ (t : Millis). t .count) (lifetime .millis-of .ensures) in
+    rw (← asked .ensures, not-false (asked .result) (limited .if1 .left)) (same-count (omega arith))
 
 pub left-at-spec : {M : Type 1} → statement M
 left-at-spec =

@@ -1,6 +1,10 @@
--- The entry is written as its key is, and start and lengths give the parts. Assumes nothing.
+-- The entry is written as its key is, and starts and lengths give the parts. Assumes nothing.
 use native.Mathlib.Omega.{arith}
+use mathlib.Core.Path.{_≡_, sym, ap, _∙_}
+use Prim.Native.Nat.{ℕ, _+_}
 use borrow.Author.Needs.{needs}
+use Rattle.wire.specs.Limits.{fieldsAt}
+use Rattle.table.proofs.SizeLaws.{place-start}
 use Rattle.lookups.proofs.EntryLaws.{entry-kept, entry-is, told-is}
 use Rattle.lookups.proofs.held.told_at.Statement.{statement}
 use Rattle.lookups.proofs.held.told_at.Tie as tie
@@ -19,17 +23,24 @@ add-blob-to c =
 
 add-fields-to : tie.Need-add-fields-to
 add-fields-to c =
-    let asked = c .before .before .before in
+    let asked = c .before .before .before .before in
     let st = asked .before .before .before .before .before .before in
     let kept = entry-kept (st .args .state) (st .args .store .now) (st .pre .1) (st .args .i) (st .pre .0) in
     omega arith
 
 returns : tie.Need-returns
 returns c k there =
-    let start = c .before .before in
-    let left = start .before in
+    let fields = c .before .fields-from in
+    let begun = c .before .before .before in
+    let left = begun .before in
     let st = left .before .before .before .before .before .before in
-    told-is _ _ _ _ _ k (entry-is (st .args .state) (st .args .store .now) (st .pre .1) (st .args .i) (st .pre .0) k there) (left .left-at .ensures) (start .start-of .ensures)
+    let s = st .args .state in
+    let i = st .args .i in
+    let S = st .pre .1 in
+    let start = sym (place-start (s .entries) i (omega (arith, S .eight-entries))) in
+    told-is s i _ _ _ _ k (entry-is s (st .args .store .now) S i (st .pre .0) k there) (left .left-at .ensures)
+    (begun .start-of .ensures ∙ start)
+    (fields .ensures ∙ ap (λ (n : ℕ). n + fieldsAt) start)
 
 pub told-at-spec : {M : Type 1} → statement M
 told-at-spec =
@@ -40,6 +51,6 @@ told-at-spec =
     left-at-requires
     (λ c κs. search needs)
     add-blob-to
-    (λ c. search needs)
+    (λ c κs. search needs)
     add-fields-to
     returns)

@@ -5,7 +5,7 @@ use mathlib.Core.Path.{_≡_, sym, ap, _∙_}
 use lib.ListN.{length, getD}
 use lib.Seq.{length-take-le}
 use Rattle.table.specs.Meaning.{size, noEntry}
-use Rattle.table.proofs.SizeLaws.{place-lies}
+use Rattle.table.proofs.SizeLaws.{in-store}
 use Rattle.table.proofs.ReadLaws.{state-blob, state-blob-fits}
 use Rattle.table.proofs.places.blob_at.Statement.{statement}
 use Rattle.table.proofs.places.blob_at.Tie as tie
@@ -18,7 +18,7 @@ front c =
     let es = a .state .entries in
     let S = st .pre .1 in
     let whole : length (p .bytes-at .result .now) ≡ size (getD es (a .i) noEntry)
-    = ap length (p .bytes-at .ensures es (S .eight-entries) .bytes) ∙ place-lies es (a .store .now) (S .eight-entries) (S .store-size) (a .i) (st .pre .0) .whole in
+    = ap length (p .bytes-at .ensures es (S .eight-entries) .bytes) ∙ in-store es (a .store .now) (S .eight-entries) (S .store-size) (a .i) (st .pre .0) .whole in
     let fits = state-blob-fits (a .state) (a .store .now) (st .pre .1) (a .i) (st .pre .0) in
     sym (length-take-le _ (p .bytes-at .result .now) (omega arith))
 

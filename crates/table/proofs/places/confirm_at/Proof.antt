@@ -3,7 +3,7 @@ use borrow.Author.Needs.{needs}
 use Rattle.table.specs.Meaning.{gatewayOf}
 use Rattle.table.proofs.ReadLaws.{view-at, state-sound-at, sound-confirm}
 use Rattle.table.proofs.places.confirm_at.Statement.{statement}
-use Rattle.table.proofs.SizeLaws.{place-lies}
+use Rattle.table.proofs.SizeLaws.{in-store}
 use Rattle.table.proofs.places.confirm_at.Tie as tie
 
 returns : tie.Need-returns
@@ -13,7 +13,7 @@ returns c =
     let s = st .args .state in
     let i = st .args .i in (
       c .is-set .ensures,
-      λ x S. rw (c .is-set .ensures, view-at (s .entries) x (S .eight-entries) i (st .pre)) (sound-confirm _ _ _ _ (place-lies (s .entries) x (S .eight-entries) (S .store-size) i (st .pre) .whole) (state-sound-at s x S i (st .pre))),
+      λ x S. rw (c .is-set .ensures, view-at (s .entries) x (S .eight-entries) i (st .pre)) (sound-confirm _ _ _ _ (in-store (s .entries) x (S .eight-entries) (S .store-size) i (st .pre) .whole) (state-sound-at s x S i (st .pre))),
     )
 
 pub confirm-at-spec : {M : Type 1} → statement M

@@ -7,7 +7,7 @@ use lib.ListN.{length, drop, getD}
 use Rattle.rule.specs.Gateway.{seek, holds}
 use Rattle.table.specs.Meaning.{size, view, gatewayOf, noEntry}
 use Rattle.table.proofs.ReadLaws.{view-length, view-at, state-blob-fits}
-use Rattle.table.proofs.SizeLaws.{place-lies}
+use Rattle.table.proofs.SizeLaws.{in-store}
 use Rattle.table.proofs.SeekLaws.{seek-step, seek-stop, seek-end}
 use Rattle.table.proofs.places.find.Statement.{statement}
 use Rattle.table.proofs.places.find.Tie as tie
@@ -27,7 +27,7 @@ is-holding-requires c κs =
     let es = st .args .state .entries in
     let S = st .pre in
     let whole : length (c .bytes-at .result .now) ≡ size (getD es (loop .i) noEntry)
-    = ap length (c .bytes-at .ensures es (S .eight-entries) .bytes) ∙ place-lies es x (S .eight-entries) (S .store-size) (loop .i) (omega arith) .whole in
+    = ap length (c .bytes-at .ensures es (S .eight-entries) .bytes) ∙ in-store es x (S .eight-entries) (S .store-size) (loop .i) (omega arith) .whole in
     let fits = state-blob-fits (st .args .state) x (st .pre) (loop .i) (omega arith) in
     omega arith
 

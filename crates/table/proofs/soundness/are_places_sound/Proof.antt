@@ -4,7 +4,7 @@ use native.Mathlib.Omega.{arith}
 use Prim.Native.Nat.{_≤_, _-_}
 use mathlib.Core.Path.{_≡_, ap, _∙_}
 use lib.ListN.{length}
-use Rattle.table.proofs.SizeLaws.{place-lies}
+use Rattle.table.proofs.SizeLaws.{in-store}
 use Rattle.table.proofs.SoundnessLaws.{PlacesLeft, places-all, place-on, place-out, places-end}
 use Rattle.table.proofs.soundness.are_places_sound.Statement.{statement}
 use Rattle.table.proofs.soundness.are_places_sound.Tie as tie
@@ -20,7 +20,7 @@ is-place-sound-requires c κs =
     let turn = c .before .before .before in
     let l = turn .loop in
     let es = turn .before .before .args .t1 in
-    ap length (c .bytes-at .ensures es (l .inv .1) .bytes) ∙ place-lies es _ (l .inv .1) (turn .before .before .pre) (l .i) (omega arith) .whole
+    ap length (c .bytes-at .ensures es (l .inv .1) .bytes) ∙ in-store es _ (l .inv .1) (turn .before .before .pre) (l .i) (omega arith) .whole
 
 returns : tie.Need-returns Inv-loop μ-loop
 returns c =
