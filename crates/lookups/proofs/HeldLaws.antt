@@ -6,8 +6,8 @@ use mathlib.Core.Bool.{Bool, true, false}
 use mathlib.Core.Option.{none, some}
 use mathlib.Core.List.{List, [], _∷_}
 use native.Mathlib.Omega.{arith}
-use borrow.Author.Tests.{eq-eqb, le-leb, lt-leb, leb-true}
-use lib.Dec.{leb}
+use borrow.Author.Tests.{eq-eqb, eqb-true, eqb-false, le-leb, lt-leb, leb-true}
+use lib.Dec.{leb, eqb}
 use lib.ListN.{length, getD, take, drop, length-replicate}
 use lib.Seq.{take-take, drop-drop, length-take-le}
 use Rattle.wire.specs.declared.Seconds.{Seconds}
@@ -23,9 +23,10 @@ use Rattle.rule.specs.Gateway.{Entry as Key, Place, Gateway, millisOf, dueAt, l
 use Rattle.rule.specs.Soundness as rule
 use Rattle.rule.specs.Soundness.{Distinct, SoundEntry}
 use Rattle.rule.specs.Words.{HeldAt}
+use Rattle.rule.specs.Words as words
 use Rattle.rule.proofs.Cases.{true-not-false, cond-cases}
 use Rattle.rule.proofs.Clock.{same-count}
-use Rattle.rule.proofs.PlaceLaws.{some-not-none, same-entry, Holds, every-at, distinct-at, getD-map, First, seek-first, seek-none}
+use Rattle.rule.proofs.PlaceLaws.{some-not-none, same-entry, Holds, every-at, distinct-at, getD-map, freed-fewer, lasting-frees, First, seek-first, seek-none}
 use Rattle.table.specs.declared.Comment.{Comment}
 use Rattle.table.specs.declared.Entry.{Entry}
 use Rattle.table.specs.declared.State.{State}
@@ -211,19 +212,42 @@ module _ (g : Gateway) (i : ℕ) (k : Key) (there : HeldAt g i k) (past : k .rea
         by-order (inl h) = let e = left-is in omega arith
         by-order (inr h) = absurd (some-not-none (sym (undue-stays then k (due-is ∙ lt-leb _ _ h)) ∙ sym place-then ∙ gone))
 
-  left-says : LeftSays g i k (leftAt (g .clock) (k .reading) (k .lifetime))
-  unfolding leftAt dueAt
-  left-says = record {
-    goes = λ seconds t l. (was-left seconds l t, goes-then seconds l t);
+  left-says : rule.Sound g → LeftSays g k (leftAt (g .clock) (k .reading) (k .lifetime))
+  unfolding leftAt dueAt advance atClock
+  left-says sound = record {
+    goes = λ seconds t l. (
+      (λ gone. was-left seconds l t (freed seconds l t gone)),
+      (λ h (j, held). some-not-none (sym (still j _ held) ∙ goes-then seconds l t h)),
+    );
     none-left = λ l. ap (leftAt (g .clock) (k .reading)) l;
-    stays = λ l reading. after reading _ refl ∙ undue-stays _ k (ap (dueAt _ (k .reading)) l);
+    stays = λ l reading. (i, after reading _ refl ∙ undue-stays _ k (ap (dueAt _ (k .reading)) l));
   }
+    where
+      -- a key that is still held is held at its place
+      still : (j : ℕ) (reading : Millis) → HeldAt (advance reading g) j k → HeldAt (advance reading g) i k
+      still j reading held = by-place (eqb i j) refl
+        where
+          now : Millis
+          now = later (g .clock) reading
+
+          by-place : (b : Bool) → eqb i j ≡ b → HeldAt (advance reading g) i k
+          by-place true e = let same : i ≡ j = eqb-true i j e in rw same held
+          by-place false e =
+              let stood = freed-fewer (lasting now) (lasting-frees now) (g .places) j k held in
+              absurd (distinct-at (g .places) (sound .distinct) i j k k (eqb-false i j e) there stood .numbers refl)
+
+      freed : (seconds : Seconds) (l : k .lifetime ≡ For seconds) (t : ℕ) → ¬ words.Held (advance (then seconds l t) g) k → getD (advance (then seconds l t) g .places) i none ≡ none
+      freed seconds l t gone = by-due (dueAt (then seconds l t) (k .reading) (k .lifetime)) refl
+        where
+          by-due : (b : Bool) → dueAt (then seconds l t) (k .reading) (k .lifetime) ≡ b → getD (advance (then seconds l t) g .places) i none ≡ none
+          by-due true e = place-then seconds l t ∙ due-gone (then seconds l t) k e
+          by-due false e = absurd (gone (i, place-then seconds l t ∙ undue-stays (then seconds l t) k e))
 
 pub left-rule : LeftRule
 unfolding toldOf gatewayOf
-left-rule s x i k S there =
-    subst (λ (r : HeldKey). LeftSays (gatewayOf s x) i k (r .left)) (sym (told-held s x i k S there))
-    (left-says (gatewayOf s x) i k there (key-sound s x i k S there .reading-past))
+left-rule s x k S (i, there) =
+    subst (λ (r : HeldKey). LeftSays (gatewayOf s x) k (r .left)) (sym (told-held s x i k S there))
+    (left-says (gatewayOf s x) i k there (key-sound s x i k S there .reading-past) (sound-meaning s x S))
 
 -- ## Nothing told
 

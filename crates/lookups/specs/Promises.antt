@@ -4,8 +4,7 @@ use mathlib.Core.Path.{_≡_}
 use mathlib.Core.Logic.{_↔_, _≢_}
 use mathlib.Core.Bool.{true, false}
 use mathlib.Core.List.{List}
-use mathlib.Core.Option.{none}
-use lib.ListN.{length, getD, take, drop, replicate}
+use lib.ListN.{length, take, drop, replicate}
 use Rattle.wire.specs.declared.Seconds.{Seconds}
 use Rattle.wire.specs.Limits.{commentLimit, passphraseLimit}
 use Rattle.wire.specs.Read.{cutOf}
@@ -13,6 +12,7 @@ use Rattle.keys.specs.declared.constraints.Lifetime.the-variants.{Forever, For}
 use Rattle.rule.specs.declared.Millis.{Millis}
 use Rattle.rule.specs.Gateway.{Entry as Key, Gateway, zeroMillis, advance}
 use Rattle.rule.specs.Words.{HeldAt}
+use Rattle.rule.specs.Words as words
 use Rattle.table.specs.declared.Comment.{Comment}
 use Rattle.table.specs.declared.State.{State}
 use Rattle.table.specs.Meaning.{gatewayOf}
@@ -59,16 +59,15 @@ KeyRule = (s : State) (x : List ℕ) (i : ℕ) (k : Key) → Sound s x → HeldA
 
 -- An accepted call first advances the gateway to its reading. At the kept clock and t more that lets a key with a lifetime go exactly where no more
 -- than t is left; one without a lifetime has nothing left, and never goes.
-pub record LeftSays (g : Gateway) (i : ℕ) (k : Key) (left : Millis) : Type 0 where
-  pub goes : (seconds : Seconds) (t : ℕ) → k .lifetime ≡ For seconds
-      → (getD (advance (record { count = g .clock .count + t }) g .places) i none ≡ none) ↔ (left .count ≤ t)
+pub record LeftSays (g : Gateway) (k : Key) (left : Millis) : Type 0 where
+  pub goes : (seconds : Seconds) (t : ℕ) → k .lifetime ≡ For seconds → (¬ words.Held (advance (record { count = g .clock .count + t }) g) k) ↔ (left .count ≤ t)
   pub none-left : k .lifetime ≡ Forever → left ≡ zeroMillis
-  pub stays : k .lifetime ≡ Forever → (reading : Millis) → HeldAt (advance reading g) i k
+  pub stays : k .lifetime ≡ Forever → (reading : Millis) → words.Held (advance reading g) k
 
 abbrev pub LeftRule : Type 0
 LeftRule =
-    (s : State) (x : List ℕ) (i : ℕ) (k : Key) → Sound s x → HeldAt (gatewayOf s x) i k
-    → LeftSays (gatewayOf s x) i k (keyTold s x (k .number) .left)
+    (s : State) (x : List ℕ) (k : Key) → Sound s x → words.Held (gatewayOf s x) k
+    → LeftSays (gatewayOf s x) k (keyTold s x (k .number) .left)
 
 -- every field is zero
 pub record AllZero (r : HeldKey) : Type 0 where
