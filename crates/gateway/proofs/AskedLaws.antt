@@ -7,17 +7,16 @@ use mathlib.Core.List.{List}
 use native.Mathlib.Omega.{arith}
 use Rattle.wire.specs.Numbers.{Bytes}
 use Rattle.rule.specs.declared.Hash.{Hash}
-use Rattle.rule.specs.declared.Millis.{Millis}
 use Rattle.rule.specs.Gateway.{Entry as Key, Gateway}
 use Rattle.rule.specs.Rule.{gate, check, confirmation, signature, reply, close}
 use Rattle.rule.specs.Calls as rule
 use Rattle.rule.specs.Calls.{Call, refused, asks, lands, call}
-use Rattle.rule.specs.Words.{HeldAt, atCall}
+use Rattle.rule.specs.Words.{HeldAt}
 use Rattle.rule.proofs.Leavings.{question-leaves}
 use Rattle.rule.proofs.SignLaws.{signature-asks, confirmation-asks}
 use Rattle.table.specs.declared.State.{State}
 use Rattle.table.specs.Meaning.{gatewayOf}
-use Rattle.table.specs.Soundness.{Sound, Means}
+use Rattle.table.specs.Soundness.{Means}
 use Rattle.lookups.specs.Told.{keyTold}
 use Rattle.lookups.specs.Promises.{Tells}
 use Rattle.lookups.proofs.HeldLaws.{key-sound, key-rule}
@@ -26,11 +25,10 @@ use Rattle.requests.specs.Ends.{Done}
 use Rattle.requests.specs.Outcomes.{code, outcomeValues}
 use Rattle.requests.proofs.OutcomeLaws.{outcomes-apart}
 use Rattle.server.specs.Calls.{callOf}
-use Rattle.server.specs.Runs.{Step, ByCall, EndsAs, asCall}
+use Rattle.server.specs.Runs.{Step, ByCall, asCall}
 use Rattle.server.proofs.Leavings.{step-ends}
-use Rattle.gateway.specs.declared.flat.FlatAnswers.{FlatAnswers}
 use Rattle.gateway.specs.declared.flat.FlatOutcome.{FlatOutcome}
-use Rattle.gateway.specs.Flat.{answersOf, flatOf, FlatMeets}
+use Rattle.gateway.specs.Flat.{answersOf, flatOf}
 use Rattle.gateway.specs.Promises.{AskedTold, AskedIsTold}
 
 -- a held key with this number; with Confirm, where one was asked for it

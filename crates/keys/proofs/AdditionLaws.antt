@@ -4,7 +4,6 @@ use mathlib.Core.Path.{_≡_, ap}
 use mathlib.Core.Option.{some}
 use native.Mathlib.Omega.{arith}
 use Rattle.wire.specs.declared.read.Part.{Part}
-use Rattle.wire.specs.Values.{fault}
 use Rattle.wire.specs.Read.{textAt}
 use Rattle.wire.specs.Steps.{part}
 use Rattle.wire.proofs.Laws.{answers-apart, whole-of}

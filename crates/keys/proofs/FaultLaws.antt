@@ -21,12 +21,12 @@ use Rattle.keys.specs.declared.kinds.Kind.{Kind}
 use Rattle.keys.specs.declared.kinds.Places.{Places}
 use Rattle.keys.specs.declared.kinds.Key.{Key}
 use Rattle.keys.specs.Kinds.{kindOf, ed25519At, ecdsaAt, rsaSecretsAt, rsaAt, behindType, keyAt}
-use Rattle.keys.specs.Forms.{Curve, Point, Scalar, nistp256, nistp384, nistp521}
-use Rattle.keys.specs.Faults.{AskedOn, Asked, Stands, all, next, FieldStops, KeyStops, at-type, at-field}
+use Rattle.keys.specs.Forms.{Curve, nistp256, nistp384, nistp521}
+use Rattle.keys.specs.Faults.{AskedOn, Asked, all, next, FieldStops, KeyStops, at-type, at-field}
 use Rattle.keys.specs.Values.{typeOf, keyReads}
 use Rattle.keys.specs.Promises.{KeyFault}
 use Rattle.keys.proofs.FieldLaws.{sized-reads, named-reads, point-reads, scalar-reads}
-use Rattle.keys.proofs.KeyLaws.{part-part, pair-rule, key-typed, Named, named, kind-in, kind-out}
+use Rattle.keys.proofs.KeyLaws.{part-part, pair-rule, key-typed, named, kind-in, kind-out}
 
 same-place : {p q : ℕ} → Key.Fault p ≡ Key.Fault q → p ≡ q
 same-place e = cc

@@ -15,11 +15,10 @@ use Rattle.wire.specs.Numbers.{be, be32, Bytes}
 use Rattle.wire.proofs.Format.{be-of-be32, be32-of-be}
 use Rattle.keys.specs.declared.constraints.Lifetime.{Lifetime}
 use Rattle.keys.specs.declared.constraints.Lifetime.the-variants.{Forever, For}
-use Rattle.keys.specs.declared.constraints.Walk.{Walk}
-use Rattle.keys.specs.declared.constraints.Walk.the-variants.{Done, Duplicate, Unknown, Cut}
+use Rattle.keys.specs.declared.constraints.Walk.the-variants.{Done, Unknown}
 use Rattle.keys.specs.Constraints.{once, walkOf, secondsOf}
 use Rattle.keys.specs.Forms.{constraintForms, Adds, none, lifetime, confirm}
-use Rattle.keys.specs.Values.{secondsIn, Limits, Walked, ended, walkSays}
+use Rattle.keys.specs.Values.{secondsIn, Walked, ended, walkSays}
 use Rattle.keys.specs.Promises.{Settles, end, twice, other, short, ConstraintRule}
 use Rattle.keys.proofs.WalkLaws.{cut-short}
 use Rattle.keys.proofs.AnswerLaws.{key-answers-apart, same-limits}

@@ -2,7 +2,7 @@
 use mathlib.Core.Bool.{cond}
 use Prim.Native.Nat.{ℕ, _+_, _≤_, _<_}
 use mathlib.Core.Path.{_≡_, refl, sym, ap, _∙_}
-use mathlib.Core.Option.{none, some}
+use mathlib.Core.Option.{some}
 use mathlib.Core.List.{List}
 use native.Mathlib.Omega.{arith}
 use lib.ListN.{getD}
@@ -20,7 +20,6 @@ use Rattle.table.specs.Soundness.{SoundPlace, free, held, Sound}
 use Rattle.table.proofs.SizeLaws.{in-store}
 use Rattle.table.proofs.WritingLaws.{Seen, seen-free, seen-held, seen}
 use Rattle.table.proofs.ReadLaws.{view-at, state-sound-at}
-use Rattle.lookups.specs.declared.HeldKey.{HeldKey}
 use Rattle.lookups.specs.Told.{leftAt, toldOf}
 
 -- an entry's lengths and reading

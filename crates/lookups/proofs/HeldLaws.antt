@@ -6,38 +6,37 @@ use mathlib.Core.Bool.{Bool, true, false}
 use mathlib.Core.Option.{none, some}
 use mathlib.Core.List.{List, [], _∷_}
 use native.Mathlib.Omega.{arith}
-use borrow.Author.Tests.{eq-eqb, eqb-true, eqb-false, le-leb, lt-leb, leb-true}
+use borrow.Author.Tests.{eq-eqb, eqb-true, eqb-false, le-leb, lt-leb}
 use lib.Dec.{leb, eqb}
-use lib.ListN.{length, getD, take, drop, length-replicate}
-use lib.Seq.{take-take, drop-drop, length-take-le}
+use lib.ListN.{length, getD, take, drop}
+use lib.Seq.{take-take, drop-drop}
 use Rattle.wire.specs.declared.Seconds.{Seconds}
-use Rattle.wire.specs.Limits.{storeSize, blobLimit, fieldsLimit, fieldsAt, commentLimit, passphraseLimit}
+use Rattle.wire.specs.Limits.{fieldsAt, commentLimit}
 use Rattle.wire.specs.Read.{cutOf}
 use Rattle.wire.proofs.Reading.{le-or-lt, cut-there}
 use Rattle.keys.specs.declared.constraints.Lifetime.{Lifetime}
-use Rattle.keys.specs.declared.constraints.Lifetime.the-variants.{Forever, For}
+use Rattle.keys.specs.declared.constraints.Lifetime.the-variants.{For}
 use Rattle.rule.specs.declared.Millis.{Millis}
 use Rattle.rule.specs.declared.Found.{Found}
 use Rattle.rule.specs.declared.Found.the-variants.{At, Nothing}
-use Rattle.rule.specs.Gateway.{Entry as Key, Place, Gateway, millisOf, dueAt, lasting, atClock, later, advance, seek, found}
+use Rattle.rule.specs.Gateway.{Entry as Key, Place, Gateway, millisOf, dueAt, lasting, atClock, later, advance, seek}
 use Rattle.rule.specs.Soundness as rule
 use Rattle.rule.specs.Soundness.{Distinct, SoundEntry}
 use Rattle.rule.specs.Words.{HeldAt}
 use Rattle.rule.specs.Words as words
-use Rattle.rule.proofs.Cases.{true-not-false, cond-cases}
+use Rattle.rule.proofs.Cases.{true-not-false}
 use Rattle.rule.proofs.Clock.{same-count}
-use Rattle.rule.proofs.PlaceLaws.{some-not-none, same-entry, Holds, every-at, distinct-at, getD-map, freed-fewer, lasting-frees, First, seek-first, seek-none}
-use Rattle.table.specs.declared.Comment.{Comment}
+use Rattle.rule.proofs.PlaceLaws.{some-not-none, same-entry, Holds, every-at, distinct-at, getD-map, freed-fewer, lasting-frees, seek-first, seek-none}
 use Rattle.table.specs.declared.Entry.{Entry}
 use Rattle.table.specs.declared.State.{State}
 use Rattle.table.specs.Bytes.{padded}
-use Rattle.table.specs.Meaning.{size, gatewayOf, placeOf, keyOf, noEntry, startOf, fieldsFrom, partAt, keptComment, flagOf, limitedFlag, entryFor}
+use Rattle.table.specs.Meaning.{size, gatewayOf, keyOf, noEntry, startOf, fieldsFrom, partAt, keptComment, flagOf, limitedFlag, entryFor}
 use Rattle.table.specs.Soundness.{soundState, Sound}
 use Rattle.table.proofs.ByteLaws.{padded-size, padded-front, padded-rest}
 use Rattle.table.proofs.SizeLaws.{in-store}
 use Rattle.table.proofs.TestLaws.{sound-state-rule}
 use Rattle.table.proofs.WritingLaws.{sound-meaning}
-use Rattle.table.proofs.ReadLaws.{view-at, place-free, place-held}
+use Rattle.table.proofs.ReadLaws.{view-at, place-held}
 use Rattle.lookups.specs.declared.HeldKey.{HeldKey}
 use Rattle.lookups.specs.Told.{hasNumber, leftAt, nothing, toldOf, keyTold}
 use Rattle.lookups.specs.Promises.{Held, Arrays, Says, Tells, KeyRule, LeftSays, LeftRule, AllZero, NothingRule, ToldRule, PartsWithin, PartsRule}

@@ -8,11 +8,10 @@ use mathlib.Core.List.{List, [], _∷_}
 use native.Mathlib.Omega.{arith}
 use borrow.Author.Tests.{leb-true, leb-false, eqb-true, eqb-false, ltb-true, ltb-false}
 use lib.Dec.{leb, ltb, eqb}
-use lib.ListN.{getD}
 use Rattle.wire.proofs.Reading.{le-or-lt}
 use Rattle.rule.specs.Gateway.{Entry as Key, Place, Gateway}
-use Rattle.rule.proofs.Cases.{true-not-false, cond-cases}
-use Rattle.rule.proofs.PlaceLaws.{some-not-none, same-entry, Holds}
+use Rattle.rule.proofs.Cases.{cond-cases}
+use Rattle.rule.proofs.PlaceLaws.{some-not-none, Holds}
 use Rattle.table.specs.declared.State.{State}
 use Rattle.table.specs.Meaning.{numberIn, gatewayOf}
 use Rattle.table.specs.Soundness.{soundState, Sound}

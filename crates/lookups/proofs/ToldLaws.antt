@@ -1,26 +1,24 @@
 -- What a lookup finds, by the soundness test and the search for the number.
 use Prim.Native.Nat.{ℕ, _<_}
-use mathlib.Core.Path.{_≡_, refl, sym, ap, _∙_}
+use mathlib.Core.Path.{_≡_, refl, sym, _∙_}
 use mathlib.Core.Bool.{Bool, true, false, not}
 use mathlib.Core.Option.{none, some}
 use mathlib.Core.List.{List}
 use native.Mathlib.Omega.{arith}
-use borrow.Author.Tests.{eqb-true, not-true, not-false}
+use borrow.Author.Tests.{eqb-true, not-false}
 use lib.ListN.{length, getD}
 use Rattle.wire.specs.Limits.{passphraseLimit}
-use Rattle.rule.specs.declared.Found.{Found}
 use Rattle.rule.specs.declared.Found.the-variants.{At, Nothing}
 use Rattle.rule.specs.Gateway.{Entry as Key, Place, seek, found}
 use Rattle.rule.specs.Words.{HeldAt}
 use Rattle.rule.proofs.Cases.{true-not-false}
-use Rattle.rule.proofs.PlaceLaws.{Holds, First, seek-first}
+use Rattle.rule.proofs.PlaceLaws.{seek-first}
 use Rattle.table.specs.declared.State.{State}
 use Rattle.table.specs.Meaning.{gatewayOf}
 use Rattle.table.specs.Soundness.{soundState, Sound}
 use Rattle.table.proofs.TestLaws.{sound-state-rule}
 use Rattle.table.proofs.ReadLaws.{view-length}
-use Rattle.lookups.specs.declared.HeldKey.{HeldKey}
-use Rattle.lookups.specs.Told.{hasNumber, nothing, toldOf, toldIn, keyTold, leastAbove, nextTold}
+use Rattle.lookups.specs.Told.{hasNumber, nothing, toldOf, keyTold, leastAbove, nextTold}
 
 -- the code asks whether the test failed
 pub sound-told : (s : State) (x : List ℕ) (b : Bool) → length (s .entries) ≡ 8 → length (s .lock .bytes) ≡ passphraseLimit → not b ≡ false → b ≡ soundState s x → Sound s x

@@ -5,7 +5,7 @@ use mathlib.Core.Path.{_≡_, refl, ap, subst}
 use mathlib.Core.Bool.{true, false}
 use mathlib.Core.List.{List, [], _∷_, _++_}
 use Rattle.rule.specs.declared.Millis.{Millis}
-use Rattle.rule.specs.Gateway.{Gateway, zeroMillis, advance}
+use Rattle.rule.specs.Gateway.{Gateway, zeroMillis}
 use Rattle.rule.specs.Rule.{Landing}
 use Rattle.rule.specs.Calls.{Call, Outcome, refused, asks, lands, call}
 use Rattle.rule.specs.Runs.{Event, events, endOf, callsOf, RunsTo, Every, isAccepted, acceptedIn, heard, heardIn, Turn, turn, turnsFrom, alone, servedAlone, oneAtATime}

@@ -1,7 +1,7 @@
 -- What is told outside, in 01's numbers: the rule's outcome case by case, as it is coded; the gate's class by its row; the
 -- bits of a hash by the flags. Assumed: a call that meets the contract of `call`, on a sound state and store.
 use Prim.Native.Nat.{ℕ}
-use mathlib.Core.Path.{_≡_, refl, sym, ap, _∙_, subst}
+use mathlib.Core.Path.{_≡_, sym, ap, _∙_, subst}
 use mathlib.Core.List.{List}
 use lib.ListN.{getD}
 use Rattle.rule.specs.declared.Hash.{Hash}

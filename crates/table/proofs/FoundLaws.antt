@@ -6,11 +6,10 @@ use mathlib.Core.Bool.{true, false}
 use mathlib.Core.Option.{none, some}
 use mathlib.Core.List.{List}
 use native.Mathlib.Omega.{arith}
-use lib.ListN.{length, getD}
 use Rattle.wire.proofs.Reading.{le-or-lt}
 use Rattle.rule.specs.declared.Found.{Found}
 use Rattle.rule.specs.declared.Found.the-variants.{At, Nothing}
-use Rattle.rule.specs.Gateway.{Entry as Key, Place, Gateway, seek, holds, isFree, found, placeFor}
+use Rattle.rule.specs.Gateway.{Place, Gateway, seek, holds, isFree, found, placeFor}
 use Rattle.rule.specs.Searches.{foundPlace}
 use Rattle.rule.specs.Soundness as rule
 use Rattle.rule.proofs.Cases.{true-not-false}

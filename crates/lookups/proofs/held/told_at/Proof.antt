@@ -1,6 +1,6 @@
 -- The entry is written as its key is, and starts and lengths give the parts. Assumes nothing.
 use native.Mathlib.Omega.{arith}
-use mathlib.Core.Path.{_≡_, sym, ap, _∙_}
+use mathlib.Core.Path.{sym, ap, _∙_}
 use Prim.Native.Nat.{ℕ, _+_}
 use borrow.Author.Needs.{needs}
 use Rattle.wire.specs.Limits.{fieldsAt}
