@@ -9,28 +9,31 @@ use Rattle.client.proofs.writers.add_constrained.Tie as tie
 
 returns : tie.Need-returns
 returns c =
-    let strings = c .before .before .before .before in
-    let counted = strings .before .before in
-    let a = counted .before .before .before .before .args in
-    constrained-refused (now (a .id)) (now (a .pin)) (take (a .count) (a .cs)) _ _ (counted .constraints-len .ensures .0) _ _ (strings .two-strings .ensures) _ (c .enum-told .given .1)
+    let strings : tie.After-two-strings = search in
+    let counted : tie.After-constraints-len = search in
+    let start : tie.Start = search in
+    let a = start .args in
+    constrained-refused (now (a .id)) (now (a .pin)) (take (a .count) (a .cs)) _ _ (counted .constraints-len .ensures .0) _ _ (strings .two-strings .ensures) _
+    (c .enum-told .given .1)
 
 put-constraints-requires : tie.Need-put-constraints-requires
 put-constraints-requires c κs =
-    let told = c .before .before in
-    let strings = told .before .before .before .before in
-    let counted = strings .before .before in
-    let st = counted .before .before .before .before in
-    let a = st .args in
+    let told : tie.After-w = search in
+    let strings : tie.After-two-strings = search in
+    let counted : tie.After-constraints-len = search in
+    let start : tie.Start = search in
+    let a = start .args in
     let s = stage _ (headOf (now (a .id)) (now (a .pin))) _ _ _ (strings .two-strings .ensures) _ (told .w .given .1) in
-    (st .pre, constraints-room (now (a .id)) (now (a .pin)) (take (a .count) (a .cs)) _ (now (a .out)) (counted .constraints-len .ensures .0) _ _ s)
+    (start .pre, constraints-room (now (a .id)) (now (a .pin)) (take (a .count) (a .cs)) _ (now (a .out)) (counted .constraints-len .ensures .0) _ _ s)
 
 returns-2 : tie.Need-returns-2
 returns-2 c =
-    let put = c .before .before in
-    let told = put .before .before .before in
-    let strings = told .before .before .before .before in
-    let counted = strings .before .before in
-    let a = counted .before .before .before .before .args in
+    let put : tie.After-put-constraints = search in
+    let told : tie.After-w = search in
+    let strings : tie.After-two-strings = search in
+    let counted : tie.After-constraints-len = search in
+    let start : tie.Start = search in
+    let a = start .args in
     let s = stage _ (headOf (now (a .id)) (now (a .pin))) _ _ _ (strings .two-strings .ensures) _ (told .w .given .1) in
     constrained-written (now (a .id)) (now (a .pin)) (take (a .count) (a .cs)) _ (now (a .out)) (counted .constraints-len .ensures .0) _ _ s _ _
     (put .put-constraints .ensures .0) (put .put-constraints .ensures .1)

@@ -14,9 +14,11 @@ returns-2 c = too-short _ _ _ (omega arith) (omega arith)
 
 returns-3 : tie.Need-returns-3
 returns-3 c =
+    let byte : tie.After-put-byte = search in
+    let number : tie.After-put-number = search in
     met _ _ _ _ _
-    (more (record { small = omega arith; fits = omega arith; place = c .before .before .before .before .before .before .put-number .ensures .0; holds = c .before .before .before .before .before .before .put-number .ensures .1 })
-    _ _ _ _ (c .before .before .put-byte .ensures .1) (c .before .before .put-byte .ensures .0) refl (omega arith))
+    (more (record { small = omega arith; fits = omega arith; place = number .put-number .ensures .0; holds = number .put-number .ensures .1 })
+    _ _ _ _ (byte .put-byte .ensures .1) (byte .put-byte .ensures .0) refl (omega arith))
 
 pub begin-spec : {M : Type 1} → statement M
 begin-spec =

@@ -21,15 +21,26 @@ loop-holds : tie.Need-loop-holds Inv-loop μ-loop
 loop-holds c = (omega arith, refl, omega arith)
 
 add-n : tie.Need-add-n Inv-loop μ-loop
-add-n c = let h = five-at-most (c .before .before .before .before .before .args .t1) (c .before .before .before .loop .i) (KeyLifetime (record { count = 0 })) _ (c .constraint-len .ensures) in omega arith
+add-n c =
+    let turn : tie.At-loop Inv-loop μ-loop = search in
+    let start : tie.Start Inv-loop μ-loop = search in
+    let h = five-at-most (start .args .t1) (turn .loop .i) (KeyLifetime (record { count = 0 })) _ (c .constraint-len .ensures) in
+    omega arith
 
 loop-again : tie.Need-loop-again Inv-loop μ-loop
 loop-again c =
-    let h = five-at-most (c .before .before .before .before .before .args .t1) (c .before .before .before .loop .i) (KeyLifetime (record { count = 0 })) _ (c .constraint-len .ensures) in
-    (omega arith, length-more (c .before .before .before .before .before .args .t1) (c .before .before .before .loop .i) (KeyLifetime (record { count = 0 })) _ (c .constraint-len .ensures) _ (c .before .before .before .loop .inv .1) (omega arith), omega arith)
+    let turn : tie.At-loop Inv-loop μ-loop = search in
+    let start : tie.Start Inv-loop μ-loop = search in
+    let h = five-at-most (start .args .t1) (turn .loop .i) (KeyLifetime (record { count = 0 })) _ (c .constraint-len .ensures) in
+    let l = length-more (start .args .t1) (turn .loop .i) (KeyLifetime (record { count = 0 })) _ (c .constraint-len .ensures) _ (turn .loop .inv .1) (omega arith) in
+    (omega arith, l, omega arith)
 
 returns : tie.Need-returns Inv-loop μ-loop
-returns c = let e : c .before .loop .i ≡ c .before .before .before .args .count = omega arith in (rw (← e) (c .before .loop .inv .1), omega arith)
+returns c =
+    let turn : tie.At-loop Inv-loop μ-loop = search in
+    let start : tie.Start Inv-loop μ-loop = search in
+    let e : turn .loop .i ≡ start .args .count = omega arith in
+    (rw (← e) (turn .loop .inv .1), omega arith)
 
 pub constraints-len-spec : {M : Type 1} → statement M
 constraints-len-spec =

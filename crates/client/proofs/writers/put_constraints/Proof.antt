@@ -15,20 +15,33 @@ abbrev μ-loop : tie.MeasureT-loop
 μ-loop out₀ at count cs place₀ i₀ out place i = count - i
 
 loop-holds : tie.Need-loop-holds Inv-loop μ-loop
-loop-holds c = (omega arith, none-standing _ _ _ (c .before .before .args .count) (c .before .before .pre .1))
+loop-holds c =
+    let start : tie.Start Inv-loop μ-loop = search in
+    (omega arith, none-standing _ _ _ (start .args .count) (start .pre .1))
 
 put-constraint-requires : tie.Need-put-constraint-requires Inv-loop μ-loop
-put-constraint-requires c κs = room-for-one _ _ _ (c .before .before .before .before .before .before .args .count) (c .before .before .before .before .before .before .pre .1) _ _ _ (c .before .before .before .loop .inv .1) (KeyLifetime (record { count = 0 })) (omega arith) (omega arith)
+put-constraint-requires c κs =
+    let turn : tie.At-loop Inv-loop μ-loop = search in
+    let start : tie.Start Inv-loop μ-loop = search in
+    room-for-one _ _ _ (start .args .count) (start .pre .1) _ _ _ (turn .loop .inv .1) (KeyLifetime (record { count = 0 })) (omega arith) (omega arith)
 
 loop-again : tie.Need-loop-again Inv-loop μ-loop
 loop-again c =
-    (omega arith, one-standing _ _ _ (c .before .before .before .before .before .before .before .before .before .args .count) (c .before .before .before .before .before .before .before .before .before .pre .1) _ _ _ (c .before .before .before .before .before .before .loop .inv .1) (KeyLifetime (record { count = 0 })) (omega arith) (omega arith) _ _ (c .before .before .put-constraint .ensures .0) (c .before .before .put-constraint .ensures .1))
+    let put : tie.After-put-constraint Inv-loop μ-loop = search in
+    let turn : tie.At-loop Inv-loop μ-loop = search in
+    let start : tie.Start Inv-loop μ-loop = search in
+    let next = one-standing _ _ _ (start .args .count) (start .pre .1) _ _ _ (turn .loop .inv .1) (KeyLifetime (record { count = 0 })) (omega arith) (omega arith)
+            _ _ (put .put-constraint .ensures .0) (put .put-constraint .ensures .1) in
+    (omega arith, next)
 
 same-length : tie.Need-same-length Inv-loop μ-loop
 same-length c = search needs
 
 returns : tie.Need-returns Inv-loop μ-loop
-returns c = all-standing _ _ _ (c .before .before .before .before .args .count) _ _ _ (c .before .loop .inv .1) (omega arith)
+returns c =
+    let turn : tie.At-loop Inv-loop μ-loop = search in
+    let start : tie.Start Inv-loop μ-loop = search in
+    all-standing _ _ _ (start .args .count) _ _ _ (turn .loop .inv .1) (omega arith)
 
 pub put-constraints-spec : {M : Type 1} → statement M
 put-constraints-spec =

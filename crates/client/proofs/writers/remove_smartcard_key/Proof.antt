@@ -6,13 +6,25 @@ use Rattle.client.proofs.writers.remove_smartcard_key.Statement.{statem
 use Rattle.client.proofs.writers.remove_smartcard_key.Tie as tie
 
 returns : tie.Need-returns
-returns c = remove-malformed _ _ _ _ (c .before .utf8-end .ensures) (c .if1 .taken)
+returns c =
+    let ended : tie.After-utf8-end = search in
+    remove-malformed _ _ _ _ (ended .utf8-end .ensures) (c .if1 .taken)
 
 returns-2 : tie.Need-returns-2
 returns-2 c =
-    let a = c .before .before .before .before .before .before .before .before .before .args in
-    remove-written _ _ _ _ (c .before .before .before .before .before .utf8-end .ensures) (c .before .before .before .before .if1 .left) _ _ (two-whole 21 (now (a .id)) (now (a .pin)) _ _ _ (c .before .before .two-strings .ensures))
+    let strings : tie.After-two-strings = search in
+    let valid : tie.Else1 = search in
+    let ended : tie.After-utf8-end = search in
+    let start : tie.Start = search in
+    let w = two-whole 21 (now (start .args .id)) (now (start .args .pin)) _ _ _ (strings .two-strings .ensures) in
+    remove-written _ _ _ _ (ended .utf8-end .ensures) (valid .if1 .left) _ _ w
 
 pub remove-smartcard-key-spec : {M : Type 1} → statement M
 remove-smartcard-key-spec =
-    tie.close (tie.spec (λ c κs. search needs) returns (λ c κs. search needs) (λ c. search needs) returns-2)
+    tie.close
+    (tie.spec
+    (λ c κs. search needs)
+    returns
+    (λ c κs. search needs)
+    (λ c. search needs)
+    returns-2)

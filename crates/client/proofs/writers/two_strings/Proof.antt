@@ -15,23 +15,40 @@ returns-2 : tie.Need-returns-2
 returns-2 c = too-long _ _ _ (omega arith)
 
 returns-3 : tie.Need-returns-3
-returns-3 c = refused _ _ _ _ _ (c .before .before .before .before .begin .ensures) _ (c .enum-told .given .1) _ _ refl
+returns-3 c =
+    let begun : tie.After-begin = search in
+    refused _ _ _ _ _ (begun .begin .ensures) _ (c .enum-told .given .1) _ _ refl
 
 put-string-requires : tie.Need-put-string-requires
-put-string-requires c κs = let s = stage _ _ _ _ _ (c .before .before .before .before .before .before .begin .ensures) _ (c .before .before .w .given .1) in let l = stage-size s (omega arith) in omega arith
+put-string-requires c κs =
+    let told : tie.After-w = search in
+    let begun : tie.After-begin = search in
+    let s = stage _ _ _ _ _ (begun .begin .ensures) _ (told .w .given .1) in
+    let l = stage-size s (omega arith) in
+    omega arith
 
 put-string-requires-2 : tie.Need-put-string-requires-2
 put-string-requires-2 c κs =
-    let s = stage _ _ _ _ _ (c .before .before .before .before .before .before .before .before .before .before .begin .ensures) _ (c .before .before .before .before .before .before .w .given .1) in
-    let t = string-more s (now (c .before .before .before .before .before .before .before .before .before .before .before .before .before .before .before .before .before .args .a)) _ _ _ (c .before .before .before .put-string .ensures .1) (c .before .before .before .put-string .ensures .0) refl (omega arith) in
+    let first : tie.After-put-string = search in
+    let told : tie.After-w = search in
+    let begun : tie.After-begin = search in
+    let start : tie.Start = search in
+    let s = stage _ _ _ _ _ (begun .begin .ensures) _ (told .w .given .1) in
+    let t = string-more s (now (start .args .a)) _ _ _ (first .put-string .ensures .1) (first .put-string .ensures .0) refl (omega arith) in
     let l = stage-size t (omega arith) in
     omega arith
 
 returns-4 : tie.Need-returns-4
 returns-4 c =
-    let s = stage _ _ _ _ _ (c .before .before .before .before .before .before .before .before .before .before .before .before .before .begin .ensures) _ (c .before .before .before .before .before .before .before .before .before .w .given .1) in
-    let t = string-more s (now (c .before .before .before .before .before .before .before .before .before .before .before .before .before .before .before .before .before .before .before .before .args .a)) _ _ _ (c .before .before .before .before .before .before .put-string .ensures .1) (c .before .before .before .before .before .before .put-string .ensures .0) refl (omega arith) in
-    met _ _ _ _ _ (string-more t (now (c .before .before .before .before .before .before .before .before .before .before .before .before .before .before .before .before .before .before .before .before .args .b)) _ _ _ (c .before .before .put-string2 .ensures .1) (c .before .before .put-string2 .ensures .0) refl (simp length-append (omega arith)))
+    let second : tie.After-put-string2 = search in
+    let first : tie.After-put-string = search in
+    let told : tie.After-w = search in
+    let begun : tie.After-begin = search in
+    let start : tie.Start = search in
+    let s = stage _ _ _ _ _ (begun .begin .ensures) _ (told .w .given .1) in
+    let t = string-more s (now (start .args .a)) _ _ _ (first .put-string .ensures .1) (first .put-string .ensures .0) refl (omega arith) in
+    let u = string-more t (now (start .args .b)) _ _ _ (second .put-string2 .ensures .1) (second .put-string2 .ensures .0) refl (simp length-append (omega arith)) in
+    met _ _ _ _ _ u
 
 pub two-strings-spec : {M : Type 1} → statement M
 two-strings-spec =

@@ -9,4 +9,11 @@ unfolding answersOf
 returns c = rw (c .signed-of .ensures, c .before .confirmed-of .ensures, c .before .before .said-of2 .ensures, c .before .before .before .said-of .ensures)
 
 pub answers-of-spec : {M : Type 1} → statement M
-answers-of-spec = tie.close (tie.spec (λ c κs. search needs) (λ c κs. search needs) (λ c κs. search needs) (λ c κs. search needs) returns)
+answers-of-spec =
+    tie.close
+    (tie.spec
+    (λ c κs. search needs)
+    (λ c κs. search needs)
+    (λ c κs. search needs)
+    (λ c κs. search needs)
+    returns)

@@ -17,4 +17,9 @@ unfolding confirmedOf
 returns-3 c = told-nothing _ _ _ _ (c .match .rest .0 .1) (c .match .rest .1)
 
 pub confirmed-of-spec : {M : Type 1} → statement M
-confirmed-of-spec = tie.close (tie.spec returns returns-2 returns-3)
+confirmed-of-spec =
+    tie.close
+    (tie.spec
+    returns
+    returns-2
+    returns-3)

@@ -17,4 +17,9 @@ unfolding saidOf
 returns-3 c = told-nothing _ _ _ _ (c .match .rest .0 .1) (c .match .rest .1)
 
 pub said-of-spec : {M : Type 1} → statement M
-said-of-spec = tie.close (tie.spec returns returns-2 returns-3)
+said-of-spec =
+    tie.close
+    (tie.spec
+    returns
+    returns-2
+    returns-3)

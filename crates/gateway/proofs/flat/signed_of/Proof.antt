@@ -17,4 +17,9 @@ unfolding signedOf
 returns-3 c = told-nothing _ _ _ _ (c .match .rest .0 .1) (c .match .rest .1)
 
 pub signed-of-spec : {M : Type 1} → statement M
-signed-of-spec = tie.close (tie.spec returns returns-2 returns-3)
+signed-of-spec =
+    tie.close
+    (tie.spec
+    returns
+    returns-2
+    returns-3)

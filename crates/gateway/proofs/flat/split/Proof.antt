@@ -17,4 +17,13 @@ unfolding flatSplit splitAs
 returns-3 c = rw (← c .before .before .before .read-frame .ensures, c .before .from .given .1)
 
 pub split-spec : {M : Type 1} → statement M
-split-spec = tie.close (tie.spec (λ c κs. search needs) (λ c. search needs) (λ c. search needs) (λ c. search needs) returns returns-2 returns-3)
+split-spec =
+    tie.close
+    (tie.spec
+    (λ c κs. search needs)
+    (λ c. search needs)
+    (λ c. search needs)
+    (λ c. search needs)
+    returns
+    returns-2
+    returns-3)

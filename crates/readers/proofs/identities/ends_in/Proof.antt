@@ -20,4 +20,11 @@ returns-2 c = last-compared _ _ _ _ (c .before .before .if1 .left) (c .before .c
 
 pub ends-in-spec : {M : Type 1} → statement M
 unfolding endsIn
-ends-in-spec = tie.close (tie.spec (λ c. search all depth 16) (λ c. search all depth 16) (λ c κs. search all depth 16) (λ c κs. search all depth 16) returns-2)
+ends-in-spec =
+    tie.close
+    (tie.spec
+    (λ c. search all depth 16)
+    (λ c. search all depth 16)
+    (λ c κs. search all depth 16)
+    (λ c κs. search all depth 16)
+    returns-2)

@@ -17,4 +17,13 @@ returns-2 c =
     (part-as _ _ _ _ _ _ (c .cut2 .ensures) (from-none _) (sym (cut-none _)))
 
 pub identity-blob-spec : {M : Type 1} → statement M
-identity-blob-spec = tie.close (tie.spec (λ c κs. search needs) (λ c. search needs) (λ c κs. search needs) (λ c. search needs) (λ c κs. search needs) returns returns-2)
+identity-blob-spec =
+    tie.close
+    (tie.spec
+    (λ c κs. search needs)
+    (λ c. search needs)
+    (λ c κs. search needs)
+    (λ c. search needs)
+    (λ c κs. search needs)
+    returns
+    returns-2)

@@ -14,7 +14,9 @@ abbrev μ-loop : tie.MeasureT-loop
 pub items-end-spec : {M : Type 1} → statement M
 items-end-spec =
     tie.close
-    (tie.spec Inv-loop μ-loop
+    (tie.spec
+    Inv-loop
+    μ-loop
     (λ c. search walk)
     (λ c κs. search walk)
     (λ c. search walk)

@@ -18,4 +18,12 @@ returns-3 : tie.Need-returns-3
 returns-3 c = string-fits _ _ _ _ (omega arith) (c .before .before .put-string .ensures .0) (c .before .before .put-string .ensures .1)
 
 pub put-signature-spec : {M : Type 1} → statement M
-put-signature-spec = tie.close (tie.spec returns (λ c. search needs) returns-2 put-string-requires (λ c. search needs) returns-3)
+put-signature-spec =
+    tie.close
+    (tie.spec
+    returns
+    (λ c. search needs)
+    returns-2
+    put-string-requires
+    (λ c. search needs)
+    returns-3)

@@ -6,4 +6,9 @@ use Rattle.readers.proofs.signature.starts_in.Tie as tie
 
 pub starts-in-spec : {M : Type 1} → statement M
 unfolding startsIn
-starts-in-spec = tie.close (tie.spec (λ c κs. search all depth 16) (λ c κs. search all depth 16) (λ c. search all depth 16))
+starts-in-spec =
+    tie.close
+    (tie.spec
+    (λ c κs. search all depth 16)
+    (λ c κs. search all depth 16)
+    (λ c. search all depth 16))

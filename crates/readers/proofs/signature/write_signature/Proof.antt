@@ -10,22 +10,40 @@ use Rattle.readers.proofs.signature.write_signature.Tie as tie
 
 put-signature-requires : tie.Need-put-signature-requires
 put-signature-requires c κs =
-    let start = c .before .before .before .before .before .before .before .before in
-    let small = c .before .before .before .before .before .before .before .shared-slice-known .given in
-    rw (c .before .cut .ensures .bytes)
-    (reply-small (start .args .payload .now) _ _ _ (λ i. omega (arith, small i)) (sym (c .before .before .before .before .before .reply-at .ensures) ∙ c .before .before .before .found2 .given .1))
+    let part : tie.After-cut = search in
+    let told : tie.After-found2 = search in
+    let read : tie.After-reply-at = search in
+    let known : tie.After-shared-slice-known = search in
+    let start : tie.Start = search in
+    let small = known .shared-slice-known .given in
+    rw (part .cut .ensures .bytes)
+    (reply-small (start .args .payload .now) _ _ _ (λ i. omega (arith, small i)) (sym (read .reply-at .ensures) ∙ told .found2 .given .1))
 
 returns : tie.Need-returns
 unfolding signatureAnswer signatureLeft
-returns c = rw (← c .before .before .before .reply-at .ensures, c .before .found .given .1) search needs
+returns c =
+    let told : tie.After-found = search in
+    let read : tie.After-reply-at = search in
+    rw (← read .reply-at .ensures, told .found .given .1) search needs
 
 returns-2 : tie.Need-returns-2
 unfolding signatureAnswer signatureLeft
 returns-2 c =
-    rw (← c .before .before .before .before .before .before .before .before .reply-at .ensures, c .before .before .before .before .before .before .found2 .given .1, ← c .before .before .before .before .cut .ensures .bytes)
-    (c .before .before .put-signature .ensures)
+    let put : tie.After-put-signature = search in
+    let part : tie.After-cut = search in
+    let told : tie.After-found2 = search in
+    let read : tie.After-reply-at = search in
+    rw (← read .reply-at .ensures, told .found2 .given .1, ← part .cut .ensures .bytes) (put .put-signature .ensures)
 
 pub write-signature-spec : {M : Type 1} → statement M
 write-signature-spec =
     tie.close
-    (tie.spec (λ c κs. search needs) (λ c. search needs) (λ c. search needs) (λ c κs. search needs) put-signature-requires returns (λ c. search needs) returns-2)
+    (tie.spec
+    (λ c κs. search needs)
+    (λ c. search needs)
+    (λ c. search needs)
+    (λ c κs. search needs)
+    put-signature-requires
+    returns
+    (λ c. search needs)
+    returns-2)

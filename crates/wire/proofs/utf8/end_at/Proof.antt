@@ -24,4 +24,11 @@ unfolding ended
 returns-3 c = rw (c .before .before .u .given .1, ne-eqb _ _ (c .if1 .left))
 
 pub end-at-spec : {M : Type 1} → statement M
-end-at-spec = tie.close (tie.spec enum-known-u enum-told returns returns-2 returns-3)
+end-at-spec =
+    tie.close
+    (tie.spec
+    enum-known-u
+    enum-told
+    returns
+    returns-2
+    returns-3)

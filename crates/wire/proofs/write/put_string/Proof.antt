@@ -18,8 +18,17 @@ same-length : tie.Need-same-length
 same-length c = search needs
 
 returns : tie.Need-returns
-returns c = (omega arith, write-behind _ _ _ _ _ _ _ (c .before .before .before .before .before .before .put-number .ensures .1) (c .before .before .put-bytes .ensures .1) (omega arith) (omega arith))
+returns c =
+    let bytes : tie.After-put-bytes = search in
+    let number : tie.After-put-number = search in
+    (omega arith, write-behind _ _ _ _ _ _ _ (number .put-number .ensures .1) (bytes .put-bytes .ensures .1) (omega arith) (omega arith))
 
 pub put-string-spec : {M : Type 1} → statement M
 put-string-spec =
-    tie.close (tie.spec cast-n put-number-requires put-bytes-requires same-length returns)
+    tie.close
+    (tie.spec
+    cast-n
+    put-number-requires
+    put-bytes-requires
+    same-length
+    returns)

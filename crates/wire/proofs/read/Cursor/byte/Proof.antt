@@ -11,4 +11,10 @@ returns-2 : tie.Need-returns-2
 returns-2 c = byte-there _ _ (c .before .if1 .left)
 
 pub byte-spec : {M : Type 1} → statement M
-byte-spec = tie.close (tie.spec returns (λ c. search needs) (λ c. search needs) returns-2)
+byte-spec =
+    tie.close
+    (tie.spec
+    returns
+    (λ c. search needs)
+    (λ c. search needs)
+    returns-2)

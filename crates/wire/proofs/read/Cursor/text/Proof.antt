@@ -16,22 +16,49 @@ unfolding textAt
 returns c = search steps depth 8
 
 sub-if1 : tie.Need-sub-if1
-sub-if1 c = let h = string-read _ _ _ _ _ (sym (c .before .before .before .before .before .string .ensures) ∙ c .before .before .before .p .given .1) in omega arith
+sub-if1 c =
+    let told : tie.After-p = search in
+    let read : tie.After-string = search in
+    let h = string-read _ _ _ _ _ (sym (read .string .ensures) ∙ told .p .given .1) in
+    omega arith
 
 returns-2 : tie.Need-returns-2
 unfolding textAt part
-returns-2 c = rw (← c .before .before .before .before .before .before .string .ensures, c .before .before .before .before .p .given .1, ← c .before .before .cut .ensures .bytes, ← c .before .utf8-end .ensures, eq-eqb _ _ (c .if1 .taken))
+returns-2 c =
+    let ended : tie.After-utf8-end = search in
+    let bytes : tie.After-cut = search in
+    let told : tie.After-p = search in
+    let read : tie.After-string = search in
+    rw (← read .string .ensures, told .p .given .1, ← bytes .cut .ensures .bytes, ← ended .utf8-end .ensures, eq-eqb _ _ (c .if1 .taken))
 
 add-t9 : tie.Need-add-t9
 add-t9 c =
-    omega
-    (arith, text-room _ _ _ _ _ _ _ (sym (c .before .before .before .before .before .before .string .ensures) ∙ c .before .before .before .before .p .given .1) (c .before .before .cut .ensures .bytes) (c .before .utf8-end .ensures))
+    let ended : tie.After-utf8-end = search in
+    let bytes : tie.After-cut = search in
+    let told : tie.After-p = search in
+    let read : tie.After-string = search in
+    omega (arith, text-room _ _ _ _ _ _ _ (sym (read .string .ensures) ∙ told .p .given .1) (bytes .cut .ensures .bytes) (ended .utf8-end .ensures))
 
 returns-3 : tie.Need-returns-3
 unfolding textAt part
-returns-3 c = rw (← c .before .before .before .before .before .before .string .ensures, c .before .before .before .before .p .given .1, ← c .before .before .cut .ensures .bytes, ← c .before .utf8-end .ensures, ne-eqb _ _ (c .if1 .left))
+returns-3 c =
+    let ended : tie.After-utf8-end = search in
+    let bytes : tie.After-cut = search in
+    let told : tie.After-p = search in
+    let read : tie.After-string = search in
+    rw (← read .string .ensures, told .p .given .1, ← bytes .cut .ensures .bytes, ← ended .utf8-end .ensures, ne-eqb _ _ (c .if1 .left))
 
 pub text-spec : {M : Type 1} → statement M
 text-spec =
     tie.close
-    (tie.spec (λ c κs. search needs) (λ c. search needs) (λ c. search needs) returns (λ c κs. search needs) (λ c κs. search needs) sub-if1 returns-2 add-t9 returns-3)
+    (tie.spec
+    (λ c κs. search needs)
+    (λ c. search needs)
+    (λ c. search needs)
+    returns
+    (λ c κs. search needs)
+    (λ c κs. search needs)
+    sub-if1
+    returns-2
+    add-t9
+    returns-3)
