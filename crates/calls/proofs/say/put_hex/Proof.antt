@@ -15,11 +15,14 @@ abbrev μ-loop : tie.MeasureT-loop
 μ-loop bytes out₀ i₀ out i = length bytes - i
 
 loop-again : tie.Need-loop-again Inv-loop μ-loop
-loop-again c = (simp length-set (c .before .before .before .before .loop .inv .0), omega arith)
+loop-again c =
+    let turn : tie.At-loop Inv-loop μ-loop = search in
+    (simp length-set (turn .loop .inv .0), omega arith)
 
 second-fits : tie.Need-slice-write-out-2 Inv-loop μ-loop
 second-fits c =
-    let l = c .before .before .before .before .loop in
+    let turn : tie.At-loop Inv-loop μ-loop = search in
+    let l = turn .loop in
     let fits : l .i + l .i + 1 < length (l .out) = omega arith in
     simp length-set fits
 

@@ -30,7 +30,7 @@ returns-2 c =
     let a = start .args in
     let s = stage _ _ _ _ _ (strings .two-strings .ensures) _ (told .w .given .1) in
     let t = more s _ _ _ (signRequest (now (a .blob)) (now (a .bytes)) (a .flags)) (put .put-number .ensures .1) (put .put-number .ensures .0)
-            (behind-two 13 (now (a .blob)) (now (a .bytes)) _) (simp length-append (omega arith)) in
+    (behind-two 13 (now (a .blob)) (now (a .bytes)) _) (simp length-append (omega arith)) in
     whole _ _ _ _ _ t (simp length-append (omega arith))
 
 pub prepare-sign-request-spec : {M : Type 1} → statement M

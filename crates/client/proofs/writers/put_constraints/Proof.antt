@@ -31,7 +31,7 @@ loop-again c =
     let turn : tie.At-loop Inv-loop μ-loop = search in
     let start : tie.Start Inv-loop μ-loop = search in
     let next = one-standing _ _ _ (start .args .count) (start .pre .1) _ _ _ (turn .loop .inv .1) (KeyLifetime (record { count = 0 })) (omega arith) (omega arith)
-            _ _ (put .put-constraint .ensures .0) (put .put-constraint .ensures .1) in
+    _ _ (put .put-constraint .ensures .0) (put .put-constraint .ensures .1) in
     (omega arith, next)
 
 same-length : tie.Need-same-length Inv-loop μ-loop

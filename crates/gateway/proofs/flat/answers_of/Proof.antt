@@ -6,7 +6,9 @@ use Rattle.gateway.proofs.flat.answers_of.Tie as tie
 
 returns : tie.Need-returns
 unfolding answersOf
-returns c = rw (c .signed-of .ensures, c .before .confirmed-of .ensures, c .before .before .said-of2 .ensures, c .before .before .before .said-of .ensures)
+returns c =
+    let at-said-of : tie.After-said-of = search in
+    rw (c .signed-of .ensures, c .before .confirmed-of .ensures, c .before .before .said-of2 .ensures, at-said-of .said-of .ensures)
 
 pub answers-of-spec : {M : Type 1} → statement M
 answers-of-spec =

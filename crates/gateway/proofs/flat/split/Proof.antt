@@ -14,7 +14,9 @@ returns-2 c = rw (← c .before .before .read-frame .ensures, c .enum-told2 .giv
 
 returns-3 : tie.Need-returns-3
 unfolding flatSplit splitAs
-returns-3 c = rw (← c .before .before .before .read-frame .ensures, c .before .from .given .1)
+returns-3 c =
+    let at-read-frame : tie.After-read-frame = search in
+    rw (← at-read-frame .read-frame .ensures, c .before .from .given .1)
 
 pub split-spec : {M : Type 1} → statement M
 split-spec =

@@ -9,23 +9,21 @@ use Rattle.keeping.proofs.acts.is_kept.Tie as tie
 
 behind : tie.Need-part-is-zero-end
 behind c =
-    let st = c .before .before .before .before in
-    let long = comment-of (st .args .c) _ (st .good .0) in
+    let start : tie.Start = search in
+    let long = comment-of (start .args .c) _ (start .good .0) in
     omega arith
 
 inside : tie.Need-array-share-prefix-bytes
 inside c =
-    let tested = c .before .before .before .before .before in
-    let st = tested .before .before in
-    let long = comment-of (st .args .c) _ (st .good .0) in
+    let start : tie.Start = search in
+    let long = comment-of (start .args .c) _ (start .good .0) in
     omega arith
 
 size : tie.Need-slice-aggregate-is-same
 size c =
-    let tested = c .before .before .before .before .before .before in
-    let st = tested .before .before in
-    let long = comment-of (st .args .c) _ (st .good .0) in
-    sym (length-take-le (st .args .c .len) (st .args .c .bytes) (omega arith))
+    let start : tie.Start = search in
+    let long = comment-of (start .args .c) _ (start .good .0) in
+    sym (length-take-le (start .args .c .len) (start .args .c .bytes) (omega arith))
 
 pub is-kept-spec : {M : Type 1} → statement M
 is-kept-spec =

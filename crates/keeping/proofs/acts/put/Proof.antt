@@ -10,20 +10,20 @@ use Rattle.keeping.proofs.acts.put.Tie as tie
 may : tie.Need-put-requires
 unfolding gatewayOf
 may c κs =
-    let place = c .before .before in
-    let found = place .before .before in
-    let numbers = found .before .before in
-    let comment-long = numbers .before .before in
-    let fields-long = comment-long .before in
-    let fields-short = fields-long .before in
-    let blob-long = fields-short .before in
-    let blob-short = blob-long .before in
-    let text = blob-short .before in
-    let part = text .before in
-    let st = part .before .before .before .before in
-    let a = st .args in
+    let place : tie.After-i = search in
+    let found : tie.After-place-for = search in
+    let numbers : tie.Else6 = search in
+    let comment-long : tie.Else5 = search in
+    let fields-long : tie.Else4 = search in
+    let fields-short : tie.Else3 = search in
+    let blob-long : tie.Else2 = search in
+    let blob-short : tie.Else1 = search in
+    let text : tie.After-cut2 = search in
+    let part : tie.After-cut = search in
+    let start : tie.Start = search in
+    let a = start .args in
     let at = ap foundPlace (sym (found .place-for .ensures) ∙ place .i .given .1) in
-    place-for-put (a .state) (a .store .now) _ _ (st .pre) at
+    place-for-put (a .state) (a .store .now) _ _ (start .pre) at
     (record {
       blob-some = blob-short .if1 .left;
       blob-fits = blob-long .if2 .left;

@@ -8,11 +8,11 @@ use Rattle.keeping.proofs.judge.act.Tie as tie
 
 act-soundly-requires : tie.Need-act-soundly-requires
 act-soundly-requires c κs =
-    let st = c .before .before .before .before .before .before in
-    let s = st .args .state in
-    let own = st .good .1 .1 .0 in
+    let start : tie.Start = search in
+    let s = start .args .state in
+    let own = start .good .1 .1 .0 in
     let tested = sym (c .before .before .is-sound .ensures) ∙ c .before .if1 .taken in
-    sound-state-rule s (st .args .store .now) (eight-of s _ own) (record-of s _ own) .0 tested
+    sound-state-rule s (start .args .store .now) (eight-of s _ own) (record-of s _ own) .0 tested
 
 pub act-spec : {M : Type 1} → statement M
 act-spec =

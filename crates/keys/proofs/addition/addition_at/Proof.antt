@@ -6,11 +6,15 @@ use Rattle.keys.proofs.addition.addition_at.Tie as tie
 
 returns : tie.Need-returns
 unfolding additionAt key
-returns c = rw (← c .before .before .before .before .key-at .ensures, c .before .before .fields .given .1) (c .commented .ensures)
+returns c =
+    let at-key-at : tie.After-key-at = search in
+    rw (← at-key-at .key-at .ensures, c .before .before .fields .given .1) (c .commented .ensures)
 
 returns-2 : tie.Need-returns-2
 unfolding additionAt key
-returns-2 c = rw (← c .before .before .before .key-at .ensures, c .before .fields2 .given .1)
+returns-2 c =
+    let at-key-at : tie.After-key-at = search in
+    rw (← at-key-at .key-at .ensures, c .before .fields2 .given .1)
 
 pub addition-at-spec : {M : Type 1} → statement M
 addition-at-spec =

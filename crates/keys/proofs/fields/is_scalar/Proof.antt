@@ -20,11 +20,16 @@ shared-slice-read-result c = search needs
 
 returns-2 : tie.Need-returns-2
 unfolding scalar
-returns-2 c = rw (← c .before .before .before .before .is-mpint .ensures, c .before .before .before .if1 .taken, lt-leb _ _ (c .before .before .if2 .left), le-leb _ _ (c .before .if3 .taken))
+returns-2 c =
+    let then-1 : tie.Then1 = search in
+    let at-is-mpint : tie.After-is-mpint = search in
+    rw (← at-is-mpint .is-mpint .ensures, then-1 .if1 .taken, lt-leb _ _ (c .before .before .if2 .left), le-leb _ _ (c .before .if3 .taken))
 
 returns-3 : tie.Need-returns-3
 unfolding scalar
-returns-3 c = rw (← c .before .before .before .is-mpint .ensures, c .before .before .if1 .taken, lt-leb _ _ (c .before .if2 .left), lt-leb _ _ (c .if3 .left))
+returns-3 c =
+    let at-is-mpint : tie.After-is-mpint = search in
+    rw (← at-is-mpint .is-mpint .ensures, c .before .before .if1 .taken, lt-leb _ _ (c .before .if2 .left), lt-leb _ _ (c .if3 .left))
 
 returns-4 : tie.Need-returns-4
 unfolding scalar

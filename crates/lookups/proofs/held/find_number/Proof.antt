@@ -23,13 +23,13 @@ abbrev μ-loop : tie.MeasureT-loop
 returns : tie.Need-returns Inv-loop μ-loop
 unfolding gatewayOf
 returns c x =
-    let turn = c .before .before .before .before in
+    let turn : tie.At-loop Inv-loop μ-loop = search in
     let loop = turn .loop in
-    let st = turn .before .before in
-    let es = st .args .state .entries in
-    let eight = eight-of (st .args .state) _ (st .good .0) in
+    let start : tie.Start Inv-loop μ-loop = search in
+    let es = start .args .state .entries in
+    let eight = eight-of (start .args .state) _ (start .good .0) in
     let long = view-length es x eight in
-    let test = hasNumber (st .args .number) in
+    let test = hasNumber (start .args .number) in
     let here = ap test (view-at es x eight (loop .i) (omega arith)) ∙ sym (c .before .is-numbered .ensures _) ∙ c .if1 .taken in
     sym (loop .inv .1 x ∙ seek-stop test (view es x) (loop .i) (omega arith) here)
 
@@ -37,13 +37,13 @@ loop-again : tie.Need-loop-again Inv-loop μ-loop
 loop-again c = (
   search needs,
   λ x.
-      let turn = c .before .before .before .before in
+      let turn : tie.At-loop Inv-loop μ-loop = search in
       let loop = turn .loop in
-      let st = turn .before .before in
-      let es = st .args .state .entries in
-      let eight = eight-of (st .args .state) _ (st .good .0) in
+      let start : tie.Start Inv-loop μ-loop = search in
+      let es = start .args .state .entries in
+      let eight = eight-of (start .args .state) _ (start .good .0) in
       let long = view-length es x eight in
-      let test = hasNumber (st .args .number) in
+      let test = hasNumber (start .args .number) in
       let here = ap test (view-at es x eight (loop .i) (omega arith)) ∙ sym (c .before .is-numbered .ensures _) ∙ c .if1 .left in
       loop .inv .1 x ∙ seek-step test (view es x) (loop .i) (omega arith) here,
 )
@@ -52,11 +52,11 @@ returns-2 : tie.Need-returns-2 Inv-loop μ-loop
 unfolding gatewayOf
 returns-2 c x =
     let loop = c .before .loop in
-    let st = c .before .before .before in
-    let es = st .args .state .entries in
-    let eight = eight-of (st .args .state) _ (st .good .0) in
+    let start : tie.Start Inv-loop μ-loop = search in
+    let es = start .args .state .entries in
+    let eight = eight-of (start .args .state) _ (start .good .0) in
     let long = view-length es x eight in
-    sym (loop .inv .1 x ∙ seek-end (hasNumber (st .args .number)) (view es x) (loop .i) (omega arith))
+    sym (loop .inv .1 x ∙ seek-end (hasNumber (start .args .number)) (view es x) (loop .i) (omega arith))
 
 pub find-number-spec : {M : Type 1} → statement M
 find-number-spec =

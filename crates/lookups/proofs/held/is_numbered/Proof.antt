@@ -7,7 +7,9 @@ returns : tie.Need-returns
 returns c p = rw (place-free (c .before .before .args .e) p (c .if1 .taken))
 
 returns-2 : tie.Need-returns-2
-returns-2 c p = rw (place-held (c .before .before .before .args .e) p (c .before .if1 .left))
+returns-2 c p =
+    let start : tie.Start = search in
+    rw (place-held (start .args .e) p (c .before .if1 .left))
 
 pub is-numbered-spec : {M : Type 1} → statement M
 is-numbered-spec =

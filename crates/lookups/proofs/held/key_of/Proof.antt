@@ -9,46 +9,49 @@ use Rattle.lookups.proofs.held.key_of.Tie as tie
 
 returns : tie.Need-returns
 returns c =
-    let tested = c .before in
-    let st = tested .before .before .before in
-    c .untold .ensures ∙ key-unsound (st .args .state) (st .args .store .now) (st .args .number) (sym (tested .before .is-sound .ensures) ∙ not-true _ (tested .if1 .taken))
+    let tested : tie.Then1 = search in
+    let start : tie.Start = search in
+    c .untold .ensures ∙ key-unsound (start .args .state) (start .args .store .now) (start .args .number) (sym (tested .before .is-sound .ensures) ∙ not-true _ (tested .if1 .taken))
 
 told-at-requires : tie.Need-told-at-requires
 told-at-requires c κs =
-    let place = c .before in
-    let search = place .before .before in
-    let tested = search .before in
-    let st = tested .before .before .before in
-    let s = st .args .state in
-    let x = st .args .store .now in
-    let eight = eight-of s _ (st .good .0) in (
-      place-within s x (st .args .number) _ eight (sym (search .find-number .ensures x) ∙ place .i .given .1),
-      sound-told s x _ eight (record-of s _ (st .good .0)) (tested .if1 .left) (tested .before .is-sound .ensures),
+    let place : tie.After-i = search in
+    let sought : tie.After-find-number = search in
+    let tested : tie.Else1 = search in
+    let at-is-sound : tie.After-is-sound = search in
+    let start : tie.Start = search in
+    let s = start .args .state in
+    let x = start .args .store .now in
+    let eight = eight-of s _ (start .good .0) in (
+      place-within s x (start .args .number) _ eight (sym (sought .find-number .ensures x) ∙ place .i .given .1),
+      sound-told s x _ eight (record-of s _ (start .good .0)) (tested .if1 .left) (at-is-sound .is-sound .ensures),
     )
 
 returns-2 : tie.Need-returns-2
 returns-2 c =
-    let place = c .before .before in
-    let search = place .before .before in
-    let tested = search .before in
-    let st = tested .before .before .before in
-    let s = st .args .state in
-    let x = st .args .store .now in
-    let n = st .args .number in
-    let at = sym (search .find-number .ensures x) ∙ place .i .given .1 in
+    let place : tie.After-i = search in
+    let sought : tie.After-find-number = search in
+    let tested : tie.Else1 = search in
+    let at-is-sound : tie.After-is-sound = search in
+    let start : tie.Start = search in
+    let s = start .args .state in
+    let x = start .args .store .now in
+    let n = start .args .number in
+    let at = sym (sought .find-number .ensures x) ∙ place .i .given .1 in
     let k = numbered-at s x n _ at in
-    c .told-at .ensures (k .key) (k .there) ∙ key-found s x n (sym (tested .before .is-sound .ensures) ∙ not-false _ (tested .if1 .left)) _ (k .key) at (k .there)
+    c .told-at .ensures (k .key) (k .there) ∙ key-found s x n (sym (at-is-sound .is-sound .ensures) ∙ not-false _ (tested .if1 .left)) _ (k .key) at (k .there)
 
 returns-3 : tie.Need-returns-3
 returns-3 c =
-    let absent = c .before in
-    let search = absent .before .before in
-    let tested = search .before in
-    let st = tested .before .before .before in
-    let s = st .args .state in
-    let x = st .args .store .now in
+    let absent : tie.After-enum-told = search in
+    let sought : tie.After-find-number = search in
+    let tested : tie.Else1 = search in
+    let at-is-sound : tie.After-is-sound = search in
+    let start : tie.Start = search in
+    let s = start .args .state in
+    let x = start .args .store .now in
     c .untold2 .ensures
-    ∙ key-absent s x (st .args .number) (sym (tested .before .is-sound .ensures) ∙ not-false _ (tested .if1 .left)) (sym (search .find-number .ensures x) ∙ absent .enum-told .given .1)
+    ∙ key-absent s x (start .args .number) (sym (at-is-sound .is-sound .ensures) ∙ not-false _ (tested .if1 .left)) (sym (sought .find-number .ensures x) ∙ absent .enum-told .given .1)
 
 pub key-of-spec : {M : Type 1} → statement M
 key-of-spec =

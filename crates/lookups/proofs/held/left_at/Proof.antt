@@ -16,18 +16,20 @@ returns c = let asked = c .before .is-set in rw (← asked .ensures, not-true (a
 returns-2 : tie.Need-returns-2
 unfolding leftAt
 returns-2 c =
-    let lifetime = c .before .before .before .before in
-    let limited = lifetime .before .before in
-    let asked = limited .before .is-set in
+    let lifetime : tie.After-millis-of = search in
+    let limited : tie.Else1 = search in
+    let at-is-set : tie.After-is-set = search in
+    let asked = at-is-set .is-set in
     let long = ap (λ (t : Millis). t .count) (lifetime .millis-of .ensures) in
     rw (← asked .ensures, not-false (asked .result) (limited .if1 .left)) (same-count (omega arith))
 
 returns-3 : tie.Need-returns-3
 unfolding leftAt
 returns-3 c =
-    let lifetime = c .before .before .before .before .before in
-    let limited = lifetime .before .before in
-    let asked = limited .before .is-set in
+    let lifetime : tie.After-millis-of = search in
+    let limited : tie.Else1 = search in
+    let at-is-set : tie.After-is-set = search in
+    let asked = at-is-set .is-set in
     let long = ap (λ (t : Millis). t .count) (lifetime .millis-of .ensures) in
     rw (← asked .ensures, not-false (asked .result) (limited .if1 .left)) (same-count (omega arith))
 

@@ -11,36 +11,34 @@ use Rattle.lookups.proofs.held.told_at.Tie as tie
 
 left-at-requires : tie.Need-left-at-requires
 left-at-requires c κs =
-    let st = c .before .before .before .before .before in
-    entry-kept (st .args .state) (st .args .store .now) (st .pre .1) (st .args .i) (st .pre .0) .reading-past
+    let start : tie.Start = search in
+    entry-kept (start .args .state) (start .args .store .now) (start .pre .1) (start .args .i) (start .pre .0) .reading-past
 
 add-blob-to : tie.Need-add-blob-to
 add-blob-to c =
-    let asked = c .before .before in
-    let st = asked .before .before .before .before .before .before in
-    let kept = entry-kept (st .args .state) (st .args .store .now) (st .pre .1) (st .args .i) (st .pre .0) in
+    let start : tie.Start = search in
+    let kept = entry-kept (start .args .state) (start .args .store .now) (start .pre .1) (start .args .i) (start .pre .0) in
     omega arith
 
 add-fields-to : tie.Need-add-fields-to
 add-fields-to c =
-    let asked = c .before .before .before .before in
-    let st = asked .before .before .before .before .before .before in
-    let kept = entry-kept (st .args .state) (st .args .store .now) (st .pre .1) (st .args .i) (st .pre .0) in
+    let start : tie.Start = search in
+    let kept = entry-kept (start .args .state) (start .args .store .now) (start .pre .1) (start .args .i) (start .pre .0) in
     omega arith
 
 returns : tie.Need-returns
 returns c k there =
     let fields = c .before .fields-from in
-    let begun = c .before .before .before in
-    let left = begun .before in
-    let st = left .before .before .before .before .before .before in
-    let s = st .args .state in
-    let i = st .args .i in
-    let S = st .pre .1 in
-    let start = sym (place-start (s .entries) i (omega (arith, S .eight-entries))) in
-    told-is s i _ _ _ _ k (entry-is s (st .args .store .now) S i (st .pre .0) k there) (left .left-at .ensures)
-    (begun .start-of .ensures ∙ start)
-    (fields .ensures ∙ ap (λ (n : ℕ). n + fieldsAt) start)
+    let begun : tie.After-start-of = search in
+    let left : tie.After-left-at = search in
+    let start : tie.Start = search in
+    let s = start .args .state in
+    let i = start .args .i in
+    let S = start .pre .1 in
+    let place = sym (place-start (s .entries) i (omega (arith, S .eight-entries))) in
+    told-is s i _ _ _ _ k (entry-is s (start .args .store .now) S i (start .pre .0) k there) (left .left-at .ensures)
+    (begun .start-of .ensures ∙ place)
+    (fields .ensures ∙ ap (λ (n : ℕ). n + fieldsAt) place)
 
 pub told-at-spec : {M : Type 1} → statement M
 told-at-spec =

@@ -32,21 +32,22 @@ loop-holds c = (
 
 loop-again : tie.Need-loop-again Inv-loop μ-loop
 unfolding gatewayOf
-loop-again c = (
-  search needs,
-  λ x.
-      let loop = c .before .before .before .loop in
-      let st = c .before .before .before .before in
-      let s = st .args .state in
-      let long = view-length (s .entries) x (eight-of s _ (st .good .0)) in
-      c .nearer .ensures ∙ least-step (st .args .after) (view (s .entries) x) (loop .i) _ _ (omega arith) (omega arith) (c .before .number-at .ensures x) (loop .inv .1 x),
-)
+loop-again c =
+    let turn : tie.At-loop Inv-loop μ-loop = search in (
+      search needs,
+      λ x.
+          let loop = turn .loop in
+          let start : tie.Start Inv-loop μ-loop = search in
+          let s = start .args .state in
+          let long = view-length (s .entries) x (eight-of s _ (start .good .0)) in
+          c .nearer .ensures ∙ least-step (start .args .after) (view (s .entries) x) (loop .i) _ _ (omega arith) (omega arith) (c .before .number-at .ensures x) (loop .inv .1 x),
+    )
 
 returns : tie.Need-returns Inv-loop μ-loop
 returns c x =
     let loop = c .before .loop in
-    let st = c .before .before in
-    loop .inv .1 x ∙ least-all (st .args .after) (gatewayOf (st .args .state) x .places) (loop .i) (omega arith)
+    let start : tie.Start Inv-loop μ-loop = search in
+    loop .inv .1 x ∙ least-all (start .args .after) (gatewayOf (start .args .state) x .places) (loop .i) (omega arith)
 
 pub least-above-spec : {M : Type 1} → statement M
 least-above-spec =

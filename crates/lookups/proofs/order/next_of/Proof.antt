@@ -8,15 +8,15 @@ use Rattle.lookups.proofs.order.next_of.Tie as tie
 
 returns : tie.Need-returns
 returns c =
-    let st = c .before .before .before in
-    next-unsound (st .args .state) (st .args .store .now) (st .args .after) (sym (c .before .is-sound .ensures) ∙ not-true _ (c .if1 .taken))
+    let start : tie.Start = search in
+    next-unsound (start .args .state) (start .args .store .now) (start .args .after) (sym (c .before .is-sound .ensures) ∙ not-true _ (c .if1 .taken))
 
 returns-2 : tie.Need-returns-2
 returns-2 c =
-    let tested = c .before in
-    let st = tested .before .before .before in
-    let x = st .args .store .now in
-    c .least-above .ensures x ∙ next-sound (st .args .state) x (st .args .after) (sym (tested .before .is-sound .ensures) ∙ not-false _ (tested .if1 .left))
+    let tested : tie.Else1 = search in
+    let start : tie.Start = search in
+    let x = start .args .store .now in
+    c .least-above .ensures x ∙ next-sound (start .args .state) x (start .args .after) (sym (tested .before .is-sound .ensures) ∙ not-false _ (tested .if1 .left))
 
 pub next-of-spec : {M : Type 1} → statement M
 next-of-spec =

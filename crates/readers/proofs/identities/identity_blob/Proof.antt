@@ -8,12 +8,15 @@ use Rattle.readers.proofs.identities.identity_blob.Tie as tie
 
 returns : tie.Need-returns
 unfolding blobOfItem blobFrom
-returns c = rw (← c .before .before .before .before .identity .ensures, c .before .before .item .given .1) (c .cut .ensures)
+returns c =
+    let at-identity : tie.After-identity = search in
+    rw (← at-identity .identity .ensures, c .before .before .item .given .1) (c .cut .ensures)
 
 returns-2 : tie.Need-returns-2
 unfolding blobOfItem blobFrom
 returns-2 c =
-    rw (← c .before .before .before .identity .ensures, c .before .enum-told .given .1)
+    let at-identity : tie.After-identity = search in
+    rw (← at-identity .identity .ensures, c .before .enum-told .given .1)
     (part-as _ _ _ _ _ _ (c .cut2 .ensures) (from-none _) (sym (cut-none _)))
 
 pub identity-blob-spec : {M : Type 1} → statement M

@@ -7,11 +7,16 @@ use Rattle.readers.proofs.signature.signature_end.Tie as tie
 
 returns-2 : tie.Need-returns-2
 unfolding signatureEnd part
-returns-2 c = rw (← c .before .before .before .before .before .string .ensures, c .before .before .before .to .given .1, c .before .if1 .taken) (c .touched-end .ensures)
+returns-2 c =
+    let at-to : tie.After-to = search in
+    let at-string : tie.After-string = search in
+    rw (← at-string .string .ensures, at-to .to .given .1, c .before .if1 .taken) (c .touched-end .ensures)
 
 returns-3 : tie.Need-returns-3
 unfolding signatureEnd part
-returns-3 c = rw (← c .before .before .before .before .string .ensures, c .before .before .to .given .1, c .if1 .left)
+returns-3 c =
+    let at-string : tie.After-string = search in
+    rw (← at-string .string .ensures, c .before .before .to .given .1, c .if1 .left)
 
 pub signature-end-spec : {M : Type 1} → statement M
 unfolding signatureEnd

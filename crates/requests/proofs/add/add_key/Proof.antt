@@ -12,7 +12,9 @@ returns c = λ a e. search (adds, answering (c .before .before .failure .ensures
 
 returns-2 : tie.Need-returns-2
 unfolding adding
-returns-2 c = λ a e. search (adds, c .before .before .before .before .store-fields .ensures a e) depth 16
+returns-2 c =
+    let at-store-fields : tie.After-store-fields = search in
+    λ a e. search (adds, at-store-fields .store-fields .ensures a e) depth 16
 
 pub add-key-spec : {M : Type 1} → statement M
 add-key-spec =

@@ -24,9 +24,10 @@ returns-4 c = rw (lt-leb _ _ (c .if4 .taken), and-false, and-false)
 returns-5 : tie.Need-returns-5
 unfolding fit
 returns-5 c =
-    let fields = c .before in
-    let blob = fields .before in
-    rw (le-leb _ _ (blob .before .if1 .left), le-leb _ _ (blob .if2 .left), le-leb _ _ (fields .if3 .left), le-leb _ _ (c .if4 .left))
+    let fields : tie.Else3 = search in
+    let blob : tie.Else2 = search in
+    let else-1 : tie.Else1 = search in
+    rw (le-leb _ _ (else-1 .if1 .left), le-leb _ _ (blob .if2 .left), le-leb _ _ (fields .if3 .left), le-leb _ _ (c .if4 .left))
 
 pub fits-spec : {M : Type 1} → statement M
 fits-spec =

@@ -11,34 +11,34 @@ use Rattle.requests.proofs.add.store_fields.Tie as tie
 
 inside : tie.Need-array-share-prefix-room
 inside c =
-    let len = c .before .before in
-    let blob = len .before .before .before in
+    let len : tie.After-n = search in
+    let blob : tie.After-put-blob = search in
     (blob-stands _ _ _ _ _ (blob .put-blob .ensures .0) _ _ (blob .put-blob .ensures .1) (len .n .given .1)) .inside
 
 size : tie.Need-slice-aggregate-store-key
 size c =
-    let len = c .before .before .before in
-    let blob = len .before .before .before in
+    let len : tie.After-n = search in
+    let blob : tie.After-put-blob = search in
     (blob-stands _ _ _ _ _ (blob .put-blob .ensures .0) _ _ (blob .put-blob .ensures .1) (len .n .given .1)) .size
 
 returns : tie.Need-returns
 unfolding storing
 returns c =
-    let failed = c .before .before in
-    let told = failed .before .before in
-    let blob = told .before .before .before in
-    let st = blob .before .before .before .before .before .before in
+    let failed : tie.After-failure = search in
+    let told : tie.After-enum-told = search in
+    let blob : tie.After-put-blob = search in
+    let start : tie.Start = search in
     let over = blob-over _ _ _ _ _ (blob .put-blob .ensures .0) blobLimit (length-replicate {A = ℕ} blobLimit 0) (told .enum-told .given .1) in
-    λ a e. search (adds, answering (failed .failure .ensures), over, st .pre .1) depth 16
+    λ a e. search (adds, answering (failed .failure .ensures), over, start .pre .1) depth 16
 
 returns-2 : tie.Need-returns-2
 returns-2 c =
-    let stored = c .before .before .before .before in
-    let len = stored .before .before .before .before .before in
-    let blob = len .before .before .before in
-    let st = blob .before .before .before .before .before .before in
+    let stored : tie.After-store-key = search in
+    let len : tie.After-n = search in
+    let blob : tie.After-put-blob = search in
+    let start : tie.Start = search in
     let stands = (blob-stands _ _ _ _ _ (blob .put-blob .ensures .0) _ _ (blob .put-blob .ensures .1) (len .n .given .1)) in
-    λ a e. stored-as _ _ _ _ _ _ _ (st .args .carried) _ _ _ (stands .blob) (stored .store-key .ensures a e)
+    λ a e. stored-as _ _ _ _ _ _ _ (start .args .carried) _ _ _ (stands .blob) (stored .store-key .ensures a e)
 
 pub store-fields-spec : {M : Type 1} → statement M
 store-fields-spec =

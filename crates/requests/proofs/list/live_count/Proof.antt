@@ -17,10 +17,14 @@ loop-holds : tie.Need-loop-holds Inv-loop μ-loop
 loop-holds c = none-counted _
 
 loop-again : tie.Need-loop-again Inv-loop μ-loop
-loop-again c = let st = c .before .before .before in one-counted _ (eight-of (st .args .state) _ (st .good .0)) _ _ (c .before .before .loop .inv) _ (omega arith) (c .count-at .ensures .0) (c .count-at .ensures .1)
+loop-again c =
+    let start : tie.Start Inv-loop μ-loop = search in
+    one-counted _ (eight-of (start .args .state) _ (start .good .0)) _ _ (c .before .before .loop .inv) _ (omega arith) (c .count-at .ensures .0) (c .count-at .ensures .1)
 
 returns : tie.Need-returns Inv-loop μ-loop
-returns c = let st = c .before .before in all-counted _ (eight-of (st .args .state) _ (st .good .0)) _ _ (c .before .loop .inv) (omega arith)
+returns c =
+    let start : tie.Start Inv-loop μ-loop = search in
+    all-counted _ (eight-of (start .args .state) _ (start .good .0)) _ _ (c .before .loop .inv) (omega arith)
 
 pub live-count-spec : {M : Type 1} → statement M
 live-count-spec =

@@ -9,21 +9,21 @@ use Rattle.requests.proofs.list.put_comment.Tie as tie
 
 inside : tie.Need-array-share-prefix-bytes
 inside c =
-    let st = c .before .before .before in
-    let long = comment-of (st .args .c) _ (st .good .0) in
+    let start : tie.Start = search in
+    let long = comment-of (start .args .c) _ (start .good .0) in
     omega arith
 
 size : tie.Need-slice-aggregate-put-string
 size c =
-    let st = c .before .before .before .before in
-    let long = comment-of (st .args .c) _ (st .good .0) in
-    sym (length-take-le (st .args .c .len) (st .args .c .bytes) (omega arith))
+    let start : tie.Start = search in
+    let long = comment-of (start .args .c) _ (start .good .0) in
+    sym (length-take-le (start .args .c .len) (start .args .c .bytes) (omega arith))
 
 room : tie.Need-put-string-requires
 room c κs =
-    let st = c .before .before .before .before in
-    let long = comment-of (st .args .c) _ (st .good .0) in
-    let kept = length-take-le (st .args .c .len) (st .args .c .bytes) (omega arith) in
+    let start : tie.Start = search in
+    let long = comment-of (start .args .c) _ (start .good .0) in
+    let kept = length-take-le (start .args .c .len) (start .args .c .bytes) (omega arith) in
     (omega arith, omega arith)
 
 returns : tie.Need-returns

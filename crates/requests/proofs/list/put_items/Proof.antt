@@ -18,21 +18,25 @@ loop-holds : tie.Need-loop-holds Inv-loop μ-loop
 loop-holds c = none-written _ _ _
 
 put-item-requires : tie.Need-put-item-requires Inv-loop μ-loop
-put-item-requires c κs = let st = c .before .before .before .before .before in (omega arith, st .pre .0, omega arith)
+put-item-requires c κs =
+    let start : tie.Start Inv-loop μ-loop = search in
+    (omega arith, start .pre .0, omega arith)
 
 loop-again : tie.Need-loop-again Inv-loop μ-loop
 loop-again c =
-    let written = c .before .before in
-    let loop = written .before .before .before in
-    let st = loop .before .before .before in
-    one-written _ (sound-meaning _ _ (st .pre .0)) _ _ _ _ _ (loop .loop .inv) (st .pre .1) _ _ (omega arith) (written .put-item .ensures .0)
+    let written : tie.After-put-item Inv-loop μ-loop = search in
+    let loop : tie.At-loop Inv-loop μ-loop = search in
+    let start : tie.Start Inv-loop μ-loop = search in
+    one-written _ (sound-meaning _ _ (start .pre .0)) _ _ _ _ _ (loop .loop .inv) (start .pre .1) _ _ (omega arith) (written .put-item .ensures .0)
     (written .put-item .ensures .1)
 
 same-length : tie.Need-same-length Inv-loop μ-loop
 same-length c = c .before .loop .inv .size
 
 returns : tie.Need-returns Inv-loop μ-loop
-returns c = let st = c .before .before .before .before in all-written _ (sound-meaning _ _ (st .pre .0)) _ _ _ _ _ (c .before .loop .inv) (st .pre .1) (omega arith)
+returns c =
+    let start : tie.Start Inv-loop μ-loop = search in
+    all-written _ (sound-meaning _ _ (start .pre .0)) _ _ _ _ _ (c .before .loop .inv) (start .pre .1) (omega arith)
 
 pub put-items-spec : {M : Type 1} → statement M
 put-items-spec =

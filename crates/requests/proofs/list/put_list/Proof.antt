@@ -6,15 +6,15 @@ use Rattle.requests.proofs.list.put_list.Tie as tie
 
 returns : tie.Need-returns
 returns c =
-    let count = c .before .before in
-    let kind = count .before .before .before .before in
-    let number = kind .before .before .before .before in
-    let counted = number .before .before in
-    let items = counted .before .before .before in
-    let st = items .before .before .before .before in
+    let count : tie.After-put-number2 = search in
+    let kind : tie.After-put-byte = search in
+    let number : tie.After-put-number = search in
+    let counted : tie.After-live-count = search in
+    let items : tie.After-put-items = search in
+    let start : tie.Start = search in
     let k = items .put-items .ensures in
     list-written _ _ _ _ _ _ _ _ _ _ (k .0) (k .1) (number .put-number .ensures .1) (number .put-number .ensures .0) (kind .put-byte .ensures .1)
-    (kind .put-byte .ensures .0) (count .put-number2 .ensures .1) (counted .live-count .ensures .0 _) (st .pre .1) (k .2)
+    (kind .put-byte .ensures .0) (count .put-number2 .ensures .1) (counted .live-count .ensures .0 _) (start .pre .1) (k .2)
 
 pub put-list-spec : {M : Type 1} → statement M
 put-list-spec =

@@ -8,7 +8,9 @@ use Rattle.requests.proofs.list.request_identities.Tie as tie
 
 returns : tie.Need-returns
 unfolding listing
-returns c = λ a. landed _ _ _ _ _ _ _ _ (replied _ _ _ _ _ _ _ _ refl (c .before .before .put-list .ensures .0) (c .before .before .put-list .ensures .1) (means-itself _ _ (c .before .before .before .before .before .before .pre .0)))
+returns c =
+    let start : tie.Start = search in
+    λ a. landed _ _ _ _ _ _ _ _ (replied _ _ _ _ _ _ _ _ refl (c .before .before .put-list .ensures .0) (c .before .before .put-list .ensures .1) (means-itself _ _ (start .pre .0)))
 
 pub request-identities-spec : {M : Type 1} → statement M
 request-identities-spec =

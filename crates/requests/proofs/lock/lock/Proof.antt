@@ -16,13 +16,13 @@ returns-2 c = λ a. search (ends, answering (c .before .before .failure2 .ensure
 returns-3 : tie.Need-returns-3
 unfolding locking
 returns-3 c =
-    let answered = c .before .before in
-    let locked = answered .before .before in
-    let taken = locked .before in
-    let tested = taken .before in
-    let part = tested .before .before in
-    let read = part .before .before in
-    let st = read .before .before .before .before in
+    let answered : tie.After-success = search in
+    let locked : tie.After-with-lock = search in
+    let taken : tie.After-cut = search in
+    let tested : tie.Else1 = search in
+    let part : tie.After-from = search in
+    let read : tie.After-string = search in
+    let start : tie.Start = search in
     λ a. search (
       ends,
       answering (answered .success .ensures),
@@ -31,7 +31,7 @@ returns-3 c =
       tested .if1 .left,
       part .from .given .1,
       read .string .ensures,
-      st .pre .1,
+      start .pre .1,
     ) depth 16
 
 pub lock-spec : {M : Type 1} → statement M

@@ -12,15 +12,15 @@ returns c = λ a. search (ends, answering (c .before .before .failure .ensures))
 returns-2 : tie.Need-returns-2
 unfolding unlocking
 returns-2 c =
-    let answered = c .before .before in
-    let locked = answered .before .before in
-    let empty = locked .before in
-    let tested = empty .before in
-    let compared = tested .before in
-    let taken = compared .before in
-    let part = taken .before .before in
-    let read = part .before .before in
-    let st = read .before .before .before .before in
+    let answered : tie.After-success = search in
+    let locked : tie.After-with-lock = search in
+    let empty : tie.After-cut2 = search in
+    let tested : tie.Then1 = search in
+    let compared : tie.After-is-passphrase = search in
+    let taken : tie.After-cut = search in
+    let part : tie.After-from = search in
+    let read : tie.After-string = search in
+    let start : tie.Start = search in
     λ a. search (
       ends,
       answering (answered .success .ensures),
@@ -31,7 +31,7 @@ returns-2 c =
       taken .cut .ensures .bytes,
       part .from .given .1,
       read .string .ensures,
-      st .pre .1,
+      start .pre .1,
     ) depth 16
 
 returns-3 : tie.Need-returns-3

@@ -12,21 +12,19 @@ returns c = λ a. search (ends, answering (c .before .before .failure .ensures))
 
 success-requires : tie.Need-success-requires
 success-requires c κs =
-    let place = c .before .before .before .before .before .before in
-    let part = place .before .before .before .before .before .before in
-    let st = part .before .before .before .before .before .before in
-    omega (arith, st .pre .0)
+    let start : tie.Start = search in
+    omega (arith, start .pre .0)
 
 returns-2 : tie.Need-returns-2
 unfolding removing
 returns-2 c =
-    let answered = c .before .before in
-    let removed = answered .before .before .before .before in
-    let place = removed .before .before .before in
-    let found = place .before .before in
-    let taken = found .before in
-    let part = taken .before .before .before in
-    let read = part .before .before in
+    let answered : tie.After-success = search in
+    let removed : tie.After-remove = search in
+    let place : tie.After-i = search in
+    let found : tie.After-find = search in
+    let taken : tie.After-cut = search in
+    let part : tie.After-from = search in
+    let read : tie.After-string = search in
     λ a. search (
       ends,
       answering (answered .success .ensures),

@@ -11,7 +11,9 @@ returns c = rw (c .before .before .c .given .1, ne-eqb _ _ (c .if1 .taken))
 
 returns-2 : tie.Need-returns-2
 unfolding forNumber
-returns-2 c = rw (c .before .before .before .c .given .1, eq-eqb _ _ (c .before .if1 .left), c .if2 .taken)
+returns-2 c =
+    let at-c : tie.After-c = search in
+    rw (at-c .c .given .1, eq-eqb _ _ (c .before .if1 .left), c .if2 .taken)
 
 returns-3 : tie.Need-returns-3
 unfolding forNumber
@@ -19,7 +21,9 @@ returns-3 c = rw (c .enum-told .given .1)
 
 returns-4 : tie.Need-returns-4
 unfolding forNumber
-returns-4 c = rw (c .before .before .before .c .given .1, eq-eqb _ _ (c .before .if1 .left), c .if2 .left)
+returns-4 c =
+    let at-c : tie.After-c = search in
+    rw (at-c .c .given .1, eq-eqb _ _ (c .before .if1 .left), c .if2 .left)
 
 pub confirmed-for-spec : {M : Type 1} → statement M
 confirmed-for-spec =

@@ -12,9 +12,10 @@ returns c = λ x S. let asked = c .before .confirm-at in rw (← asked .ensures 
 returns-2 : tie.Need-returns-2
 unfolding agreed
 returns-2 c =
+    let at-confirm-at : tie.After-confirm-at = search in
     let number = c .before .number-at in
-    let tested = c .before .before in
-    let asked = tested .before .confirm-at in
+    let tested : tie.Else1 = search in
+    let asked = at-confirm-at .confirm-at in
     λ x S. rw (← asked .ensures .1 x S, not-false (asked .result) (tested .if1 .left), ← number .ensures x) (c .confirmed-for .ensures)
 
 pub consent-spec : {M : Type 1} → statement M

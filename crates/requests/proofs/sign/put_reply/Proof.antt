@@ -7,9 +7,9 @@ use Rattle.requests.proofs.sign.put_reply.Tie as tie
 
 returns : tie.Need-returns
 returns c =
-    let string = c .before .before in
-    let kind = string .before .before .before .before in
-    let number = kind .before .before .before .before in
+    let string : tie.After-put-string = search in
+    let kind : tie.After-put-byte = search in
+    let number : tie.After-put-number = search in
     signature-written _ _ _ _ _ _ _ _ (number .put-number .ensures .1) (number .put-number .ensures .0) (kind .put-byte .ensures .1)
     (kind .put-byte .ensures .0) (string .put-string .ensures .1) (string .put-string .ensures .0) (omega arith)
 

@@ -16,11 +16,10 @@ returns-2 c = search (signs, closing (c .closed2 .ensures)) depth 16
 
 put-reply-requires : tie.Need-put-reply-requires
 put-reply-requires c κs =
-    let said = c .before in
-    let signed = said .before .before in
-    let number = signed .before .before .before .before .before in
-    let read = number .before .before .before .before in
-    let st = read .before .before .before .before .before in
+    let said : tie.After-enum-told5 = search in
+    let signed : tie.After-signed-for = search in
+    let at-at-match-keys1 : tie.At-match-keys1 = search in
+    let st = at-at-match-keys1 .before .before .before .before .before .before in
     (st .pre .0, signature-short (st .args .answers) _ _ _ (signed .signed-for .ensures) _ (said .enum-told5 .given .1) (st .pre .1))
 
 returns-3 : tie.Need-returns-3
@@ -30,13 +29,13 @@ returns-3 c = search signs depth 16
 returns-4 : tie.Need-returns-4
 unfolding signingData
 returns-4 c =
-    let said = c .before in
-    let signed = said .before .before in
-    let flags = signed .before .before .before in
-    let number = flags .before .before in
-    let part = number .before .before in
-    let read = part .before .before in
-    let st = read .before .before .before .before .before in
+    let said : tie.After-enum-told4 = search in
+    let signed : tie.After-signed-for = search in
+    let flags : tie.After-flags = search in
+    let number : tie.After-number = search in
+    let part : tie.After-from = search in
+    let read : tie.After-string = search in
+    let start : tie.Start = search in
     search (
       signs,
       closing (c .closed3 .ensures),
@@ -46,7 +45,7 @@ returns-4 c =
       number .number .ensures,
       part .from .given .1,
       read .string .ensures,
-      st .pre .2,
+      start .pre .2,
     ) depth 16
 
 returns-5 : tie.Need-returns-5

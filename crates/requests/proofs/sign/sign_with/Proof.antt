@@ -6,26 +6,32 @@ use Rattle.requests.proofs.sign.sign_with.Statement.{statement}
 use Rattle.requests.proofs.sign.sign_with.Tie as tie
 
 returns : tie.Need-returns
-returns c = λ k there.
-    let asked = c .before .before in
-    let st = asked .before .before .before .before .before .before in
-    search (signs, c .enum-told .given .1, there, asked .consent .ensures _ (st .pre .3), asked .before .number-at .ensures (st .args .store .now), st .pre .3) depth 16
+returns c =
+    let at-number-at : tie.After-number-at = search in
+    λ k there.
+    let asked : tie.After-consent = search in
+    let start : tie.Start = search in
+    search (signs, c .enum-told .given .1, there, asked .consent .ensures _ (start .pre .3), at-number-at .number-at .ensures (start .args .store .now), start .pre .3) depth 16
 
 returns-2 : tie.Need-returns-2
-returns-2 c = λ k there.
-    let failed = c .before .before in
-    let said = failed .before .before in
-    let asked = said .before .before in
-    let st = asked .before .before .before .before .before .before in
-    search (signs, answering (failed .failure .ensures), said .enum-told2 .given .1, there, asked .consent .ensures _ (st .pre .3), asked .before .number-at .ensures (st .args .store .now), st .pre .3) depth 16
+returns-2 c =
+    let at-number-at : tie.After-number-at = search in
+    λ k there.
+    let failed : tie.After-failure = search in
+    let said : tie.After-enum-told2 = search in
+    let asked : tie.After-consent = search in
+    let start : tie.Start = search in
+    search (signs, answering (failed .failure .ensures), said .enum-told2 .given .1, there, asked .consent .ensures _ (start .pre .3), at-number-at .number-at .ensures (start .args .store .now), start .pre .3) depth 16
 
 returns-3 : tie.Need-returns-3
-returns-3 c = λ k there.
-    let signed = c .before .before in
-    let said = signed .before .before in
-    let asked = said .before .before in
-    let st = asked .before .before .before .before .before .before in
-    search (signs, signed .sign-data .ensures, said .enum-told3 .given .1, there, asked .consent .ensures _ (st .pre .3), asked .before .number-at .ensures (st .args .store .now)) depth 16
+returns-3 c =
+    let at-number-at : tie.After-number-at = search in
+    λ k there.
+    let signed : tie.After-sign-data = search in
+    let said : tie.After-enum-told3 = search in
+    let asked : tie.After-consent = search in
+    let start : tie.Start = search in
+    search (signs, signed .sign-data .ensures, said .enum-told3 .given .1, there, asked .consent .ensures _ (start .pre .3), at-number-at .number-at .ensures (start .args .store .now)) depth 16
 
 pub sign-with-spec : {M : Type 1} → statement M
 sign-with-spec =

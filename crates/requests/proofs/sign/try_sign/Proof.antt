@@ -12,33 +12,34 @@ returns c = search (signs, closing (c .closed .ensures)) depth 16
 
 inside : tie.Need-sign-with-requires
 inside c κs =
-    let place = c .before .before in
-    let found = place .before .before in
-    let mid = found .before .before .before .before .before .before in
-    let st = mid .before .before .before .before in
+    let place : tie.After-i = search in
+    let found : tie.After-find = search in
+    let at-at-match-keys1 : tie.At-match-keys1 = search in
+    let st = at-at-match-keys1 .before .before .before .before .before .before in
     (place-within _ _ _ _ _ (st .pre .2) (place .i .given .1) (found .find .ensures), st .pre .0, st .pre .1, st .pre .2)
 
 returns-2 : tie.Need-returns-2
 unfolding signing
 returns-2 c =
-    let failed = c .before .before in
-    let absent = failed .before .before in
-    let found = absent .before .before in
-    let read = found .before .before .before in
-    let mid = read .before .before .before .before .before .before in
-    let st = mid .before in
-    search (signs, answering (failed .failure .ensures), absent .enum-told2 .given .1, found .find .ensures, found .before .cut .ensures .bytes, read .from .given .1, read .before .before .string .ensures, st .pre .2) depth 16
+    let failed : tie.After-failure = search in
+    let absent : tie.After-enum-told2 = search in
+    let found : tie.After-find = search in
+    let at-cut : tie.After-cut = search in
+    let read : tie.After-from = search in
+    let at-string : tie.After-string = search in
+    let start : tie.Start = search in
+    search (signs, answering (failed .failure .ensures), absent .enum-told2 .given .1, found .find .ensures, at-cut .cut .ensures .bytes, read .from .given .1, at-string .string .ensures, start .pre .2) depth 16
 
 returns-3 : tie.Need-returns-3
 unfolding signing
 returns-3 c =
-    let signed = c .before .before in
-    let place = signed .before .before .before in
-    let found = place .before .before in
-    let read = found .before .before .before in
-    let mid = read .before .before .before .before .before .before in
-    let st = mid .before in
-    search (signs, signed .sign-with .ensures, place .i .given .1, found .find .ensures, found .before .cut .ensures .bytes, read .from .given .1, read .before .before .string .ensures) depth 16
+    let signed : tie.After-sign-with = search in
+    let place : tie.After-i = search in
+    let found : tie.After-find = search in
+    let at-cut : tie.After-cut = search in
+    let read : tie.After-from = search in
+    let at-string : tie.After-string = search in
+    search (signs, signed .sign-with .ensures, place .i .given .1, found .find .ensures, at-cut .cut .ensures .bytes, read .from .given .1, at-string .string .ensures) depth 16
 
 pub try-sign-spec : {M : Type 1} → statement M
 try-sign-spec =

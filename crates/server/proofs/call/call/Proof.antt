@@ -12,15 +12,17 @@ returns-2 : tie.Need-returns-2
 returns-2 c = refuses-2 _ _ _ _ _ _ _ _ (c .before .before .if1 .left) (c .before .if2 .taken) (c .refused2 .ensures)
 
 returns-3 : tie.Need-returns-3
-returns-3 c = refuses-3 _ _ _ _ _ _ _ _ _ (c .before .before .before .before .before .if1 .left) (c .before .before .before .before .if2 .left) (c .before .if3 .taken) (c .before .before .is-sound .ensures) (c .refused3 .ensures)
+returns-3 c =
+    let else-2 : tie.Else2 = search in
+    let else-1 : tie.Else1 = search in
+    refuses-3 _ _ _ _ _ _ _ _ _ (else-1 .if1 .left) (else-2 .if2 .left) (c .before .if3 .taken) (c .before .before .is-sound .ensures) (c .refused3 .ensures)
 
 call-sound-requires : tie.Need-call-sound-requires
 call-sound-requires c κs =
-    let tested = c .before .before in
-    let asked = tested .before in
-    let room = asked .before .before .before in
-    let st = room .before .before .before .before .before in
-    sound-told _ _ _ (eight-of (st .args .state) _ (st .good .0)) (record-of (st .args .state) _ (st .good .0)) (tested .if3 .left)
+    let tested : tie.Else3 = search in
+    let asked : tie.After-is-sound = search in
+    let start : tie.Start = search in
+    sound-told _ _ _ (eight-of (start .args .state) _ (start .good .0)) (record-of (start .args .state) _ (start .good .0)) (tested .if3 .left)
     (asked .is-sound .ensures)
 
 pub call-spec : {M : Type 1} → statement M

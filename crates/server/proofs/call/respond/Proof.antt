@@ -8,78 +8,78 @@ use Rattle.server.proofs.call.respond.Tie as tie
 
 returns : tie.Need-returns
 returns c =
-    let failed = c .before .before in
-    let told = failed .before .before in
-    let row = told .before .before in
-    let lock = row .before in
-    let st = lock .before .before .before .before .before in
+    let failed : tie.After-failure = search in
+    let told : tie.After-enum-told = search in
+    let row : tie.After-row-in = search in
+    let lock : tie.After-is-locked = search in
+    let start : tie.Start = search in
     served-row _ _ _ _ _ _ _ _ _ _ _ (lock .is-locked .ensures) (row .row-in .ensures) _ (told .enum-told .given .1)
-    (answering (failed .failure .ensures) _ _ (means-itself _ _ (st .pre .2)))
+    (answering (failed .failure .ensures) _ _ (means-itself _ _ (start .pre .2)))
 
 returns-2 : tie.Need-returns-2
 returns-2 c =
-    let told = c .before in
-    let row = told .before .before in
-    let lock = row .before in
-    let st = lock .before .before .before .before .before in
-    served-asks _ _ _ _ _ _ _ _ _ _ _ (lock .is-locked .ensures) (row .row-in .ensures) _ (told .class .given .1) refl refl refl (st .pre .2)
+    let told : tie.After-class = search in
+    let row : tie.After-row-in = search in
+    let lock : tie.After-is-locked = search in
+    let start : tie.Start = search in
+    served-asks _ _ _ _ _ _ _ _ _ _ _ (lock .is-locked .ensures) (row .row-in .ensures) _ (told .class .given .1) refl refl refl (start .pre .2)
 
 returns-3 : tie.Need-returns-3
 returns-3 c =
-    let listed = c .before .before in
-    let told = listed .before .before .before in
-    let row = told .before .before in
-    let lock = row .before in
+    let listed : tie.After-request-identities = search in
+    let told : tie.After-enum-told2 = search in
+    let row : tie.After-row-in = search in
+    let lock : tie.After-is-locked = search in
     served-row _ _ _ _ _ _ _ _ _ _ _ (lock .is-locked .ensures) (row .row-in .ensures) _ (told .enum-told2 .given .1) (listed .request-identities .ensures _)
 
 returns-4 : tie.Need-returns-4
 returns-4 c =
-    let added = c .before .before .before .before in
-    let told = added .before .before .before .before in
-    let row = told .before .before in
-    let lock = row .before in
-    let st = lock .before .before .before .before .before in
+    let added : tie.After-add-key = search in
+    let told : tie.After-constrained = search in
+    let row : tie.After-row-in = search in
+    let lock : tie.After-is-locked = search in
+    let start : tie.Start = search in
     served-row _ _ _ _ _ _ _ _ _ _ _ (lock .is-locked .ensures) (row .row-in .ensures) _ (told .constrained .given .1)
-    (added .add-key .ensures _ (check-lent (st .args .answers) _))
+    (added .add-key .ensures _ (check-lent (start .args .answers) _))
 
 returns-5 : tie.Need-returns-5
 returns-5 c =
-    let removed = c .before .before .before .before in
-    let told = removed .before .before .before in
-    let row = told .before .before in
-    let lock = row .before in
+    let removed : tie.After-remove-identity = search in
+    let told : tie.After-enum-told3 = search in
+    let row : tie.After-row-in = search in
+    let lock : tie.After-is-locked = search in
     served-row _ _ _ _ _ _ _ _ _ _ _ (lock .is-locked .ensures) (row .row-in .ensures) _ (told .enum-told3 .given .1) (removed .remove-identity .ensures _)
 
 returns-6 : tie.Need-returns-6
 returns-6 c =
-    let cleared = c .before .before .before .before in
-    let told = cleared .before .before .before in
-    let row = told .before .before in
-    let lock = row .before in
+    let cleared : tie.After-remove-all-identities = search in
+    let told : tie.After-enum-told4 = search in
+    let row : tie.After-row-in = search in
+    let lock : tie.After-is-locked = search in
     served-row _ _ _ _ _ _ _ _ _ _ _ (lock .is-locked .ensures) (row .row-in .ensures) _ (told .enum-told4 .given .1) (cleared .remove-all-identities .ensures _)
 
 returns-7 : tie.Need-returns-7
 returns-7 c =
-    let signed = c .before .before in
-    let told = signed .before .before .before in
-    let row = told .before .before in
-    let lock = row .before in
+    let signed : tie.After-try-sign = search in
+    let told : tie.After-enum-told5 = search in
+    let row : tie.After-row-in = search in
+    let lock : tie.After-is-locked = search in
     served-row _ _ _ _ _ _ _ _ _ _ _ (lock .is-locked .ensures) (row .row-in .ensures) _ (told .enum-told5 .given .1) (signed .try-sign .ensures)
 
 returns-8 : tie.Need-returns-8
 returns-8 c =
-    let locked = c .before .before in
-    let told = locked .before .before .before in
-    let row = told .before .before in
-    let lock = row .before in
+    let locked : tie.After-lock = search in
+    let told : tie.After-enum-told6 = search in
+    let row : tie.After-row-in = search in
+    let lock : tie.After-is-locked = search in
     served-row _ _ _ _ _ _ _ _ _ _ _ (lock .is-locked .ensures) (row .row-in .ensures) _ (told .enum-told6 .given .1) (locked .lock .ensures _)
 
 returns-9 : tie.Need-returns-9
 returns-9 c =
-    let unlocked = c .before .before in
-    let told = unlocked .before .before .before in
-    let row = told .before .before in
-    let lock = row .before in
+    let unlocked : tie.After-unlock = search in
+    let told : tie.After-enum-told7 = search in
+    let row : tie.After-row-in = search in
+    let lock : tie.After-is-locked = search in
     served-row _ _ _ _ _ _ _ _ _ _ _ (lock .is-locked .ensures) (row .row-in .ensures) _ (told .enum-told7 .given .1) (unlocked .unlock .ensures _)
 
 pub respond-spec : {M : Type 1} → statement M

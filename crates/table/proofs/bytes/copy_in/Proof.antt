@@ -16,8 +16,9 @@ abbrev μ-loop : tie.MeasureT-loop
 
 loop-again : tie.Need-loop-again Inv-loop μ-loop
 loop-again c =
+    let start : tie.Start Inv-loop μ-loop = search in
     let l = c .before .before .loop in
-    let a = c .before .before .before .args in
+    let a = start .args in
     (rw (l .inv .0) (copy-more (a .src .now) (a .p .now) (l .i) (omega arith) (omega arith)), omega arith, simp length-set (l .inv .2))
 
 returns : tie.Need-returns Inv-loop μ-loop

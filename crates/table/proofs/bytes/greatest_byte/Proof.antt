@@ -17,15 +17,17 @@ abbrev μ-loop : tie.MeasureT-loop
 
 loop-again : tie.Need-loop-again Inv-loop μ-loop
 loop-again c =
-    let turn = c .before .before .before .before .before in
+    let turn : tie.At-loop Inv-loop μ-loop = search in
+    let start : tie.Start Inv-loop μ-loop = search in
     let l = turn .loop in
-    let a = turn .before .before .before .args in
+    let a = start .args in
     (rw (c .greater2 .ensures, c .before .greater .ensures) (l .inv .0 ∙ greatest-step (a .a .now) (a .b .now) (l .i) (l .most) (omega arith) (omega arith)), omega arith)
 
 returns : tie.Need-returns Inv-loop μ-loop
 returns c =
+    let start : tie.Start Inv-loop μ-loop = search in
     let l = c .before .loop in
-    let a = c .before .before .before .before .args in
+    let a = start .args in
     sym (l .inv .0 ∙ greatest-end (a .a .now) (a .b .now) (l .i) (l .most) (omega arith) (omega arith))
 
 pub greatest-byte-spec : {M : Type 1} → statement M

@@ -10,37 +10,49 @@ use Rattle.table.proofs.bytes.is_equal.Statement.{statement}
 use Rattle.table.proofs.bytes.is_equal.Tie as tie
 
 front : tie.Need-slice-aggregate-is-all-equal
-front c = sym (length-take-le _ (c .before .before .before .before .before .args .a .now) (omega arith))
+front c =
+    let start : tie.Start = search in
+    sym (length-take-le _ (start .args .a .now) (omega arith))
 
 front-2 : tie.Need-slice-aggregate-is-all-equal-2
-front-2 c = sym (length-take-le _ (c .before .before .before .before .before .before .args .b .now) (omega arith))
+front-2 c =
+    let start : tie.Start = search in
+    sym (length-take-le _ (start .args .b .now) (omega arith))
 
 front-sizes : tie.Need-is-all-equal-requires
 front-sizes c κs =
-    let s = c .before .before in
-    let a = s .before .before .before .before .args in
-    sizes-before (s .front-length .result) (a .a .now) (a .b .now) (s .before .if1 .left) (omega arith)
+    let s : tie.After-front-length = search in
+    let else-1 : tie.Else1 = search in
+    let start : tie.Start = search in
+    let a = start .args in
+    sizes-before (s .front-length .result) (a .a .now) (a .b .now) (else-1 .if1 .left) (omega arith)
 
 fronts-differ : tie.Need-returns-2
 fronts-differ c =
-    let s = c .before .before .before .before in
-    let a = s .before .before .before .before .args in
-    front-differs (s .front-length .result) (a .a .now) (a .b .now) (s .before .if1 .left) (sym (c .before .is-all-equal .ensures) ∙ not-true _ (c .if2 .taken))
+    let s : tie.After-front-length = search in
+    let else-1 : tie.Else1 = search in
+    let start : tie.Start = search in
+    let a = start .args in
+    front-differs (s .front-length .result) (a .a .now) (a .b .now) (else-1 .if1 .left) (sym (c .before .is-all-equal .ensures) ∙ not-true _ (c .if2 .taken))
 
 rest-sizes : tie.Need-is-all-equal-requires-2
 rest-sizes c κs =
-    let s = c .before .before .before .before .before .before in
-    let a = s .before .before .before .before .args in
-    sizes-behind (s .front-length .result) (a .a .now) (a .b .now) (s .before .if1 .left)
+    let s : tie.After-front-length = search in
+    let else-1 : tie.Else1 = search in
+    let start : tie.Start = search in
+    let a = start .args in
+    sizes-behind (s .front-length .result) (a .a .now) (a .b .now) (else-1 .if1 .left)
 
 fronts-alike : tie.Need-returns-3
 fronts-alike c =
-    let tested = c .before .before .before in
-    let fronts = tested .before in
-    let s = fronts .before .before .before in
-    let a = s .before .before .before .before .args in
+    let tested : tie.Else2 = search in
+    let fronts : tie.After-is-all-equal = search in
+    let s : tie.After-front-length = search in
+    let else-1 : tie.Else1 = search in
+    let start : tie.Start = search in
+    let a = start .args in
     let front = sym (fronts .is-all-equal .ensures) ∙ not-false _ (tested .if2 .left) in
-    c .is-all-equal2 .ensures ∙ front-alike (s .front-length .result) (a .a .now) (a .b .now) (s .before .if1 .left) front
+    c .is-all-equal2 .ensures ∙ front-alike (s .front-length .result) (a .a .now) (a .b .now) (else-1 .if1 .left) front
 
 pub is-equal-spec : {M : Type 1} → statement M
 is-equal-spec =

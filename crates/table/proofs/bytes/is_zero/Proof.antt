@@ -8,15 +8,22 @@ use Rattle.table.proofs.bytes.is_zero.Statement.{statement}
 use Rattle.table.proofs.bytes.is_zero.Tie as tie
 
 front : tie.Need-slice-aggregate-greatest-byte
-front c = sym (length-take-le _ (c .before .before .before .args .p .now) (c .before .window .ensures .0))
+front c =
+    let start : tie.Start = search in
+    sym (length-take-le _ (start .args .p .now) (c .before .window .ensures .0))
 
 sizes : tie.Need-greatest-byte-requires
-sizes c κs = let w = c .before .before .window in windows-alike (w .result) (c .before .before .before .before .args .p .now) (w .ensures .0)
+sizes c κs =
+    let start : tie.Start = search in
+    let w = c .before .before .window in
+    windows-alike (w .result) (start .args .p .now) (w .ensures .0)
 
 returns : tie.Need-returns
 returns c =
-    let w = c .before .before .before .window in
-    rw (c .greatest-byte .ensures) (windows-zero (w .result) (c .before .before .before .before .before .args .p .now) (w .ensures .0) (w .ensures .1))
+    let at-window : tie.After-window = search in
+    let start : tie.Start = search in
+    let w = at-window .window in
+    rw (c .greatest-byte .ensures) (windows-zero (w .result) (start .args .p .now) (w .ensures .0) (w .ensures .1))
 
 pub is-zero-spec : {M : Type 1} → statement M
 is-zero-spec =

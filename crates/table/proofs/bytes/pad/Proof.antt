@@ -10,19 +10,23 @@ use Rattle.table.proofs.bytes.pad.Statement.{statement}
 use Rattle.table.proofs.bytes.pad.Tie as tie
 
 front : tie.Need-slice-aggregate-copy-in
-front c = sym (length-take-le _ (c .before .before .before .args .p .now) (omega arith))
+front c =
+    let start : tie.Start = search in
+    sym (length-take-le _ (start .args .p .now) (omega arith))
 
 copied : tie.Need-copy-in-requires
-copied c κs = length-take-le _ (c .before .before .before .args .p .now) (omega arith)
+copied c κs =
+    let start : tie.Start = search in
+    length-take-le _ (start .args .p .now) (omega arith)
 
 returns : tie.Need-returns
 unfolding padded
 returns c =
-    let wiped = c .before .before in
-    let copied = wiped .before .before .before .before in
-    let st = copied .before .before .before .before in
-    let p = st .args .p .now in
-    let n = length (st .args .src .now) in
+    let wiped : tie.After-wipe = search in
+    let copied : tie.After-copy-in = search in
+    let start : tie.Start = search in
+    let p = start .args .p .now in
+    let n = length (start .args .src .now) in
     let x = copied .copy-in in
     let y = wiped .wipe in
     let l : length (x .last .0) ≡ n = ap length (x .ensures) in

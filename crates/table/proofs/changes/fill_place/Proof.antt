@@ -11,22 +11,26 @@ use Rattle.table.proofs.changes.fill_place.Statement.{statement}
 use Rattle.table.proofs.changes.fill_place.Tie as tie
 
 front : tie.Need-slice-aggregate-pad
-front c = sym (length-take-le fieldsAt (c .before .before .before .before .args .p .now) (omega arith))
+front c =
+    let start : tie.Start = search in
+    sym (length-take-le fieldsAt (start .args .p .now) (omega arith))
 
 room : tie.Need-pad-requires
-room c κs = rw (length-take-le fieldsAt (c .before .before .before .before .args .p .now) (omega arith)) (search needs)
+room c κs =
+    let start : tie.Start = search in
+    rw (length-take-le fieldsAt (start .args .p .now) (omega arith)) (search needs)
 
 returns : tie.Need-returns
 unfolding heldBytes
 returns c =
-    let at-blob = c .before .before .before .before .before .before in
-    let st = at-blob .before .before .before .before .before in
-    let p = st .args .p .now in
+    let at-blob : tie.After-pad = search in
+    let start : tie.Start = search in
+    let p = start .args .p .now in
     let x = at-blob .pad in
     let y = c .before .before .pad2 in
     let h : length (take fieldsAt p) ≡ fieldsAt = length-take-le fieldsAt p (omega arith) in
     let l : length (x .last .0) ≡ fieldsAt = x .kept .0 ∙ h in
-    halves fieldsAt p (x .last .0) l (y .last .0) ∙ rw (x .ensures, y .ensures, half-size fieldsAt p (x .last .0) l, h, st .pre .0)
+    halves fieldsAt p (x .last .0) l (y .last .0) ∙ rw (x .ensures, y .ensures, half-size fieldsAt p (x .last .0) l, h, start .pre .0)
 
 pub fill-place-spec : {M : Type 1} → statement M
 fill-place-spec =

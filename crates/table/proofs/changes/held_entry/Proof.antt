@@ -8,18 +8,21 @@ use Rattle.table.proofs.changes.held_entry.Tie as tie
 
 short : tie.Need-kept-comment-requires
 short c κs =
-    let part = c .before .before .before .cut2 in
-    let st = c .before .before .before .before .before .before in
-    rw (part .ensures .bytes) (st .before .pre)
+    let at-cut2 : tie.After-cut2 = search in
+    let start : tie.Start = search in
+    let part = at-cut2 .cut2 in
+    rw (part .ensures .bytes) (start .pre)
 
 returns : tie.Need-returns
 unfolding entryFor
 returns c =
+    let at-cut2 : tie.After-cut2 = search in
+    let at-cut : tie.After-cut = search in
     let flag = c .before .flag-of in
     let seconds = c .before .before .kept-seconds in
-    let at-limited = c .before .before .before in
-    let comment = at-limited .before .cut2 in
-    let fields = at-limited .before .before .cut in
+    let at-limited : tie.After-limited-flag = search in
+    let comment = at-cut2 .cut2 in
+    let fields = at-cut .cut in
     let kept = c .kept-comment .ensures ∙ ap keptComment (comment .ensures .bytes) in
     rw (flag .ensures, seconds .ensures, at-limited .limited-flag .ensures, ap length (fields .ensures .bytes), kept)
 

@@ -12,9 +12,11 @@ returns c = let asked = c .before .is-set in rw (← asked .ensures, not-true (a
 returns-2 : tie.Need-returns-2
 unfolding dueAt
 returns-2 c =
-    let left = c .before .before .before .before .before in
-    let asked = left .before .is-set in
-    rw (← asked .ensures, not-false (asked .result) (left .if1 .left), c .before .before .before .millis-of .ensures)
+    let at-millis-of : tie.After-millis-of = search in
+    let left : tie.Else1 = search in
+    let at-is-set : tie.After-is-set = search in
+    let asked = at-is-set .is-set in
+    rw (← asked .ensures, not-false (asked .result) (left .if1 .left), at-millis-of .millis-of .ensures)
 
 pub is-due-spec : {M : Type 1} → statement M
 is-due-spec =

@@ -10,18 +10,18 @@ use Rattle.table.proofs.changes.last.Tie as tie
 returns : tie.Need-returns
 unfolding bytesFor
 returns c =
-    let wiped = c .before .before .before in
-    let tested = wiped .before .before in
-    let asked = tested .before in
-    let st = asked .before .before in
+    let wiped : tie.After-wipe = search in
+    let tested : tie.Then1 = search in
+    let asked : tie.After-is-due = search in
+    let start : tie.Start = search in
     let due = sym (asked .is-due .ensures) ∙ tested .if1 .taken in
-    rw (due-gone (st .args .clock) (st .args .e) (st .args .p .now) due)
-    (record { entry = c .free-entry .ensures; bytes = wiped .wipe .ensures ∙ ap (λ n. replicate n 0) (st .pre .whole) })
+    rw (due-gone (start .args .clock) (start .args .e) (start .args .p .now) due)
+    (record { entry = c .free-entry .ensures; bytes = wiped .wipe .ensures ∙ ap (λ n. replicate n 0) (start .pre .whole) })
 
 returns-2 : tie.Need-returns-2
 returns-2 c =
-    let st = c .before .before .before in
-    rw (undue-stays (st .args .clock) (st .args .e) (st .args .p .now) (sym (c .before .is-due .ensures) ∙ c .if1 .left)) (st .pre .written)
+    let start : tie.Start = search in
+    rw (undue-stays (start .args .clock) (start .args .e) (start .args .p .now) (sym (c .before .is-due .ensures) ∙ c .if1 .left)) (start .pre .written)
 
 pub last-spec : {M : Type 1} → statement M
 last-spec =

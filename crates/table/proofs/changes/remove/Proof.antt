@@ -8,18 +8,18 @@ use Rattle.table.proofs.changes.remove.Tie as tie
 
 returns : tie.Need-returns
 returns c =
-    let free = c .before .before in
-    let wiped = free .before .before .before .before in
-    let ends = wiped .before .before in
-    let begins = ends .before in
-    let st = begins .before .before in
-    let s = st .args .state in
-    let x = st .args .store .now in
-    let S = st .pre .1 in
+    let free : tie.After-free-entry = search in
+    let wiped : tie.After-wipe = search in
+    let ends : tie.After-start-of2 = search in
+    let begins : tie.After-start-of = search in
+    let start : tie.Start = search in
+    let s = start .args .state in
+    let x = start .args .store .now in
+    let S = start .pre .1 in
     let from = begins .start-of in
     let to = ends .start-of2 in
-    removed s x S (st .args .i) (from .result) (to .result) (st .pre .0)
-    (spanning _ (view-fits s x S) (view-eight s x S) (st .args .i) _ _ (st .pre .0) (from .ensures) (to .ensures))
+    removed s x S (start .args .i) (from .result) (to .result) (start .pre .0)
+    (spanning _ (view-fits s x S) (view-eight s x S) (start .args .i) _ _ (start .pre .0) (from .ensures) (to .ensures))
     (free .free-entry .result) (wiped .wipe .last .0) (free .free-entry .ensures) (wiped .wipe .ensures)
 
 pub remove-spec : {M : Type 1} → statement M

@@ -8,10 +8,10 @@ use Rattle.table.proofs.changes.remove_all.Tie as tie
 
 returns : tie.Need-returns
 returns c =
-    let free = c .before .before in
-    let wiped = free .before .before .before in
-    let st = wiped .before .before .before in
-    cleared (st .args .state) (st .args .store .now) _ _ (st .pre) (ap (replicate 8) (free .free-entry .ensures)) (wiped .wipe .ensures)
+    let free : tie.After-free-entry = search in
+    let wiped : tie.After-wipe = search in
+    let start : tie.Start = search in
+    cleared (start .args .state) (start .args .store .now) _ _ (start .pre) (ap (replicate 8) (free .free-entry .ensures)) (wiped .wipe .ensures)
 
 pub remove-all-spec : {M : Type 1} → statement M
 remove-all-spec =

@@ -9,14 +9,20 @@ use Rattle.table.proofs.comments.is_comment_sound.Tie as tie
 
 returns : tie.Need-returns
 unfolding soundComment
-returns c = let st = c .before in let long = comment-of (st .args .c) _ (st .good .0) in search tests depth 16
+returns c =
+    let start : tie.Start = search in
+    let long = comment-of (start .args .c) _ (start .good .0) in search tests depth 16
 
 inside : tie.Need-part-is-zero-end
-inside c = let st = c .before .before .before in let long = comment-of (st .args .c) _ (st .good .0) in omega arith
+inside c =
+    let start : tie.Start = search in
+    let long = comment-of (start .args .c) _ (start .good .0) in omega arith
 
 returns-2 : tie.Need-returns-2
 unfolding soundComment
-returns-2 c = let st = c .before .before .before .before .before in let long = comment-of (st .args .c) _ (st .good .0) in search tests depth 16
+returns-2 c =
+    let start : tie.Start = search in
+    let long = comment-of (start .args .c) _ (start .good .0) in search tests depth 16
 
 pub is-comment-sound-spec : {M : Type 1} → statement M
 is-comment-sound-spec =

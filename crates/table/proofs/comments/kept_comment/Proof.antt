@@ -26,10 +26,11 @@ copied c κs =
 returns : tie.Need-returns
 unfolding keptComment
 returns c =
+    let at-zeros : tie.After-zeros = search in
     let copy = c .before .copy-in in
-    let z = c .before .before .before .zeros in
-    let st = c .before .before .before .before .before in
-    rw (front-padded commentLimit (st .args .c .now) (z .result) (copy .last .0) (omega arith) (z .ensures) (copy .ensures))
+    let z = at-zeros .zeros in
+    let start : tie.Start = search in
+    rw (front-padded commentLimit (start .args .c .now) (z .result) (copy .last .0) (omega arith) (z .ensures) (copy .ensures))
 
 pub kept-comment-spec : {M : Type 1} → statement M
 kept-comment-spec =

@@ -64,28 +64,28 @@ abbrev μ-loop : tie.MeasureT-loop
 lengths-differ : tie.Need-returns Inv-loop μ-loop
 unfolding gatewayOf
 lengths-differ c x =
-    let st = c .before .before in
-    let s = st .args .state in
-    let size = record-of s _ (st .good .0) in
-    another-length (s .lock .len) (s .lock .bytes) (st .args .p .now) (omega arith) (c .if1 .taken)
+    let start : tie.Start Inv-loop μ-loop = search in
+    let s = start .args .state in
+    let size = record-of s _ (start .good .0) in
+    another-length (s .lock .len) (s .lock .bytes) (start .args .p .now) (omega arith) (c .if1 .taken)
 
 loop-again : tie.Need-loop-again Inv-loop μ-loop
 loop-again c =
-    let turned = c .before .before in
+    let turned : tie.At-loop Inv-loop μ-loop = search in
     let l = turned .loop in
-    let st = turned .before .before .before in
-    let s = st .args .state in
-    let size = record-of s _ (st .good .0) in
-    (omega arith, l .inv .1 ∙ turn (s .lock .len) (s .lock .bytes) (st .args .p .now) (omega arith) (omega arith) (l .i) (l .differences) (omega arith))
+    let start : tie.Start Inv-loop μ-loop = search in
+    let s = start .args .state in
+    let size = record-of s _ (start .good .0) in
+    (omega arith, l .inv .1 ∙ turn (s .lock .len) (s .lock .bytes) (start .args .p .now) (omega arith) (omega arith) (l .i) (l .differences) (omega arith))
 
 decides : tie.Need-returns-2 Inv-loop μ-loop
 unfolding gatewayOf
 decides c x =
     let l = c .before .loop in
-    let st = c .before .before .before .before in
-    let s = st .args .state in
-    let size = record-of s _ (st .good .0) in
-    sym (l .inv .1 ∙ decision (s .lock .len) (s .lock .bytes) (st .args .p .now) (omega arith) (omega arith) (l .i) (l .differences) (omega arith))
+    let start : tie.Start Inv-loop μ-loop = search in
+    let s = start .args .state in
+    let size = record-of s _ (start .good .0) in
+    sym (l .inv .1 ∙ decision (s .lock .len) (s .lock .bytes) (start .args .p .now) (omega arith) (omega arith) (l .i) (l .differences) (omega arith))
 
 pub is-passphrase-spec : {M : Type 1} → statement M
 is-passphrase-spec =

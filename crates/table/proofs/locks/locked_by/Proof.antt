@@ -26,8 +26,10 @@ copied c κs =
 returns : tie.Need-returns
 unfolding lockOf
 returns c =
-    let p = c .before .before .before .before .before .args .p .now in
-    rw (front-padded passphraseLimit p (c .before .before .before .zeros .result) (c .before .copy-in .last .0) (omega arith) (c .before .before .before .zeros .ensures) (c .before .copy-in .ensures))
+    let at-zeros : tie.After-zeros = search in
+    let start : tie.Start = search in
+    let p = start .args .p .now in
+    rw (front-padded passphraseLimit p (at-zeros .zeros .result) (c .before .copy-in .last .0) (omega arith) (at-zeros .zeros .ensures) (c .before .copy-in .ensures))
 
 pub locked-by-spec : {M : Type 1} → statement M
 locked-by-spec =

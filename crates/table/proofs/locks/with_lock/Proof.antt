@@ -6,10 +6,10 @@ use Rattle.table.proofs.locks.with_lock.Tie as tie
 
 returns : tie.Need-returns
 returns c =
-    let st = c .before .before .before .before in
-    let s = st .args .state in (
+    let start : tie.Start = search in
+    let s = start .args .state in (
       (λ j. record { entries = s .entries; lock = c .locked-by .ensures j; clock = s .clock; next = s .next }),
-      λ x S. relocked s x (st .args .p .now) (c .locked-by .result) S (st .pre) (c .locked-by .ensures),
+      λ x S. relocked s x (start .args .p .now) (c .locked-by .result) S (start .pre) (c .locked-by .ensures),
     )
 
 pub with-lock-spec : {M : Type 1} → statement M

@@ -12,23 +12,23 @@ use Rattle.table.proofs.places.blob_at.Tie as tie
 
 front : tie.Need-slice-aggregate-result
 front c =
-    let p = c .before in
-    let st = p .before .before .before .before in
-    let a = st .args in
+    let p : tie.After-bytes-at = search in
+    let start : tie.Start = search in
+    let a = start .args in
     let es = a .state .entries in
-    let S = st .pre .1 in
+    let S = start .pre .1 in
     let whole : length (p .bytes-at .result .now) ≡ size (getD es (a .i) noEntry)
-    = ap length (p .bytes-at .ensures es (S .eight-entries) .bytes) ∙ in-store es (a .store .now) (S .eight-entries) (S .store-size) (a .i) (st .pre .0) .whole in
-    let fits = state-blob-fits (a .state) (a .store .now) (st .pre .1) (a .i) (st .pre .0) in
+    = ap length (p .bytes-at .ensures es (S .eight-entries) .bytes) ∙ in-store es (a .store .now) (S .eight-entries) (S .store-size) (a .i) (start .pre .0) .whole in
+    let fits = state-blob-fits (a .state) (a .store .now) (start .pre .1) (a .i) (start .pre .0) in
     sym (length-take-le _ (p .bytes-at .result .now) (omega arith))
 
 returns : tie.Need-returns
 returns c =
-    let from = c .before in
-    let st = from .before .before .before .before in
-    let place = from .bytes-at .ensures (st .args .state .entries) (st .pre .1 .eight-entries) in
+    let from : tie.After-bytes-at = search in
+    let start : tie.Start = search in
+    let place = from .bytes-at .ensures (start .args .state .entries) (start .pre .1 .eight-entries) in
     record {
-      bytes = rw (place .bytes) (state-blob (st .args .state) (st .args .store .now) (st .pre .1) (st .args .i) (st .pre .0));
+      bytes = rw (place .bytes) (state-blob (start .args .state) (start .args .store .now) (start .pre .1) (start .args .i) (start .pre .0));
       block = place .block;
       place = place .place;
     }

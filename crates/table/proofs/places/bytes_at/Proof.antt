@@ -11,9 +11,10 @@ use Rattle.table.proofs.places.bytes_at.Tie as tie
 
 returns : tie.Need-returns
 returns c es eight =
+    let start : tie.Start = search in
     let to = c .before .start-of2 in
     let from = c .before .before .start-of in
-    let i = c .before .before .before .before .args .i in
+    let i = start .args .i in
     let begins : from .result ≡ startOf es i = from .ensures ∙ sym (place-start es i (omega arith)) in
     let span : to .result - from .result ≡ size (getD es i noEntry) = omega (arith, to .ensures, from .ensures) in
     record { bytes = rw (span, begins); block = search needs; place = rw begins (search needs) }

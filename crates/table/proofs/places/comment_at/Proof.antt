@@ -6,7 +6,9 @@ use Rattle.table.proofs.places.comment_at.Statement.{statement}
 use Rattle.table.proofs.places.comment_at.Tie as tie
 
 returns : tie.Need-returns
-returns c = let st = c .before .before .before in (refl, λ x S. state-comment (st .args .state) x S (st .args .i) (st .pre))
+returns c =
+    let start : tie.Start = search in
+    (refl, λ x S. state-comment (start .args .state) x S (start .args .i) (start .pre))
 
 pub comment-at-spec : {M : Type 1} → statement M
 comment-at-spec =

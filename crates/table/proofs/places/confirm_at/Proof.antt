@@ -9,11 +9,11 @@ use Rattle.table.proofs.places.confirm_at.Tie as tie
 returns : tie.Need-returns
 unfolding gatewayOf
 returns c =
-    let st = c .before .before .before in
-    let s = st .args .state in
-    let i = st .args .i in (
+    let start : tie.Start = search in
+    let s = start .args .state in
+    let i = start .args .i in (
       c .is-set .ensures,
-      λ x S. rw (c .is-set .ensures, view-at (s .entries) x (S .eight-entries) i (st .pre)) (sound-confirm _ _ _ _ (in-store (s .entries) x (S .eight-entries) (S .store-size) i (st .pre) .whole) (state-sound-at s x S i (st .pre))),
+      λ x S. rw (c .is-set .ensures, view-at (s .entries) x (S .eight-entries) i (start .pre)) (sound-confirm _ _ _ _ (in-store (s .entries) x (S .eight-entries) (S .store-size) i (start .pre) .whole) (state-sound-at s x S i (start .pre))),
     )
 
 pub confirm-at-spec : {M : Type 1} → statement M

@@ -20,41 +20,41 @@ abbrev μ-loop : tie.MeasureT-loop
 
 is-holding-requires : tie.Need-is-holding-requires Inv-loop μ-loop
 is-holding-requires c κs =
-    let turn = c .before .before .before in
+    let turn : tie.At-loop Inv-loop μ-loop = search in
     let loop = turn .loop in
-    let st = turn .before .before .before .before in
-    let x = st .args .store .now in
-    let es = st .args .state .entries in
-    let S = st .pre in
+    let start : tie.Start Inv-loop μ-loop = search in
+    let x = start .args .store .now in
+    let es = start .args .state .entries in
+    let S = start .pre in
     let whole : length (c .bytes-at .result .now) ≡ size (getD es (loop .i) noEntry)
     = ap length (c .bytes-at .ensures es (S .eight-entries) .bytes) ∙ in-store es x (S .eight-entries) (S .store-size) (loop .i) (omega arith) .whole in
-    let fits = state-blob-fits (st .args .state) x (st .pre) (loop .i) (omega arith) in
+    let fits = state-blob-fits (start .args .state) x (start .pre) (loop .i) (omega arith) in
     omega arith
 
 returns : tie.Need-returns Inv-loop μ-loop
 unfolding gatewayOf
 returns c =
-    let turn = c .before .before .before .before .before in
+    let turn : tie.At-loop Inv-loop μ-loop = search in
     let loop = turn .loop in
-    let st = turn .before .before .before .before in
-    let s = st .args .state in
-    let x = st .args .store .now in
-    let S = st .pre in
+    let start : tie.Start Inv-loop μ-loop = search in
+    let s = start .args .state in
+    let x = start .args .store .now in
+    let S = start .pre in
     let long = view-length (s .entries) x (S .eight-entries) in
-    let test = holds (st .args .blob .now) in
+    let test = holds (start .args .blob .now) in
     let here = ap test (view-at (s .entries) x (S .eight-entries) (loop .i) (omega arith)) ∙ rw (← c .before .before .bytes-at .ensures (s .entries) (S .eight-entries) .bytes) (sym (c .before .is-holding .ensures)) ∙ c .if1 .taken in
     sym (loop .inv .1 ∙ seek-stop test (view (s .entries) x) (loop .i) (omega arith) here)
 
 loop-again : tie.Need-loop-again Inv-loop μ-loop
 loop-again c =
-    let turn = c .before .before .before .before .before in
+    let turn : tie.At-loop Inv-loop μ-loop = search in
     let loop = turn .loop in
-    let st = turn .before .before .before .before in
-    let s = st .args .state in
-    let x = st .args .store .now in
-    let S = st .pre in
+    let start : tie.Start Inv-loop μ-loop = search in
+    let s = start .args .state in
+    let x = start .args .store .now in
+    let S = start .pre in
     let long = view-length (s .entries) x (S .eight-entries) in
-    let test = holds (st .args .blob .now) in
+    let test = holds (start .args .blob .now) in
     let here = ap test (view-at (s .entries) x (S .eight-entries) (loop .i) (omega arith)) ∙ rw (← c .before .before .bytes-at .ensures (s .entries) (S .eight-entries) .bytes) (sym (c .before .is-holding .ensures)) ∙ c .if1 .left in
     (omega arith, loop .inv .1 ∙ seek-step test (view (s .entries) x) (loop .i) (omega arith) here)
 
@@ -62,12 +62,12 @@ returns-2 : tie.Need-returns-2 Inv-loop μ-loop
 unfolding gatewayOf
 returns-2 c =
     let loop = c .before .loop in
-    let st = c .before .before .before .before .before in
-    let s = st .args .state in
-    let x = st .args .store .now in
-    let S = st .pre in
+    let start : tie.Start Inv-loop μ-loop = search in
+    let s = start .args .state in
+    let x = start .args .store .now in
+    let S = start .pre in
     let long = view-length (s .entries) x (S .eight-entries) in
-    sym (loop .inv .1 ∙ seek-end (holds (st .args .blob .now)) (view (s .entries) x) (loop .i) (omega arith))
+    sym (loop .inv .1 ∙ seek-end (holds (start .args .blob .now)) (view (s .entries) x) (loop .i) (omega arith))
 
 pub find-spec : {M : Type 1} → statement M
 find-spec =

@@ -9,9 +9,9 @@ use Rattle.table.proofs.places.is_held.Tie as tie
 returns : tie.Need-returns
 unfolding gatewayOf
 returns c x =
-    let st = c .before .before .before in
-    let s = st .args .state in
-    rw (view-at (s .entries) x (eight-of s _ (st .good .0)) (st .args .i) (st .pre)) (place-tested _ _)
+    let start : tie.Start = search in
+    let s = start .args .state in
+    rw (view-at (s .entries) x (eight-of s _ (start .good .0)) (start .args .i) (start .pre)) (place-tested _ _)
 
 pub is-held-spec : {M : Type 1} → statement M
 is-held-spec =

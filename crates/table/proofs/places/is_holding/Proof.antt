@@ -7,13 +7,21 @@ use Rattle.table.proofs.places.is_holding.Statement.{statement}
 use Rattle.table.proofs.places.is_holding.Tie as tie
 
 returns : tie.Need-returns
-returns c = let a = c .before .before .before .before .args in rw (place-free (a .e) (a .p .now) (c .if1 .taken))
+returns c =
+    let start : tie.Start = search in
+    let a = start .args in
+    rw (place-free (a .e) (a .p .now) (c .if1 .taken))
 
 front : tie.Need-slice-aggregate-is-equal
-front c = let st = c .before .before .before .before .before in sym (length-take-le _ (st .args .p .now) (st .pre))
+front c =
+    let start : tie.Start = search in
+    sym (length-take-le _ (start .args .p .now) (start .pre))
 
 returns-2 : tie.Need-returns-2
-returns-2 c = let a = c .before .before .before .before .before .before .args in rw (place-held (a .e) (a .p .now) (c .before .before .if1 .left)) (c .is-equal .ensures)
+returns-2 c =
+    let start : tie.Start = search in
+    let a = start .args in
+    rw (place-held (a .e) (a .p .now) (c .before .before .if1 .left)) (c .is-equal .ensures)
 
 pub is-holding-spec : {M : Type 1} → statement M
 is-holding-spec =

@@ -22,34 +22,36 @@ abbrev μ-loop : tie.MeasureT-loop
 returns : tie.Need-returns Inv-loop μ-loop
 unfolding gatewayOf
 returns c x =
-    let loop = c .before .before .before .before .loop in
-    let st = c .before .before .before .before .before .before in
-    let es = st .args .state .entries in
-    let eight = eight-of (st .args .state) _ (st .good .0) in
+    let turn : tie.At-loop Inv-loop μ-loop = search in
+    let loop = turn .loop in
+    let start : tie.Start Inv-loop μ-loop = search in
+    let es = start .args .state .entries in
+    let eight = eight-of (start .args .state) _ (start .good .0) in
     let long = view-length es x eight in
     let here = ap isFree (view-at es x eight (loop .i) (omega arith) ∙ place-free _ _ (c .if1 .taken)) in
     sym (loop .inv .1 x ∙ seek-stop isFree (view es x) (loop .i) (omega arith) here)
 
 loop-again : tie.Need-loop-again Inv-loop μ-loop
-loop-again c = (
-  search needs,
-  λ x.
-      let loop = c .before .before .before .before .loop in
-      let st = c .before .before .before .before .before .before in
-      let es = st .args .state .entries in
-      let eight = eight-of (st .args .state) _ (st .good .0) in
-      let long = view-length es x eight in
-      let here = ap isFree (view-at es x eight (loop .i) (omega arith) ∙ place-held _ _ (c .if1 .left)) in
-      loop .inv .1 x ∙ seek-step isFree (view es x) (loop .i) (omega arith) here,
-)
+loop-again c =
+    let turn : tie.At-loop Inv-loop μ-loop = search in (
+      search needs,
+      λ x.
+          let loop = turn .loop in
+          let start : tie.Start Inv-loop μ-loop = search in
+          let es = start .args .state .entries in
+          let eight = eight-of (start .args .state) _ (start .good .0) in
+          let long = view-length es x eight in
+          let here = ap isFree (view-at es x eight (loop .i) (omega arith) ∙ place-held _ _ (c .if1 .left)) in
+          loop .inv .1 x ∙ seek-step isFree (view es x) (loop .i) (omega arith) here,
+    )
 
 returns-2 : tie.Need-returns-2 Inv-loop μ-loop
 unfolding gatewayOf
 returns-2 c x =
     let loop = c .before .loop in
-    let st = c .before .before .before in
-    let es = st .args .state .entries in
-    let eight = eight-of (st .args .state) _ (st .good .0) in
+    let start : tie.Start Inv-loop μ-loop = search in
+    let es = start .args .state .entries in
+    let eight = eight-of (start .args .state) _ (start .good .0) in
     let long = view-length es x eight in
     sym (loop .inv .1 x ∙ seek-end isFree (view es x) (loop .i) (omega arith))
 

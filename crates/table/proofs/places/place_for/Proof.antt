@@ -6,11 +6,15 @@ use Rattle.table.proofs.places.place_for.Tie as tie
 
 returns : tie.Need-returns
 unfolding placeFor found
-returns c = rw (← c .before .before .before .find .ensures, c .before .i .given .1)
+returns c =
+    let at-find : tie.After-find = search in
+    rw (← at-find .find .ensures, c .before .i .given .1)
 
 returns-2 : tie.Need-returns-2
 unfolding placeFor found
-returns-2 c = rw (← c .before .before .before .find .ensures, c .before .enum-told .given .1) (c .lowest-free .ensures _)
+returns-2 c =
+    let at-find : tie.After-find = search in
+    rw (← at-find .find .ensures, c .before .enum-told .given .1) (c .lowest-free .ensures _)
 
 pub place-for-spec : {M : Type 1} → statement M
 place-for-spec =

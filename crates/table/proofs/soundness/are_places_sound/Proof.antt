@@ -17,19 +17,22 @@ abbrev μ-loop : tie.MeasureT-loop
 
 is-place-sound-requires : tie.Need-is-place-sound-requires Inv-loop μ-loop
 is-place-sound-requires c κs =
-    let turn = c .before .before .before in
+    let turn : tie.At-loop Inv-loop μ-loop = search in
+    let start : tie.Start Inv-loop μ-loop = search in
     let l = turn .loop in
-    let es = turn .before .before .args .t1 in
-    ap length (c .bytes-at .ensures es (l .inv .1) .bytes) ∙ in-store es _ (l .inv .1) (turn .before .before .pre) (l .i) (omega arith) .whole
+    let es = start .args .t1 in
+    ap length (c .bytes-at .ensures es (l .inv .1) .bytes) ∙ in-store es _ (l .inv .1) (start .pre) (l .i) (omega arith) .whole
 
 returns : tie.Need-returns Inv-loop μ-loop
 returns c =
-    let l = c .before .before .before .before .before .loop in
+    let turn : tie.At-loop Inv-loop μ-loop = search in
+    let l = turn .loop in
     place-out _ _ _ _ (l .inv .1) (l .i) _ _ (omega arith) (c .before .before .bytes-at .ensures _ (l .inv .1) .bytes) (c .before .is-place-sound .ensures) (c .if1 .taken) (l .inv .2)
 
 loop-again : tie.Need-loop-again Inv-loop μ-loop
 loop-again c =
-    let l = c .before .before .before .before .before .loop in
+    let turn : tie.At-loop Inv-loop μ-loop = search in
+    let l = turn .loop in
     (omega arith, l .inv .1, place-on _ _ _ _ (l .inv .1) (l .i) _ _ (omega arith) (c .before .before .bytes-at .ensures _ (l .inv .1) .bytes) (c .before .is-place-sound .ensures) (c .if1 .left) (l .inv .2))
 
 returns-2 : tie.Need-returns-2 Inv-loop μ-loop

@@ -8,21 +8,19 @@ use Rattle.table.proofs.soundness.is_apart.Tie as tie
 
 front : tie.Need-slice-aggregate-is-equal
 front c =
-    let one = c .before .before .before .before .before .before in
-    let st = one .before .before .before .before in
-    sym (length-take-le _ _ (st .pre .0))
+    let start : tie.Start = search in
+    sym (length-take-le _ _ (start .pre .0))
 
 front-2 : tie.Need-slice-aggregate-is-equal-2
 front-2 c =
-    let other = c .before .before .before .before .before in
-    let st = other .before .before .before .before .before .before in
-    sym (length-take-le _ _ (st .pre .1))
+    let start : tie.Start = search in
+    sym (length-take-le _ _ (start .pre .1))
 
 returns-4 : tie.Need-returns-4
 returns-4 c =
-    let number = c .before .before .before in
-    let other = number .before .before .before in
-    let one = other .before .before in
+    let number : tie.Else3 = search in
+    let other : tie.Else2 = search in
+    let one : tie.Else1 = search in
     apart-blob _ _ _ _ (one .if1 .left) (other .if2 .left) (number .if3 .left) _ (c .is-equal .ensures)
 
 pub is-apart-spec : {M : Type 1} → statement M

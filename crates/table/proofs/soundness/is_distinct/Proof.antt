@@ -15,16 +15,23 @@ abbrev μ-loop : tie.MeasureT-loop
 
 returns : tie.Need-returns Inv-loop μ-loop
 returns c =
-    let l = c .before .before .before .loop in
-    distinct-out _ _ (c .before .before .before .before .before .pre) (l .i) _ (omega arith) (c .before .is-unlike .ensures) (c .if1 .taken) (l .inv .1)
+    let turn : tie.At-loop Inv-loop μ-loop = search in
+    let start : tie.Start Inv-loop μ-loop = search in
+    let l = turn .loop in
+    distinct-out _ _ (start .pre) (l .i) _ (omega arith) (c .before .is-unlike .ensures) (c .if1 .taken) (l .inv .1)
 
 loop-again : tie.Need-loop-again Inv-loop μ-loop
 loop-again c =
-    let l = c .before .before .before .loop in
-    (omega arith, distinct-on _ _ (c .before .before .before .before .before .pre) (l .i) _ (omega arith) (c .before .is-unlike .ensures) (c .if1 .left) (l .inv .1))
+    let turn : tie.At-loop Inv-loop μ-loop = search in
+    let start : tie.Start Inv-loop μ-loop = search in
+    let l = turn .loop in
+    (omega arith, distinct-on _ _ (start .pre) (l .i) _ (omega arith) (c .before .is-unlike .ensures) (c .if1 .left) (l .inv .1))
 
 returns-2 : tie.Need-returns-2 Inv-loop μ-loop
-returns-2 c = let l = c .before .loop in distinct-end _ _ (c .before .before .before .pre) (l .i) (omega arith) (l .inv .1)
+returns-2 c =
+    let start : tie.Start Inv-loop μ-loop = search in
+    let l = c .before .loop in
+    distinct-end _ _ (start .pre) (l .i) (omega arith) (l .inv .1)
 
 pub is-distinct-spec : {M : Type 1} → statement M
 is-distinct-spec =

@@ -8,11 +8,15 @@ use Rattle.table.proofs.soundness.is_lock_sound.Statement.{statement}
 use Rattle.table.proofs.soundness.is_lock_sound.Tie as tie
 
 part-is-zero-end : tie.Need-part-is-zero-end
-part-is-zero-end c = let st = c .before .before .before in let long = lock-of (st .args .l) _ (st .good .0) in omega arith
+part-is-zero-end c =
+    let start : tie.Start = search in
+    let long = lock-of (start .args .l) _ (start .good .0) in omega arith
 
 returns-2 : tie.Need-returns-2
 unfolding soundLock
-returns-2 c = let st = c .before .before .before .before .before in let long = lock-of (st .args .l) _ (st .good .0) in search tests depth 16
+returns-2 c =
+    let start : tie.Start = search in
+    let long = lock-of (start .args .l) _ (start .good .0) in search tests depth 16
 
 pub is-lock-sound-spec : {M : Type 1} → statement M
 unfolding soundLock

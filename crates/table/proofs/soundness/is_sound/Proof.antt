@@ -15,32 +15,28 @@ use Rattle.table.proofs.soundness.is_sound.Tie as tie
 returns-3 : tie.Need-returns-3
 unfolding soundState
 returns-3 c =
-    let locked = c .before .before .before in
-    let st = locked .before .before .before .before in
-    let last : st .args .state .next ≤ lastNumber = omega arith in
+    let start : tie.Start = search in
+    let last : start .args .state .next ≤ lastNumber = omega arith in
     search tests depth 16
 
 returns-4 : tie.Need-returns-4
 unfolding soundState
 returns-4 c =
-    let tested = c .before .before .before .before .before in
-    let st = tested .before .before .before .before .before .before in
-    let last : st .args .state .next ≤ lastNumber = omega arith in
+    let start : tie.Start = search in
+    let last : start .args .state .next ≤ lastNumber = omega arith in
     search tests depth 16
 
 is-distinct-requires : tie.Need-is-distinct-requires
 is-distinct-requires c κs =
-    let tested = c .before .before .before .before .before in
-    let sized = tested .before .before .before .before in
-    let st = sized .before .before in
-    housed-by _ _ _ _ (eight-of (st .args .state) _ (st .good .0)) (sized .if1 .left) (sym (c .before .are-places-sound .ensures) ∙ not-false _ (c .if4 .left))
+    let sized : tie.Else1 = search in
+    let start : tie.Start = search in
+    housed-by _ _ _ _ (eight-of (start .args .state) _ (start .good .0)) (sized .if1 .left) (sym (c .before .are-places-sound .ensures) ∙ not-false _ (c .if4 .left))
 
 returns-5 : tie.Need-returns-5
 unfolding soundState
 returns-5 c =
-    let tested = c .before .before .before .before .before .before in
-    let st = tested .before .before .before .before .before .before in
-    let last : st .args .state .next ≤ lastNumber = omega arith in
+    let start : tie.Start = search in
+    let last : start .args .state .next ≤ lastNumber = omega arith in
     search tests depth 16
 
 pub is-sound-spec : {M : Type 1} → statement M

@@ -15,34 +15,40 @@ abbrev μ-loop : tie.MeasureT-loop
 
 is-apart-requires : tie.Need-is-apart-requires Inv-loop μ-loop
 is-apart-requires c κs =
-    let turn = c .before .before .before in
-    let first = turn .before in
-    let h = first .before .before .before .pre in
+    let turn : tie.At-loop Inv-loop μ-loop = search in
+    let first : tie.After-bytes-at Inv-loop μ-loop = search in
+    let start : tie.Start Inv-loop μ-loop = search in
+    let h = start .pre in
     let l = turn .loop in
     (blob-inside _ _ (h .1) _ _ (h .0) (first .bytes-at .ensures _ (h .1 .eight-entries) .bytes), blob-inside _ _ (h .1) (l .j) _ (omega arith) (c .bytes-at2 .ensures _ (h .1 .eight-entries) .bytes))
 
 returns : tie.Need-returns Inv-loop μ-loop
 returns c =
-    let asked = c .before in
-    let second = asked .before in
-    let turn = second .before .before .before in
-    let first = turn .before in
-    let h = first .before .before .before .pre in
+    let asked : tie.After-is-apart Inv-loop μ-loop = search in
+    let second : tie.After-bytes-at2 Inv-loop μ-loop = search in
+    let turn : tie.At-loop Inv-loop μ-loop = search in
+    let first : tie.After-bytes-at Inv-loop μ-loop = search in
+    let start : tie.Start Inv-loop μ-loop = search in
+    let h = start .pre in
     let l = turn .loop in
     other-out _ _ (h .1) _ (l .j) _ _ _ (h .0) (omega arith) (first .bytes-at .ensures _ (h .1 .eight-entries) .bytes) (second .bytes-at2 .ensures _ (h .1 .eight-entries) .bytes) (asked .is-apart .ensures) (c .if1 .taken) (l .inv .1)
 
 loop-again : tie.Need-loop-again Inv-loop μ-loop
 loop-again c =
-    let asked = c .before in
-    let second = asked .before in
-    let turn = second .before .before .before in
-    let first = turn .before in
-    let h = first .before .before .before .pre in
+    let asked : tie.After-is-apart Inv-loop μ-loop = search in
+    let second : tie.After-bytes-at2 Inv-loop μ-loop = search in
+    let turn : tie.At-loop Inv-loop μ-loop = search in
+    let first : tie.After-bytes-at Inv-loop μ-loop = search in
+    let start : tie.Start Inv-loop μ-loop = search in
+    let h = start .pre in
     let l = turn .loop in
     (omega arith, other-on _ _ (h .1) _ (l .j) _ _ _ (h .0) (omega arith) (first .bytes-at .ensures _ (h .1 .eight-entries) .bytes) (second .bytes-at2 .ensures _ (h .1 .eight-entries) .bytes) (asked .is-apart .ensures) (c .if1 .left) (l .inv .1))
 
 returns-2 : tie.Need-returns-2 Inv-loop μ-loop
-returns-2 c = let l = c .before .loop in others-end _ _ (c .before .before .before .before .before .pre .1) _ (l .j) (omega arith) (l .inv .1)
+returns-2 c =
+    let start : tie.Start Inv-loop μ-loop = search in
+    let l = c .before .loop in
+    others-end _ _ (start .pre .1) _ (l .j) (omega arith) (l .inv .1)
 
 pub is-unlike-spec : {M : Type 1} → statement M
 is-unlike-spec =

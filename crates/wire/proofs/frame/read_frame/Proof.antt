@@ -16,7 +16,9 @@ unfolding splitOf
 returns-2 c = search all depth 16
 
 add-to : tie.Need-add-to
-add-to c = let h = number-read _ _ _ _ (sym (c .before .before .before .before .number .ensures) ∙ c .before .before .n .given .1) in omega arith
+add-to c =
+    let at-number : tie.After-number = search in
+    let h = number-read _ _ _ _ (sym (at-number .number .ensures) ∙ c .before .before .n .given .1) in omega arith
 
 returns-3 : tie.Need-returns-3
 unfolding splitOf

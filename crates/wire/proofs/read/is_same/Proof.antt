@@ -28,7 +28,9 @@ shared-slice-read-if2-2 : tie.Need-shared-slice-read-if2-2 Inv-loop μ-loop
 shared-slice-read-if2-2 c = omega arith
 
 returns-2 : tie.Need-returns-2 Inv-loop μ-loop
-returns-2 c = same-stop _ _ _ _ (c .before .before .before .before .loop .inv .1) (omega arith) (omega arith) (c .if2 .taken)
+returns-2 c =
+    let turn : tie.At-loop Inv-loop μ-loop = search in
+    same-stop _ _ _ _ (turn .loop .inv .1) (omega arith) (omega arith) (c .if2 .taken)
 
 add-i : tie.Need-add-i Inv-loop μ-loop
 add-i c = omega arith
@@ -37,7 +39,9 @@ loop-less : tie.Need-loop-less Inv-loop μ-loop
 loop-less c = omega arith
 
 loop-again : tie.Need-loop-again Inv-loop μ-loop
-loop-again c = (omega arith, same-step _ _ _ _ (c .before .before .before .before .loop .inv .1) (omega arith) (omega arith) (c .if2 .left))
+loop-again c =
+    let turn : tie.At-loop Inv-loop μ-loop = search in
+    (omega arith, same-step _ _ _ _ (turn .loop .inv .1) (omega arith) (omega arith) (c .if2 .left))
 
 returns-3 : tie.Need-returns-3 Inv-loop μ-loop
 returns-3 c = same-end _ _ _ _ (c .before .loop .inv .1) (omega arith) (omega arith)

@@ -20,15 +20,21 @@ lead-requires c κs = search needs
 
 returns-2 : tie.Need-returns-2
 unfolding stepOf
-returns-2 c = rw (c .before .before .before .u .given .1, c .before .if1 .taken) (c .lead .ensures)
+returns-2 c =
+    let at-u : tie.After-u = search in
+    rw (at-u .u .given .1, c .before .if1 .taken) (c .lead .ensures)
 
 returns-3 : tie.Need-returns-3
 unfolding stepOf
-returns-3 c = rw (c .before .before .before .u .given .1, ne-eqb _ _ (c .before .if1 .left), lt-leb _ _ (c .if2 .taken))
+returns-3 c =
+    let at-u : tie.After-u = search in
+    rw (at-u .u .given .1, ne-eqb _ _ (c .before .if1 .left), lt-leb _ _ (c .if2 .taken))
 
 returns-4 : tie.Need-returns-4
 unfolding stepOf
-returns-4 c = rw (c .before .before .before .before .u .given .1, ne-eqb _ _ (c .before .before .if1 .left), le-leb _ _ (c .before .if2 .left), lt-leb _ _ (c .if3 .taken))
+returns-4 c =
+    let at-u : tie.After-u = search in
+    rw (at-u .u .given .1, ne-eqb _ _ (c .before .before .if1 .left), le-leb _ _ (c .before .if2 .left), lt-leb _ _ (c .if3 .taken))
 
 sub-tails : tie.Need-sub-tails
 sub-tails c = search needs
@@ -38,7 +44,10 @@ tails-requires c κs = search needs
 
 returns-5 : tie.Need-returns-5
 unfolding stepOf
-returns-5 c = rw (c .before .before .before .before .before .u .given .1, ne-eqb _ _ (c .before .before .before .if1 .left), le-leb _ _ (c .before .before .if2 .left), le-leb _ _ (c .before .if3 .left)) (c .tails .ensures)
+returns-5 c =
+    let else-1 : tie.Else1 = search in
+    let at-u : tie.After-u = search in
+    rw (at-u .u .given .1, ne-eqb _ _ (else-1 .if1 .left), le-leb _ _ (c .before .before .if2 .left), le-leb _ _ (c .before .if3 .left)) (c .tails .ensures)
 
 pub step-spec : {M : Type 1} → statement M
 step-spec =

@@ -22,16 +22,22 @@ cast-len : tie.Need-cast-len
 cast-len c = search needs
 
 sub-if1 : tie.Need-sub-if1
-sub-if1 c = let h = number-read _ _ _ _ (sym (c .before .before .before .number .ensures) ∙ c .before .n .given .1) in omega arith
+sub-if1 c =
+    let at-number : tie.After-number = search in
+    let h = number-read _ _ _ _ (sym (at-number .number .ensures) ∙ c .before .n .given .1) in omega arith
 
 returns-2 : tie.Need-returns-2
-returns-2 c = let h = number-read _ _ _ _ (sym (c .before .before .before .before .number .ensures) ∙ c .before .before .n .given .1) in string-cut _ _ (omega arith)
+returns-2 c =
+    let at-number : tie.After-number = search in
+    let h = number-read _ _ _ _ (sym (at-number .number .ensures) ∙ c .before .before .n .given .1) in string-cut _ _ (omega arith)
 
 add-to : tie.Need-add-to
 add-to c = search needs
 
 returns-3 : tie.Need-returns-3
-returns-3 c = let h = number-read _ _ _ _ (sym (c .before .before .before .before .number .ensures) ∙ c .before .before .n .given .1) in rw (h .place, h .number) (string-there _ _ (omega arith))
+returns-3 c =
+    let at-number : tie.After-number = search in
+    let h = number-read _ _ _ _ (sym (at-number .number .ensures) ∙ c .before .before .n .given .1) in rw (h .place, h .number) (string-there _ _ (omega arith))
 
 pub string-spec : {M : Type 1} → statement M
 string-spec =
