@@ -10,13 +10,14 @@ use Rattle.table.proofs.changes.last.Tie as tie
 returns : tie.Need-returns
 unfolding bytesFor
 returns c =
+    let free : tie.After-free-entry = search in
     let wiped : tie.After-wipe = search in
     let tested : tie.Then1 = search in
     let asked : tie.After-is-due = search in
     let start : tie.Start = search in
     let due = sym (asked .is-due .ensures) ∙ tested .if1 .taken in
     rw (due-gone (start .args .clock) (start .args .e) (start .args .p .now) due)
-    (record { entry = c .free-entry .ensures; bytes = wiped .wipe .ensures ∙ ap (λ n. replicate n 0) (start .pre .whole) })
+    (record { entry = free .free-entry .ensures; bytes = wiped .wipe .ensures ∙ ap (λ n. replicate n 0) (start .pre .whole) })
 
 returns-2 : tie.Need-returns-2
 returns-2 c =
