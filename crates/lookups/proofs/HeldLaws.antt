@@ -8,12 +8,11 @@ use mathlib.Core.List.{List, [], _∷_}
 use native.Mathlib.Omega.{arith}
 use borrow.Author.Tests.{eq-eqb, eqb-true, eqb-false, le-leb, lt-leb}
 use lib.Dec.{leb, eqb}
-use lib.ListN.{length, getD, take, drop}
-use lib.Seq.{take-take, drop-drop}
+use lib.ListN.{length, getD}
 use Rattle.wire.specs.declared.Seconds.{Seconds}
-use Rattle.wire.specs.Limits.{fieldsAt, commentLimit}
+use Rattle.wire.specs.Limits.{blobLimit, fieldsLimit, commentLimit}
 use Rattle.wire.specs.Read.{cutOf}
-use Rattle.wire.proofs.Reading.{le-or-lt, cut-there}
+use Rattle.wire.proofs.Reading.{le-or-lt}
 use Rattle.keys.specs.declared.constraints.Lifetime.{Lifetime}
 use Rattle.keys.specs.declared.constraints.Lifetime.the-variants.{For}
 use Rattle.rule.specs.declared.Millis.{Millis}
@@ -21,7 +20,7 @@ use Rattle.rule.specs.declared.Found.{Found}
 use Rattle.rule.specs.declared.Found.the-variants.{At, Nothing}
 use Rattle.rule.specs.Gateway.{Entry as Key, Place, Gateway, millisOf, dueAt, lasting, atClock, later, advance, seek}
 use Rattle.rule.specs.Soundness as rule
-use Rattle.rule.specs.Soundness.{Distinct, SoundEntry}
+use Rattle.rule.specs.Soundness.{Distinct, Fits, SoundEntry}
 use Rattle.rule.specs.Words.{HeldAt}
 use Rattle.rule.specs.Words as words
 use Rattle.rule.proofs.Cases.{true-not-false}
@@ -30,13 +29,13 @@ use Rattle.rule.proofs.PlaceLaws.{some-not-none, same-entry, Holds, every-at, d
 use Rattle.table.specs.declared.Entry.{Entry}
 use Rattle.table.specs.declared.State.{State}
 use Rattle.table.specs.Bytes.{padded}
-use Rattle.table.specs.Meaning.{size, gatewayOf, keyOf, noEntry, startOf, fieldsFrom, partAt, keptComment, flagOf, limitedFlag, entryFor}
+use Rattle.table.specs.Meaning.{gatewayOf, keyOf, noEntry, startOf, fieldsFrom, partAt, keptComment, flagOf, limitedFlag, entryFor}
 use Rattle.table.specs.Soundness.{soundState, Sound}
 use Rattle.table.proofs.ByteLaws.{padded-size, padded-front, padded-rest}
-use Rattle.table.proofs.SizeLaws.{in-store}
+use Rattle.table.proofs.SizeLaws.{InStore, in-store}
 use Rattle.table.proofs.TestLaws.{sound-state-rule}
 use Rattle.table.proofs.WritingLaws.{sound-meaning}
-use Rattle.table.proofs.ReadLaws.{view-at, place-held}
+use Rattle.table.proofs.ReadLaws.{view-at, place-held, blob-lies, blob-ends, fields-lie, fields-end}
 use Rattle.lookups.specs.declared.HeldKey.{HeldKey}
 use Rattle.lookups.specs.Told.{hasNumber, leftAt, nothing, toldOf, keyTold}
 use Rattle.lookups.specs.Promises.{Held, Arrays, Says, Tells, KeyRule, LeftSays, LeftRule, AllZero, NothingRule, ToldRule, PartsWithin, PartsRule}
@@ -109,59 +108,60 @@ module _ (s : State) (x : List ℕ) (i : ℕ) (k : Key) (S : Sound s x) (there :
       let first = key-sound .number-first in
       same-entry (sym there ∙ view-at (s .entries) x (S .eight-entries) i inside ∙ place-held e (partAt (s .entries) x i) (λ never. omega arith))
 
--- a part of a place is a part of the store
-front : (at n w : ℕ) (l : List ℕ) → at + n ≤ w → take n (drop at (take w l)) ≡ take n (drop at l)
-front zero n w l h = take-take n w l (omega arith)
-front (suc at) n zero l h = absurd (omega arith)
-front (suc at) n (suc w) [] h = refl
-front (suc at) n (suc w) (b ∷ l) h = front at n w l (omega arith)
-
-part-cut : (x : List ℕ) (o w at n f : ℕ) (v : List ℕ) → v ≡ take n (drop at (take w (drop o x))) → length v ≡ n → at + n ≤ w → o + w ≤ length x → f ≡ o + at
-    → cutOf x f (f + length v) ≡ v
-part-cut x o w at n f v v-is long fits room f-is =
-    let span : f + length v - f ≡ n = omega arith in
-    sym (cut-there x f (f + length v) (omega arith) (omega arith))
-    ∙ (λ j. take (span j) (drop (f-is j) x))
-    ∙ ap (take n) (sym (drop-drop at o x))
-    ∙ sym (front at n w (drop o x) fits)
-    ∙ sym v-is
-
 kept-says : (c : List ℕ) → length c ≤ commentLimit → Says (keptComment c) c
 unfolding keptComment
 kept-says c h = record { long = refl; text-is = padded-front commentLimit c; rest = padded-rest commentLimit c; whole = padded-size commentLimit c h }
 
 module _ (s : State) (x : List ℕ) (i : ℕ) (k : Key) (S : Sound s x) (there : HeldAt (gatewayOf s x) i k) where
+  abbrev e : Entry
+  e = getD (s .entries) i noEntry
+
+  stored : InStore (s .entries) x i
+  stored = in-store (s .entries) x (S .eight-entries) (S .store-size) i (inside s x i k S there)
+
+  lengths : Fits (k .blob) (k .fields) (k .comment)
+  lengths = key-sound s x i k S there .lengths
+
+  blob-long : e .«blob_len» ≡ length (k .blob)
+  unfolding entryFor
+  blob-long = ap (λ (e : Entry). e .«blob_len») (entry s x i k S there)
+
+  fields-long : e .«fields_len» ≡ length (k .fields)
+  unfolding entryFor
+  fields-long = ap (λ (e : Entry). e .«fields_len») (entry s x i k S there)
+
+  blob-fits : e .«blob_len» ≤ blobLimit
+  blob-fits = rw blob-long (lengths .blob-fits)
+
+  fields-fit : e .«fields_len» ≤ fieldsLimit
+  fields-fit = rw fields-long (lengths .fields-fit)
+
   told-tells : Tells x k (toldOf s i k)
-  unfolding toldOf entryFor
-  told-tells =
-      let e = getD (s .entries) i noEntry in
-      let written = entry s x i k S there in
-      let bytes = key-is s x i k S there in
-      let lengths = key-sound s x i k S there .lengths in
-      let blob-fits = lengths .blob-fits in
-      let fields-fit = lengths .fields-fit in
-      let room = in-store (s .entries) x (S .eight-entries) (S .store-size) i (inside s x i k S there) .inside in
-      let blob-long : length (k .blob) ≡ e .«blob_len» = sym (ap (λ (e : Entry). e .«blob_len») written) in
-      let fields-long : length (k .fields) ≡ e .«fields_len» = sym (ap (λ (e : Entry). e .«fields_len») written) in
-      record {
-        number = refl;
-        confirm = λ yes. ap flagOf yes;
-        no-confirm = λ no. ap flagOf no;
-        limited = λ seconds l. ap limitedFlag l;
-        unlimited = λ l. ap limitedFlag l;
-        blob = part-cut x (startOf (s .entries) i) (size e) 0 (e .«blob_len») (startOf (s .entries) i) (k .blob) (ap (λ (k : Key). k .blob) bytes) blob-long (omega arith) room (omega arith);
-        fields = part-cut x (startOf (s .entries) i) (size e) fieldsAt (e .«fields_len») (fieldsFrom (s .entries) i) (k .fields) (ap (λ (k : Key). k .fields) bytes) fields-long (omega arith) room refl;
-        comment = kept-says (k .comment) (lengths .comment-fits);
-      }
+  unfolding toldOf
+  told-tells = record {
+    number = refl;
+    confirm = λ yes. ap flagOf yes;
+    no-confirm = λ no. ap flagOf no;
+    limited = λ seconds l. ap limitedFlag l;
+    unlimited = λ l. ap limitedFlag l;
+    blob = ap (λ (n : ℕ). cutOf x (startOf (s .entries) i) (startOf (s .entries) i + n)) (sym blob-long)
+        ∙ blob-lies (s .entries) x i stored blob-fits
+        ∙ ap (λ (k : Key). k .blob) (sym (key-is s x i k S there));
+    fields = ap (λ (n : ℕ). cutOf x (fieldsFrom (s .entries) i) (fieldsFrom (s .entries) i + n)) (sym fields-long)
+        ∙ fields-lie (s .entries) x i stored fields-fit
+        ∙ ap (λ (k : Key). k .fields) (sym (key-is s x i k S there));
+    comment = kept-says (k .comment) (lengths .comment-fits);
+  }
 
   told-within : PartsWithin x (toldOf s i k)
   unfolding toldOf keptComment
-  told-within =
-      let lengths = key-sound s x i k S there .lengths in
-      let blob-fits = lengths .blob-fits in
-      let fields-fit = lengths .fields-fit in
-      let room = in-store (s .entries) x (S .eight-entries) (S .store-size) i (inside s x i k S there) .inside in
-      record { blob-ordered = omega arith; blob-within = omega arith; fields-ordered = omega arith; fields-within = omega arith; comment-within = lengths .comment-fits }
+  told-within = record {
+    blob-ordered = omega arith;
+    blob-within = rw blob-long at (blob-ends (s .entries) x i stored blob-fits);
+    fields-ordered = omega arith;
+    fields-within = rw fields-long at (fields-end (s .entries) x i stored fields-fit);
+    comment-within = lengths .comment-fits;
+  }
 
 pub key-rule : KeyRule
 key-rule s x i k S there = subst (Tells x k) (sym (told-held s x i k S there)) (told-tells s x i k S there)

@@ -1,5 +1,5 @@
 -- What is read of one place: its entry and its part of the store are the place that the meaning has there.
-use Prim.Native.Nat.{ℕ, zero, suc, _≤_, _<_}
+use Prim.Native.Nat.{ℕ, zero, suc, _+_, _-_, _≤_, _<_}
 use mathlib.Core.Path.{_≡_, refl, sym, ap, _∙_}
 use mathlib.Core.Bool.{true, not}
 use mathlib.Core.Option.{none, some}
@@ -7,8 +7,11 @@ use mathlib.Core.List.{List, [], _∷_}
 use native.Mathlib.Omega.{arith}
 use borrow.Author.Tests.{lt-ltb, eq-eqb, ne-eqb, eqb-true}
 use lib.Dec.{eqb, ltb}
-use lib.ListN.{length, take, getD}
-use Rattle.wire.specs.Limits.{storeSize, blobLimit}
+use lib.ListN.{length, take, drop, getD}
+use lib.Seq.{take-take, drop-drop}
+use Rattle.wire.specs.Limits.{storeSize, blobLimit, fieldsLimit, fieldsAt}
+use Rattle.wire.specs.Read.{cutOf}
+use Rattle.wire.proofs.Reading.{cut-there}
 use Rattle.rule.specs.declared.Millis.{Millis}
 use Rattle.rule.specs.Gateway.{isFree}
 use Rattle.rule.proofs.Cases.{cond-cases}
@@ -16,10 +19,10 @@ use Rattle.table.specs.declared.Entry.{Entry}
 use Rattle.table.specs.declared.State.{State}
 use Rattle.table.specs.Each.{Each}
 use Rattle.table.specs.Bytes.{padded}
-use Rattle.table.specs.Meaning.{size, isSet, keyOf, placeOf, numberIn, confirmIn, blobIn, commentIn, view, gatewayOf, noEntry, partAt, keptComment, entryFor}
+use Rattle.table.specs.Meaning.{size, isSet, keyOf, placeOf, numberIn, confirmIn, blobIn, commentIn, view, gatewayOf, noEntry, startOf, fieldsFrom, partAt, keptComment, entryFor}
 use Rattle.table.specs.Soundness.{soundPlace, soundPlaces, SoundPlace, free, held, Housed, Sound}
 use Rattle.table.proofs.EachLaws.{each-length, each-at, every-at, each-says}
-use Rattle.table.proofs.SizeLaws.{in-store}
+use Rattle.table.proofs.SizeLaws.{InStore, in-store}
 use Rattle.table.proofs.TestLaws.{place-says}
 use Rattle.table.proofs.WritingLaws.{Seen, seen-free, seen-held, seen}
 
@@ -108,6 +111,41 @@ module _ (s : State) (x : List ℕ) (S : Sound s x) (i : ℕ) (h : i < 8) where
 
   pub state-blob-fits : getD (s .entries) i noEntry .«blob_len» ≤ blobLimit
   state-blob-fits = sound-blob-fits _ _ _ _ state-sound-at
+
+-- ## Where the key of a place has its bytes
+
+-- a part of a place is a part of the store
+front : (at n w : ℕ) (l : List ℕ) → at + n ≤ w → take n (drop at (take w l)) ≡ take n (drop at l)
+front zero n w l h = take-take n w l (omega arith)
+front (suc at) n zero l h = absurd (omega arith)
+front (suc at) n (suc w) [] h = refl
+front (suc at) n (suc w) (b ∷ l) h = front at n w l (omega arith)
+
+part-cut : (x : List ℕ) (o w at n f : ℕ) → f ≡ o + at → at + n ≤ w → o + w ≤ length x → cutOf x f (f + n) ≡ take n (drop at (take w (drop o x)))
+part-cut x o w at n f f-is fits room =
+    let span : f + n - f ≡ n = omega arith in
+    sym (cut-there x f (f + n) (omega arith) (omega arith))
+    ∙ (λ j. take (span j) (drop (f-is j) x))
+    ∙ ap (take n) (sym (drop-drop at o x))
+    ∙ sym (front at n w (drop o x) fits)
+
+module _ (es : List Entry) (x : List ℕ) (i : ℕ) (there : InStore es x i) where
+  abbrev here : Entry
+  here = getD es i noEntry
+
+  module _ (fits : here .«blob_len» ≤ blobLimit) where
+    pub blob-lies : cutOf x (startOf es i) (startOf es i + here .«blob_len») ≡ keyOf here (partAt es x i) .blob
+    blob-lies = part-cut x (startOf es i) (size here) 0 (here .«blob_len») _ (omega arith) (omega arith) (there .inside)
+
+    pub blob-ends : startOf es i + here .«blob_len» ≤ length x
+    blob-ends = omega (arith, there .inside)
+
+  module _ (fits : here .«fields_len» ≤ fieldsLimit) where
+    pub fields-lie : cutOf x (fieldsFrom es i) (fieldsFrom es i + here .«fields_len») ≡ keyOf here (partAt es x i) .fields
+    fields-lie = part-cut x (startOf es i) (size here) fieldsAt (here .«fields_len») _ refl (omega arith) (there .inside)
+
+    pub fields-end : fieldsFrom es i + here .«fields_len» ≤ length x
+    fields-end = omega (arith, there .inside)
 
 -- as many elements as are asked for are there, so there are some exactly where some are asked for
 pub some-taken : (n : ℕ) (bs : List ℕ) (m : ℕ) → length bs ≡ suc m → ltb 0 n ≡ ltb 0 (length (take n bs))

@@ -7,13 +7,13 @@ use native.Mathlib.Omega.{arith}
 use native.Mathlib.Nat.{not-suc-le-zero, le-of-suc-le-suc, le-refl, zero-mul, suc-mul}
 use lib.ListN.{length, drop, getD, replicate, length-append, length-drop, length-replicate}
 use lib.Seq.{length-take-le}
-use Rattle.wire.specs.Limits.{placeSize, storeSize, blobLimit, fieldsLimit}
+use Rattle.wire.specs.Limits.{placeSize, storeSize, blobLimit, fieldsLimit, fieldsAt}
 use Rattle.rule.specs.Gateway.{Entry as Key, Place, vacate}
 use Rattle.rule.specs.Soundness.{EveryEntry, Fits}
 use Rattle.table.specs.declared.Entry.{Entry}
 use Rattle.table.specs.Bytes.{Zeros}
 use Rattle.table.specs.Each.{offset}
-use Rattle.table.specs.Meaning.{size, noEntry, startOf, partAt, heldBytes, entryFor, bytesFor, laid}
+use Rattle.table.specs.Meaning.{size, noEntry, startOf, fieldsFrom, partAt, heldBytes, entryFor, bytesFor, laid}
 use Rattle.table.proofs.ByteLaws.{padded-size, zeros-append}
 use Rattle.table.proofs.EachLaws.{offset-even}
 use Rattle.table.proofs.LayoutLaws.{roomOf, startIn, laid-size, Spans}
@@ -23,6 +23,9 @@ use Rattle.table.proofs.LayoutLaws.{roomOf, startIn, laid-size, Spans}
 -- place i begins behind i others
 pub place-start : (es : List Entry) (i : ℕ) → i ≤ length es → startOf es i ≡ i * placeSize
 place-start es i h = offset-even size placeSize (λ e. refl) es i h
+
+pub fields-start : (es : List Entry) (i : ℕ) → i ≤ length es → fieldsFrom es i ≡ i * placeSize + fieldsAt
+fields-start es i h = ap (λ (n : ℕ). n + fieldsAt) (place-start es i h)
 
 -- eight places fill the store
 pub entries-end : (es : List Entry) → length es ≡ 8 → startOf es (length es) ≡ storeSize

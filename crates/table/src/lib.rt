@@ -1,5 +1,5 @@
 // The gateway's state by value and its key store lent: eight places of 4,096 bytes, the lock record, the kept clock, the next number.
-// Nobody else names an offset in the store or the size of a place, but for lookups, which tells a host where a key's bytes lie.
+// Nobody else names an offset in the store or the size of a place.
 pub mod bytes;
 pub mod changes;
 pub mod comments;

@@ -18,7 +18,9 @@ abbrev μ-loop : tie.MeasureT-loop
 pub constraints-spec : {M : Type 1} → statement M
 constraints-spec =
     tie.close
-    (tie.spec Inv-loop μ-loop
+    (tie.spec
+    Inv-loop
+    μ-loop
     (λ c. search walk)
     (λ c. search walk)
     (λ c. search walk)

@@ -1,10 +1,10 @@
 -- The entry is written as its key is, and starts and lengths give the parts. Assumes nothing.
 use native.Mathlib.Omega.{arith}
-use mathlib.Core.Path.{sym, ap, _∙_}
-use Prim.Native.Nat.{ℕ, _+_}
+use mathlib.Core.Path.{sym, _∙_}
+use lib.ListN.{length}
+use Prim.Native.Nat.{_≤_}
 use borrow.Author.Needs.{needs}
-use Rattle.wire.specs.Limits.{fieldsAt}
-use Rattle.table.proofs.SizeLaws.{place-start}
+use Rattle.table.proofs.SizeLaws.{place-start, fields-start}
 use Rattle.lookups.proofs.EntryLaws.{entry-kept, entry-is, told-is}
 use Rattle.lookups.proofs.held.told_at.Statement.{statement}
 use Rattle.lookups.proofs.held.told_at.Tie as tie
@@ -35,10 +35,10 @@ returns c k there =
     let s = start .args .state in
     let i = start .args .i in
     let S = start .pre .1 in
-    let place = sym (place-start (s .entries) i (omega (arith, S .eight-entries))) in
+    let inside : i ≤ length (s .entries) = omega (arith, S .eight-entries) in
     told-is s i _ _ _ _ k (entry-is s (start .args .store .now) S i (start .pre .0) k there) (left .left-at .ensures)
-    (begun .start-of .ensures ∙ place)
-    (fields .ensures ∙ ap (λ (n : ℕ). n + fieldsAt) place)
+    (begun .start-of .ensures ∙ sym (place-start (s .entries) i inside))
+    (fields .ensures ∙ sym (fields-start (s .entries) i inside))
 
 pub told-at-spec : {M : Type 1} → statement M
 told-at-spec =
