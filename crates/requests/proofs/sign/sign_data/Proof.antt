@@ -18,8 +18,8 @@ put-reply-requires : tie.Need-put-reply-requires
 put-reply-requires c κs =
     let said : tie.After-enum-told5 = search in
     let signed : tie.After-signed-for = search in
-    let at-at-match-keys1 : tie.At-match-keys1 = search in
-    let st = at-at-match-keys1 .before .before .before .before .before .before in
+    let at-match-keys1 : tie.At-match-keys1 = search in
+    let st = at-match-keys1 .before .before .before .before .before .before in
     (st .pre .0, signature-short (st .args .answers) _ _ _ (signed .signed-for .ensures) _ (said .enum-told5 .given .1) (st .pre .1))
 
 returns-3 : tie.Need-returns-3

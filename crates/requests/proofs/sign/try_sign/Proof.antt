@@ -14,8 +14,8 @@ inside : tie.Need-sign-with-requires
 inside c κs =
     let place : tie.After-i = search in
     let found : tie.After-find = search in
-    let at-at-match-keys1 : tie.At-match-keys1 = search in
-    let st = at-at-match-keys1 .before .before .before .before .before .before in
+    let at-match-keys1 : tie.At-match-keys1 = search in
+    let st = at-match-keys1 .before .before .before .before .before .before in
     (place-within _ _ _ _ _ (st .pre .2) (place .i .given .1) (found .find .ensures), st .pre .0, st .pre .1, st .pre .2)
 
 returns-2 : tie.Need-returns-2
