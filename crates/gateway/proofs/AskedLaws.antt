@@ -62,7 +62,7 @@ module _ (s : State) (x : List ℕ) (g : Gateway) (means : Means s x g) (n : ℕ
   there = rw (means .gateway) (h .there)
 
   tells : Tells x (h .key) (keyTold s x n)
-  tells = subst (λ (m : ℕ). Tells x (h .key) (keyTold s x m)) (h .number) (key-rule s x (h .place) (h .key) (means .sound) there)
+  tells = subst (λ (m : ℕ). Tells x (h .key) (keyTold s x m)) (h .number) (key-rule s x (h .key) (means .sound) (h .place, there))
 
   number-told : keyTold s x n .number ≡ n
   number-told = tells .number ∙ h .number

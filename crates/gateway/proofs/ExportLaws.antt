@@ -5,7 +5,6 @@ use mathlib.Core.List.{List}
 use Rattle.wire.specs.Limits.{storeSize}
 use Rattle.rule.specs.declared.Hash.{Hash}
 use Rattle.rule.specs.Gateway.{Gateway, zeroMillis}
-use Rattle.rule.specs.Calls as rule
 use Rattle.rule.specs.Calls.{Result, call}
 use Rattle.rule.specs.Examples.{oneKey, signWith, pastGate, asksHash}
 use Rattle.rule.proofs.Starred.{starred-examples}

@@ -13,6 +13,7 @@ use Rattle.wire.specs.Read.{cutOf}
 use Rattle.wire.specs.Frames.{splitOf, splitNumber, framePayload}
 use Rattle.wire.specs.Promises.{OneToOne}
 use Rattle.rule.specs.declared.Millis.{Millis}
+use Rattle.rule.specs.Gateway.{zeroMillis}
 use Rattle.rule.specs.Examples.{oneKey, signWith}
 use Rattle.table.specs.declared.State.{State}
 use Rattle.table.specs.Soundness.{Sound, Means}
@@ -147,7 +148,7 @@ abbrev pub TellsBits : ℕ → ℕ → Type 0
 TellsBits flags bits =
     (state : State) (store signature buffer : List ℕ) (outcome : FlatOutcome) (after : State) (storeAfter reply : List ℕ)
     → Means state store oneKey → length buffer ≡ replyRoom
-    → FlatMeets state store (signWith flags) (record { count = 0 }) gateYes signature buffer outcome after storeAfter reply
+    → FlatMeets state store (signWith flags) zeroMillis gateYes signature buffer outcome after storeAfter reply
     → outcome ≡ record { kind = 4; hash = bits; number = 1; from = 10; to = 10 }
 
 -- "Flags 6: SHA-256. 4: SHA-512. 1: none."

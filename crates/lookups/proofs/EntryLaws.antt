@@ -15,7 +15,7 @@ use Rattle.rule.specs.Words.{HeldAt}
 use Rattle.rule.proofs.PlaceLaws.{some-not-none, same-entry}
 use Rattle.table.specs.declared.Entry.{Entry}
 use Rattle.table.specs.declared.State.{State}
-use Rattle.table.specs.Meaning.{isSet, lifetimeOf, placeOf, gatewayOf, noEntry, startOf, fieldsFrom, partAt, limitedFlag, keptSeconds, entryFor}
+use Rattle.table.specs.Meaning.{isSet, lifetimeOf, placeOf, gatewayOf, noEntry, startOf, fieldsStart, partAt, limitedFlag, keptSeconds, entryFor}
 use Rattle.table.specs.Soundness.{SoundPlace, free, held, Sound}
 use Rattle.table.proofs.SizeLaws.{in-store}
 use Rattle.table.proofs.WritingLaws.{Seen, seen-free, seen-held, seen}
@@ -63,7 +63,7 @@ lifetime-is Forever = refl
 lifetime-is (For seconds) = refl
 
 pub told-is : (s : State) (i : ℕ) (left : Millis) (blob fields : ℕ) (e : Entry) (k : Key) → e ≡ entryFor (some k) → left ≡ leftAt (s .clock) (e .reading) (lifetimeOf e)
-    → blob ≡ startOf (s .entries) i → fields ≡ fieldsFrom (s .entries) i → record {
+    → blob ≡ startOf (s .entries) i → fields ≡ fieldsStart (s .entries) i → record {
       number = e .number;
       confirm = e .confirm;
       limited = e .limited;

@@ -1,7 +1,7 @@
 -- What is promised of one key: the search ends at the place that holds it, and what is told of it there is the key's.
 use Prim.Native.Nat.{ℕ, zero, suc, _+_, _-_, _≤_, _<_}
 use mathlib.Core.Path.{_≡_, refl, sym, ap, _∙_, subst}
-use mathlib.Core.Logic.{_≢_, _⊎_, inl, inr}
+use mathlib.Core.Logic.{_≢_, _⊎_, inl, inr, _↔_}
 use mathlib.Core.Bool.{Bool, true, false}
 use mathlib.Core.Option.{none, some}
 use mathlib.Core.List.{List, [], _∷_}
@@ -21,15 +21,14 @@ use Rattle.rule.specs.declared.Found.the-variants.{At, Nothing}
 use Rattle.rule.specs.Gateway.{Entry as Key, Place, Gateway, millisOf, dueAt, lasting, atClock, later, advance, seek}
 use Rattle.rule.specs.Soundness as rule
 use Rattle.rule.specs.Soundness.{Distinct, Fits, SoundEntry}
-use Rattle.rule.specs.Words.{HeldAt}
-use Rattle.rule.specs.Words as words
+use Rattle.rule.specs.Words.{HeldAt, Held}
 use Rattle.rule.proofs.Cases.{true-not-false}
 use Rattle.rule.proofs.Clock.{same-count}
 use Rattle.rule.proofs.PlaceLaws.{some-not-none, same-entry, Holds, every-at, distinct-at, getD-map, freed-fewer, lasting-frees, seek-first, seek-none}
 use Rattle.table.specs.declared.Entry.{Entry}
 use Rattle.table.specs.declared.State.{State}
 use Rattle.table.specs.Bytes.{padded}
-use Rattle.table.specs.Meaning.{gatewayOf, keyOf, noEntry, startOf, fieldsFrom, partAt, keptComment, flagOf, limitedFlag, entryFor}
+use Rattle.table.specs.Meaning.{gatewayOf, keyOf, noEntry, startOf, fieldsStart, partAt, keptComment, flagOf, limitedFlag, entryFor}
 use Rattle.table.specs.Soundness.{soundState, Sound}
 use Rattle.table.proofs.ByteLaws.{padded-size, padded-front, padded-rest}
 use Rattle.table.proofs.SizeLaws.{InStore, in-store}
@@ -38,7 +37,7 @@ use Rattle.table.proofs.WritingLaws.{sound-meaning}
 use Rattle.table.proofs.ReadLaws.{view-at, place-held, blob-lies, blob-ends, fields-lie, fields-end}
 use Rattle.lookups.specs.declared.HeldKey.{HeldKey}
 use Rattle.lookups.specs.Told.{hasNumber, leftAt, nothing, toldOf, keyTold}
-use Rattle.lookups.specs.Promises.{Held, Arrays, Says, Tells, KeyRule, LeftSays, LeftRule, AllZero, NothingRule, ToldRule, PartsWithin, PartsRule}
+use Rattle.lookups.specs.Promises.{HeldUnder, Arrays, Says, Tells, KeyRule, LeftSays, LeftRule, AllZero, NothingRule, ToldRule, PartsWithin, PartsRule}
 use Rattle.lookups.proofs.EntryLaws.{entry-is}
 use Rattle.lookups.proofs.ToldLaws.{Numbered, number-there, key-unsound, key-absent, key-found, numbered-at}
 
@@ -147,7 +146,7 @@ module _ (s : State) (x : List ℕ) (i : ℕ) (k : Key) (S : Sound s x) (there :
     blob = ap (λ (n : ℕ). cutOf x (startOf (s .entries) i) (startOf (s .entries) i + n)) (sym blob-long)
         ∙ blob-lies (s .entries) x i stored blob-fits
         ∙ ap (λ (k : Key). k .blob) (sym (key-is s x i k S there));
-    fields = ap (λ (n : ℕ). cutOf x (fieldsFrom (s .entries) i) (fieldsFrom (s .entries) i + n)) (sym fields-long)
+    fields = ap (λ (n : ℕ). cutOf x (fieldsStart (s .entries) i) (fieldsStart (s .entries) i + n)) (sym fields-long)
         ∙ fields-lie (s .entries) x i stored fields-fit
         ∙ ap (λ (k : Key). k .fields) (sym (key-is s x i k S there));
     comment = kept-says (k .comment) (lengths .comment-fits);
@@ -164,7 +163,7 @@ module _ (s : State) (x : List ℕ) (i : ℕ) (k : Key) (S : Sound s x) (there :
   }
 
 pub key-rule : KeyRule
-key-rule s x i k S there = subst (Tells x k) (sym (told-held s x i k S there)) (told-tells s x i k S there)
+key-rule s x k S (i, there) = subst (Tells x k) (sym (told-held s x i k S there)) (told-tells s x i k S there)
 
 -- ## What is left
 
@@ -211,36 +210,40 @@ module _ (g : Gateway) (i : ℕ) (k : Key) (there : HeldAt g i k) (past : k .rea
         by-order (inl h) = let e = left-is in omega arith
         by-order (inr h) = absurd (some-not-none (sym (undue-stays then k (due-is ∙ lt-leb _ _ h)) ∙ sym place-then ∙ gone))
 
-  left-says : rule.Sound g → LeftSays g k (leftAt (g .clock) (k .reading) (k .lifetime))
-  unfolding leftAt dueAt advance atClock
-  left-says sound = record {
-    goes = λ seconds t l. (
-      (λ gone. was-left seconds l t (freed seconds l t gone)),
-      (λ h (j, held). some-not-none (sym (still j _ held) ∙ goes-then seconds l t h)),
-    );
-    none-left = λ l. ap (leftAt (g .clock) (k .reading)) l;
-    stays = λ l reading. (i, after reading _ refl ∙ undue-stays _ k (ap (dueAt _ (k .reading)) l));
-  }
+  -- the key is held no more exactly where its place is free
+  pub gone-there : rule.Sound g → (reading : Millis) → (¬ Held (advance reading g) k) ↔ (getD (advance reading g .places) i none ≡ none)
+  unfolding advance atClock
+  gone-there sound reading = (freed, (λ free (j, held). some-not-none (sym (still j held) ∙ free)))
     where
-      -- a key that is still held is held at its place
-      still : (j : ℕ) (reading : Millis) → HeldAt (advance reading g) j k → HeldAt (advance reading g) i k
-      still j reading held = by-place (eqb i j) refl
-        where
-          now : Millis
-          now = later (g .clock) reading
+      now : Millis
+      now = later (g .clock) reading
 
+      -- where it is still held it has its place
+      still : (j : ℕ) → HeldAt (advance reading g) j k → HeldAt (advance reading g) i k
+      still j held = by-place (eqb i j) refl
+        where
           by-place : (b : Bool) → eqb i j ≡ b → HeldAt (advance reading g) i k
           by-place true e = let same : i ≡ j = eqb-true i j e in rw same held
           by-place false e =
               let stood = freed-fewer (lasting now) (lasting-frees now) (g .places) j k held in
               absurd (distinct-at (g .places) (sound .distinct) i j k k (eqb-false i j e) there stood .numbers refl)
 
-      freed : (seconds : Seconds) (l : k .lifetime ≡ For seconds) (t : ℕ) → ¬ words.Held (advance (then seconds l t) g) k → getD (advance (then seconds l t) g .places) i none ≡ none
-      freed seconds l t gone = by-due (dueAt (then seconds l t) (k .reading) (k .lifetime)) refl
+      freed : ¬ Held (advance reading g) k → getD (advance reading g .places) i none ≡ none
+      freed gone = by-due (dueAt now (k .reading) (k .lifetime)) refl
         where
-          by-due : (b : Bool) → dueAt (then seconds l t) (k .reading) (k .lifetime) ≡ b → getD (advance (then seconds l t) g .places) i none ≡ none
-          by-due true e = place-then seconds l t ∙ due-gone (then seconds l t) k e
-          by-due false e = absurd (gone (i, place-then seconds l t ∙ undue-stays (then seconds l t) k e))
+          by-due : (b : Bool) → dueAt now (k .reading) (k .lifetime) ≡ b → getD (advance reading g .places) i none ≡ none
+          by-due true e = after reading now refl ∙ due-gone now k e
+          by-due false e = absurd (gone (i, after reading now refl ∙ undue-stays now k e))
+
+  left-says : rule.Sound g → LeftSays g k (leftAt (g .clock) (k .reading) (k .lifetime))
+  unfolding leftAt dueAt
+  left-says sound = record {
+    goes = λ seconds t l.
+        let gone = gone-there sound (then seconds l t) in
+        ((λ h. was-left seconds l t (gone .0 h)), (λ h. gone .1 (goes-then seconds l t h)));
+    none-left = λ l. ap (leftAt (g .clock) (k .reading)) l;
+    stays = λ l reading. (i, after reading _ refl ∙ undue-stays _ k (ap (dueAt _ (k .reading)) l));
+  }
 
 pub left-rule : LeftRule
 unfolding toldOf gatewayOf
@@ -256,25 +259,25 @@ nothing-zero = record { number = refl; confirm = refl; limited = refl; left = re
 
 -- a lookup ends so: with nothing, or with a held key of a sound pair
 data Ended (s : State) (x : List ℕ) (n : ℕ) : Type 0 where
-  untold : keyTold s x n ≡ nothing → (Sound s x → Held (gatewayOf s x) n → ⊥) → Ended s x n
-  told : (S : Sound s x) (h : Held (gatewayOf s x) n) → keyTold s x n ≡ toldOf s (h .place) (h .key) → Ended s x n
+  untold : keyTold s x n ≡ nothing → (Sound s x → HeldUnder (gatewayOf s x) n → ⊥) → Ended s x n
+  told : (S : Sound s x) (h : HeldUnder (gatewayOf s x) n) → keyTold s x n ≡ toldOf s (h .held .0) (h .key) → Ended s x n
 
 module _ (s : State) (x : List ℕ) (n : ℕ) (a : Arrays s) where
-  held-told : (S : Sound s x) (h : Held (gatewayOf s x) n) → keyTold s x n ≡ toldOf s (h .place) (h .key)
-  held-told S h = ap (keyTold s x) (sym (h .number)) ∙ told-held s x (h .place) (h .key) S (h .there)
+  held-told : (S : Sound s x) (h : HeldUnder (gatewayOf s x) n) → keyTold s x n ≡ toldOf s (h .held .0) (h .key)
+  held-told S h = ap (keyTold s x) (sym (h .number)) ∙ told-held s x (h .held .0) (h .key) S (h .held .1)
 
   ended : Ended s x n
   ended = by-test (soundState s x) refl
     where
       by-search : soundState s x ≡ true → (f : Found) → seek (hasNumber n) 0 (gatewayOf s x .places) ≡ f → Ended s x n
       by-search t Nothing e = untold (sym (key-absent s x n t e)) (λ S h.
-          let there = h .there in
-          let found-there = number-found (gatewayOf s x .places) (sound-meaning s x S .distinct) (h .place) (h .key) there in
-          at-not-nothing (sym (subst (λ (m : ℕ). seek (hasNumber m) 0 (gatewayOf s x .places) ≡ At (h .place)) (h .number) found-there) ∙ e))
+          let (i, there) = h .held in
+          let found-there = number-found (gatewayOf s x .places) (sound-meaning s x S .distinct) i (h .key) there in
+          at-not-nothing (sym (subst (λ (m : ℕ). seek (hasNumber m) 0 (gatewayOf s x .places) ≡ At i) (h .number) found-there) ∙ e))
       by-search t (At i) e =
           let k = numbered-at s x n i e in
           let S = sound-state-rule s x (a .entries) (a .lock) .0 t in
-          let h : Held (gatewayOf s x) n = record { place = i; key = k .key; there = k .there; number = k .is } in
+          let h : HeldUnder (gatewayOf s x) n = record { key = k .key; held = (i, k .there); number = k .is } in
           told S h (held-told S h)
 
       by-test : (b : Bool) → soundState s x ≡ b → Ended s x n
@@ -292,14 +295,14 @@ pub told-rule : ToldRule
 unfolding toldOf
 told-rule s x n a = (by-end (ended s x n a), some-number)
   where
-    by-end : Ended s x n → keyTold s x n .number ≢ 0 → Sound s x × Held (gatewayOf s x) n
+    by-end : Ended s x n → keyTold s x n .number ≢ 0 → Sound s x × HeldUnder (gatewayOf s x) n
     by-end (untold e _) is = absurd (is (ap (λ (r : HeldKey). r .number) e ∙ nothing-zero .number))
     by-end (told S h _) is = (S, h)
 
-    some-number : Sound s x × Held (gatewayOf s x) n → keyTold s x n .number ≢ 0
+    some-number : Sound s x × HeldUnder (gatewayOf s x) n → keyTold s x n .number ≢ 0
     some-number (S, h) never =
         let same-number : keyTold s x n .number ≡ h .key .number = ap (λ (r : HeldKey). r .number) (held-told s x n a S h) in
-        let first = key-sound s x (h .place) (h .key) S (h .there) .number-first in
+        let first = key-sound s x (h .held .0) (h .key) S (h .held .1) .number-first in
         omega arith
 
 pub parts-rule : PartsRule
@@ -308,4 +311,4 @@ parts-rule s x n a = by-end (ended s x n a)
   where
     by-end : Ended s x n → PartsWithin x (keyTold s x n)
     by-end (untold e _) = subst (PartsWithin x) (sym e) (record { blob-ordered = omega arith; blob-within = omega arith; fields-ordered = omega arith; fields-within = omega arith; comment-within = omega arith })
-    by-end (told S h e) = subst (PartsWithin x) (sym e) (told-within s x (h .place) (h .key) S (h .there))
+    by-end (told S h e) = subst (PartsWithin x) (sym e) (told-within s x (h .held .0) (h .key) S (h .held .1))

@@ -17,7 +17,7 @@ use Rattle.table.specs.Meaning.{numberIn, gatewayOf}
 use Rattle.table.specs.Soundness.{soundState, Sound}
 use Rattle.table.proofs.TestLaws.{sound-state-rule}
 use Rattle.lookups.specs.Told.{nearer, leastAbove, nextTold}
-use Rattle.lookups.specs.Promises.{Held, Arrays, Next, NextRule, NoNextRule, Reached, start, on, EveryReached}
+use Rattle.lookups.specs.Promises.{HeldUnder, Arrays, Next, NextRule, NoNextRule, Reached, start, on, EveryReached}
 use Rattle.lookups.proofs.ToldLaws.{next-unsound, next-sound}
 use Rattle.lookups.proofs.HeldLaws.{is-sound}
 
@@ -116,11 +116,11 @@ least-above after (p ∷ ps) = nearer-least after p ps (leastAbove after ps) (le
 
 -- ## Of a gateway
 
-has : (g : Gateway) (n : ℕ) → Held g n → Has (g .places) n
-has g n h = record { at = h .place; key = h .key; there = h .there; number = h .number }
+has : (g : Gateway) (n : ℕ) → HeldUnder g n → Has (g .places) n
+has g n h = record { at = h .held .0; key = h .key; there = h .held .1; number = h .number }
 
-held : (g : Gateway) (n : ℕ) → Has (g .places) n → Held g n
-held g n h = record { place = h .at; key = h .key; there = h .there; number = h .number }
+held : (g : Gateway) (n : ℕ) → Has (g .places) n → HeldUnder g n
+held g n h = record { key = h .key; held = (h .at, h .there); number = h .number }
 
 module _ (g : Gateway) (after m : ℕ) (l : Least after (g .places) m) where
   least-next : m ≢ 0 → Next g after m
@@ -130,7 +130,7 @@ module _ (g : Gateway) (after m : ℕ) (l : Least after (g .places) m) where
       by-least (none-above z all) = absurd (is z)
       by-least (least h above all) = record { held = held g m h; above = above; least = λ n k over. all n (has g n k) over }
 
-  least-none : m ≡ 0 → (n : ℕ) → Held g n → n ≤ after
+  least-none : m ≡ 0 → (n : ℕ) → HeldUnder g n → n ≤ after
   least-none z q h = by-least l
     where
       by-least : Least after (g .places) m → q ≤ after
@@ -147,7 +147,7 @@ module _ (g : Gateway) (after m : ℕ) (l : Least after (g .places) m) where
           let high = next .least m (held g m h) above in
           omega arith
 
-  none-least : ((n : ℕ) → Held g n → n ≤ after) → m ≡ 0
+  none-least : ((n : ℕ) → HeldUnder g n → n ≤ after) → m ≡ 0
   none-least all = by-least l
     where
       by-least : Least after (g .places) m → m ≡ 0
@@ -183,10 +183,10 @@ next-rule s x after m a is = (to, from)
 pub no-next-rule : NoNextRule
 no-next-rule s x after a = (to, from)
   where
-    to : nextTold s x after ≡ 0 → Sound s x → (n : ℕ) → Held (gatewayOf s x) n → n ≤ after
+    to : nextTold s x after ≡ 0 → Sound s x → (n : ℕ) → HeldUnder (gatewayOf s x) n → n ≤ after
     to e S = least-none (gatewayOf s x) after (nextTold s x after) (told-least s x after S) e
 
-    from : (Sound s x → (n : ℕ) → Held (gatewayOf s x) n → n ≤ after) → nextTold s x after ≡ 0
+    from : (Sound s x → (n : ℕ) → HeldUnder (gatewayOf s x) n → n ≤ after) → nextTold s x after ≡ 0
     from all = by-number (nextTold s x after) refl
       where
         by-number : (m : ℕ) → nextTold s x after ≡ m → nextTold s x after ≡ 0
@@ -197,7 +197,7 @@ no-next-rule s x after a = (to, from)
 
 -- ## All are met
 
-module _ (s : State) (x : List ℕ) (n : ℕ) (S : Sound s x) (h : Held (gatewayOf s x) n) where
+module _ (s : State) (x : List ℕ) (n : ℕ) (S : Sound s x) (h : HeldUnder (gatewayOf s x) n) where
   -- the next number is this one, or one below it
   abbrev On : ℕ → Type 0
   On after = (nextTold s x after ≡ n) ⊎ ((after < nextTold s x after) × (nextTold s x after < n))

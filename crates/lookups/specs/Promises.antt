@@ -11,8 +11,7 @@ use Rattle.wire.specs.Read.{cutOf}
 use Rattle.keys.specs.declared.constraints.Lifetime.the-variants.{Forever, For}
 use Rattle.rule.specs.declared.Millis.{Millis}
 use Rattle.rule.specs.Gateway.{Entry as Key, Gateway, zeroMillis, advance}
-use Rattle.rule.specs.Words.{HeldAt}
-use Rattle.rule.specs.Words as words
+use Rattle.rule.specs.Words.{Held}
 use Rattle.table.specs.declared.Comment.{Comment}
 use Rattle.table.specs.declared.State.{State}
 use Rattle.table.specs.Meaning.{gatewayOf}
@@ -22,11 +21,10 @@ use Rattle.lookups.specs.Told.{keyTold, nextTold}
 
 -- ## Words
 
--- some place holds a key with this number
-pub record Held (g : Gateway) (n : ℕ) : Type 0 where
-  pub place : ℕ
+-- a key with this number is held
+pub record HeldUnder (g : Gateway) (n : ℕ) : Type 0 where
   pub key : Key
-  pub there : HeldAt g place key
+  pub held : Held g key
   pub number : key .number ≡ n
 
 -- a state's arrays have the lengths of their types
@@ -55,18 +53,18 @@ pub record Tells (x : List ℕ) (k : Key) (r : HeldKey) : Type 0 where
   pub comment : Says (r .comment) (k .comment)
 
 abbrev pub KeyRule : Type 0
-KeyRule = (s : State) (x : List ℕ) (i : ℕ) (k : Key) → Sound s x → HeldAt (gatewayOf s x) i k → Tells x k (keyTold s x (k .number))
+KeyRule = (s : State) (x : List ℕ) (k : Key) → Sound s x → Held (gatewayOf s x) k → Tells x k (keyTold s x (k .number))
 
 -- An accepted call first advances the gateway to its reading. At the kept clock and t more that lets a key with a lifetime go exactly where no more
 -- than t is left; one without a lifetime has nothing left, and never goes.
 pub record LeftSays (g : Gateway) (k : Key) (left : Millis) : Type 0 where
-  pub goes : (seconds : Seconds) (t : ℕ) → k .lifetime ≡ For seconds → (¬ words.Held (advance (record { count = g .clock .count + t }) g) k) ↔ (left .count ≤ t)
+  pub goes : (seconds : Seconds) (t : ℕ) → k .lifetime ≡ For seconds → (¬ Held (advance (record { count = g .clock .count + t }) g) k) ↔ (left .count ≤ t)
   pub none-left : k .lifetime ≡ Forever → left ≡ zeroMillis
-  pub stays : k .lifetime ≡ Forever → (reading : Millis) → words.Held (advance reading g) k
+  pub stays : k .lifetime ≡ Forever → (reading : Millis) → Held (advance reading g) k
 
 abbrev pub LeftRule : Type 0
 LeftRule =
-    (s : State) (x : List ℕ) (k : Key) → Sound s x → words.Held (gatewayOf s x) k
+    (s : State) (x : List ℕ) (k : Key) → Sound s x → Held (gatewayOf s x) k
     → LeftSays (gatewayOf s x) k (keyTold s x (k .number) .left)
 
 -- every field is zero
@@ -74,18 +72,18 @@ pub record AllZero (r : HeldKey) : Type 0 where
   pub number : r .number ≡ 0
   pub confirm : r .confirm ≡ 0
   pub limited : r .limited ≡ 0
-  pub left : r .left .count ≡ 0
+  pub left : r .left ≡ zeroMillis
   pub blob : (r .«blob_from» ≡ 0) × (r .«blob_to» ≡ 0)
   pub fields : (r .«fields_from» ≡ 0) × (r .«fields_to» ≡ 0)
   pub comment : (r .comment .bytes ≡ replicate commentLimit 0) × (r .comment .len ≡ 0)
 
 -- nothing is told where no key has the number, for the number 0, and where state and store are not sound
 abbrev pub NothingRule : Type 0
-NothingRule = (s : State) (x : List ℕ) (n : ℕ) → Arrays s → (Sound s x → Held (gatewayOf s x) n → ⊥) → AllZero (keyTold s x n)
+NothingRule = (s : State) (x : List ℕ) (n : ℕ) → Arrays s → (Sound s x → HeldUnder (gatewayOf s x) n → ⊥) → AllZero (keyTold s x n)
 
 -- and only there
 abbrev pub ToldRule : Type 0
-ToldRule = (s : State) (x : List ℕ) (n : ℕ) → Arrays s → (keyTold s x n .number ≢ 0) ↔ (Sound s x × Held (gatewayOf s x) n)
+ToldRule = (s : State) (x : List ℕ) (n : ℕ) → Arrays s → (keyTold s x n .number ≢ 0) ↔ (Sound s x × HeldUnder (gatewayOf s x) n)
 
 -- whatever state and store are, the parts lie in the store
 pub record PartsWithin (x : List ℕ) (r : HeldKey) : Type 0 where
@@ -102,16 +100,16 @@ PartsRule = (s : State) (x : List ℕ) (n : ℕ) → Arrays s → PartsWithin x 
 
 -- held, above `after`, and no held number lies between
 pub record Next (g : Gateway) (after m : ℕ) : Type 0 where
-  pub held : Held g m
+  pub held : HeldUnder g m
   pub above : after < m
-  pub least : (n : ℕ) → Held g n → after < n → m ≤ n
+  pub least : (n : ℕ) → HeldUnder g n → after < n → m ≤ n
 
 abbrev pub NextRule : Type 0
 NextRule = (s : State) (x : List ℕ) (after m : ℕ) → Arrays s → m ≢ 0 → (nextTold s x after ≡ m) ↔ (Sound s x × Next (gatewayOf s x) after m)
 
 -- none is told exactly where none is held above `after`, or state and store are not sound
 abbrev pub NoNextRule : Type 0
-NoNextRule = (s : State) (x : List ℕ) (after : ℕ) → Arrays s → (nextTold s x after ≡ 0) ↔ (Sound s x → (n : ℕ) → Held (gatewayOf s x) n → n ≤ after)
+NoNextRule = (s : State) (x : List ℕ) (after : ℕ) → Arrays s → (nextTold s x after ≡ 0) ↔ (Sound s x → (n : ℕ) → HeldUnder (gatewayOf s x) n → n ≤ after)
 
 -- the numbers that are met when one asks for the next, from 0 on
 pub data Reached (s : State) (x : List ℕ) : ℕ → Type 0 where
@@ -119,4 +117,4 @@ pub data Reached (s : State) (x : List ℕ) : ℕ → Type 0 where
   on : (n : ℕ) → Reached s x n → Reached s x (nextTold s x n)
 
 abbrev pub EveryReached : Type 0
-EveryReached = (s : State) (x : List ℕ) (n : ℕ) → Sound s x → Held (gatewayOf s x) n → Reached s x n
+EveryReached = (s : State) (x : List ℕ) (n : ℕ) → Sound s x → HeldUnder (gatewayOf s x) n → Reached s x n

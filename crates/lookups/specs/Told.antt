@@ -10,7 +10,7 @@ use Rattle.keys.specs.declared.constraints.Lifetime.the-variants.{Forever, For}
 use Rattle.rule.specs.declared.Millis.{Millis}
 use Rattle.rule.specs.Gateway.{Entry as Key, Place, zeroMillis, millisOf, seek, found}
 use Rattle.table.specs.declared.State.{State}
-use Rattle.table.specs.Meaning.{numberIn, gatewayOf, startOf, fieldsFrom, flagOf, limitedFlag, keptComment}
+use Rattle.table.specs.Meaning.{numberIn, gatewayOf, startOf, fieldsStart, flagOf, limitedFlag, keptComment}
 use Rattle.table.specs.Soundness.{soundState}
 use Rattle.lookups.specs.declared.HeldKey.{HeldKey}
 
@@ -48,8 +48,8 @@ toldOf s i k = record {
   left = leftAt (s .clock) (k .reading) (k .lifetime);
   «blob_from» = startOf (s .entries) i;
   «blob_to» = startOf (s .entries) i + length (k .blob);
-  «fields_from» = fieldsFrom (s .entries) i;
-  «fields_to» = fieldsFrom (s .entries) i + length (k .fields);
+  «fields_from» = fieldsStart (s .entries) i;
+  «fields_to» = fieldsStart (s .entries) i + length (k .fields);
   comment = keptComment (k .comment);
 }
 

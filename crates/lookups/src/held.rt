@@ -7,7 +7,7 @@ use table::Entry;
 use table::State;
 use table::changes::millis_of;
 use table::is_set;
-use table::places::fields_from;
+use table::places::fields_start;
 use table::places::start_of;
 use table::soundness::is_sound;
 use wire::limits;
@@ -77,7 +77,7 @@ fn told_at(state: State, store: &[u8], i: usize) -> HeldKey
     let left = left_at(e, clock);
     let blob_from = start_of(i);
     let blob_to = blob_from + e.blob_len;
-    let fields_from = fields_from(i);
+    let fields_from = fields_start(i);
     let fields_to = fields_from + e.fields_len;
     HeldKey {
         number: e.number,

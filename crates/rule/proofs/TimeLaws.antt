@@ -39,7 +39,8 @@ accepted-keeps P g c now effects =
 pub clock-raised : ClockRaised
 clock-raised g c =
     let raised = advance-clock (c .reading) g in
-    accepted-keeps (λ after. after .clock ≡ later (g .clock) (c .reading)) g c raised (λ l after h. effect-clock h ∙ raised)
+    λ accepted. ap (λ (t : Millis). t .count)
+    (accepted-keeps (λ after. after .clock ≡ later (g .clock) (c .reading)) g c raised (λ l after h. effect-clock h ∙ raised) accepted)
 
 -- ## On time
 

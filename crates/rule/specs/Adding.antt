@@ -1,5 +1,5 @@
 -- The promises of 17 and 25, over the draft's form of an add request.
-use Prim.Native.Nat.{ℕ, _+_, _-_, _^_, _≤_, _<_}
+use Prim.Native.Nat.{ℕ, _+_, _-_, _^_, max, _≤_, _<_}
 use mathlib.Core.Path.{_≡_}
 use mathlib.Core.Logic.{_↔_, _⊎_, _≢_}
 use mathlib.Core.Bool.{Bool, true, false}
@@ -17,7 +17,7 @@ use Rattle.keys.specs.declared.constraints.Lifetime.the-variants.{Forever}
 use Rattle.keys.specs.Additions.{additionAt}
 use Rattle.keys.specs.Values.{secondsIn, Added, additionReads}
 use Rattle.keys.specs.Forms.{KeyFields, constraintForms, Adds}
-use Rattle.rule.specs.Gateway.{Entry, Gateway, locked, later, NewKey, newEntry}
+use Rattle.rule.specs.Gateway.{Entry, Gateway, locked, NewKey, newEntry}
 use Rattle.rule.specs.Rule.{check, SUCCESS}
 use Rattle.rule.specs.Calls.{Call, asks, lands, call}
 use Rattle.rule.specs.Words.{Begins, HeldAt, Held, FreeAt, atCall, payloadOf, PastGate}
@@ -59,7 +59,7 @@ AdditionRule =
 
 -- the entry that an add request makes at a call
 abbrev pub madeBy : Gateway → Call → NewKey → Entry
-madeBy g c k = newEntry (g .next) (later (g .clock) (c .reading)) k
+madeBy g c k = newEntry (g .next) (record { count = max (g .clock .count) (c .reading .count) }) k
 
 -- e stands in place i, everything else is as it was, and the next number is taken. A blob that was held keeps its place; a new one has the
 -- lowest free place.

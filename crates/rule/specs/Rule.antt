@@ -1,5 +1,5 @@
 -- 01's "Rule by first byte" as a plan: what to ask, what to do with each answer, and how to land. Rows and steps stand in 01's order.
-use Prim.Native.Nat.{ℕ, _+_, _-_, _/_, _%_}
+use Prim.Native.Nat.{ℕ, _-_, _/_, _%_}
 use mathlib.Core.Bool.{Bool, true, false, cond}
 use mathlib.Core.Option.{Option, none, some}
 use mathlib.Core.List.{List, [], _∷_, _++_}

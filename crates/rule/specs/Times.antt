@@ -1,5 +1,5 @@
 -- The promises of time: every key gone on time, and usable until the job ends.
-use Prim.Native.Nat.{ℕ, _-_, _*_, _≤_, _<_}
+use Prim.Native.Nat.{ℕ, _-_, _*_, max, _≤_, _<_}
 use mathlib.Core.Path.{_≡_}
 use mathlib.Core.Logic.{_⊎_}
 use mathlib.Core.Option.{none}
@@ -7,7 +7,7 @@ use Rattle.wire.specs.declared.Seconds.{Seconds}
 use Rattle.wire.specs.Numbers.{Bytes}
 use Rattle.keys.specs.declared.constraints.Lifetime.the-variants.{For}
 use Rattle.rule.specs.declared.Millis.{Millis}
-use Rattle.rule.specs.Gateway.{Entry, Gateway, later, NewKey}
+use Rattle.rule.specs.Gateway.{Entry, Gateway, NewKey}
 use Rattle.rule.specs.Rule.{SUCCESS}
 use Rattle.rule.specs.Calls.{Call, refusal, lands, call}
 use Rattle.rule.specs.Words.{Begins, Carries, HeldAt, Held, payloadOf}
@@ -20,14 +20,14 @@ OnTime clock e = (seconds : Seconds) → e .lifetime ≡ For seconds → clock .
 abbrev pub GoneOnTime : Type 0
 GoneOnTime =
     (g : Gateway) (c : Call) (e : Entry) → refusal g c ≡ none → Held (call g c .gateway) e
-    → OnTime (later (g .clock) (c .reading)) e ⊎ ((e .number ≡ g .next) × (e .lifetime ≡ For (record { count = 0 })))
+    → OnTime (record { count = max (g .clock .count) (c .reading .count) }) e ⊎ ((e .number ≡ g .next) × (e .lifetime ≡ For (record { count = 0 })))
 
 abbrev pub ClockRaised : Type 0
-ClockRaised = (g : Gateway) (c : Call) → refusal g c ≡ none → call g c .gateway .clock ≡ later (g .clock) (c .reading)
+ClockRaised = (g : Gateway) (c : Call) → refusal g c ≡ none → call g c .gateway .clock .count ≡ max (g .clock .count) (c .reading .count)
 
 -- why an entry may leave at a call
 pub data Leaves (g : Gateway) (c : Call) (e : Entry) : Type 0 where
-  expired : (seconds : Seconds) → e .lifetime ≡ For seconds → 1000 * seconds .count ≤ later (g .clock) (c .reading) .count - e .reading .count → Leaves g c e
+  expired : (seconds : Seconds) → e .lifetime ≡ For seconds → 1000 * seconds .count ≤ max (g .clock .count) (c .reading .count) - e .reading .count → Leaves g c e
   removed : Begins 18 (payloadOf c) → Carries (e .blob) (payloadOf c) → call g c .outcome ≡ lands SUCCESS → Leaves g c e
   cleared : Begins 19 (payloadOf c) → call g c .outcome ≡ lands SUCCESS → Leaves g c e
   replaced : (k : NewKey) → AddRequest (payloadOf c) k → k .blob ≡ e .blob → call g c .outcome ≡ lands SUCCESS → Leaves g c e

@@ -22,12 +22,12 @@ use Rattle.rule.proofs.SoundLaws.{sound-fewer, sound-lock, sound-advance}
 use Rattle.table.specs.declared.Entry.{Entry}
 use Rattle.table.specs.declared.LockRecord.{LockRecord}
 use Rattle.table.specs.declared.State.{State}
-use Rattle.table.specs.Meaning.{lifetimeOf, placeOf, view, gatewayOf, heldBytes, entryFor, bytesFor, laid, lockOf, stateOf, layout, Written}
+use Rattle.table.specs.Meaning.{size, lifetimeOf, placeOf, view, gatewayOf, heldBytes, entryFor, bytesFor, laid, lockOf, stateOf, layout, Written}
 use Rattle.table.specs.Soundness.{Sound, Means}
 use Rattle.table.specs.Changes.{Standing, NoOther, MayPut}
 use Rattle.table.specs.Promises.{PlaceForPut}
 use Rattle.table.proofs.FoundLaws.{at-place}
-use Rattle.table.proofs.LayoutLaws.{Spans, part-laid, put-laid, entries-set, entries-free}
+use Rattle.table.proofs.LayoutLaws.{roomOf, Spans, part-laid, put-laid, entries-set, entries-free}
 use Rattle.table.proofs.SizeLaws.{free-size, key-size, laid-free, laid-store, wiped}
 use Rattle.table.proofs.WritingLaws.{Writing, sound-writing, sound-meaning, key-fits, keys-fit, writing-fits, view-fits, view-eight, key-back, free-back, lock-written, means-of}
 
@@ -250,7 +250,7 @@ written-stands clock next e p q (no-key is) w =
     record {
       place = there ∙ sym is;
       standing = record {
-        whole = ap length (w .bytes) ∙ rw is free-size;
+        whole = let room : roomOf q ≡ size (entryFor q) = rw is free-size in ap length (w .bytes) ∙ room ∙ ap size (sym (w .entry));
         reading-past = let r : e .reading .count ≡ 0 = ap (λ (x : Entry). x .reading .count) (w .entry) ∙ rw is in omega arith;
         written = rw (there ∙ sym is) w;
       };
@@ -260,7 +260,7 @@ written-stands clock next e p q (a-key k is sound) w =
     record {
       place = there ∙ sym is;
       standing = record {
-        whole = ap length (w .bytes) ∙ rw is (key-size k (key-fits clock next k sound));
+        whole = let room : roomOf q ≡ size (entryFor q) = rw is (key-size k (key-fits clock next k sound)) in ap length (w .bytes) ∙ room ∙ ap size (sym (w .entry));
         reading-past = let r : e .reading .count ≡ k .reading .count = ap (λ (x : Entry). x .reading .count) (w .entry) ∙ rw is in let past = sound .reading-past in omega arith;
         written = rw (there ∙ sym is) w;
       };

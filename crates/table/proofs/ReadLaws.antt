@@ -19,10 +19,10 @@ use Rattle.table.specs.declared.Entry.{Entry}
 use Rattle.table.specs.declared.State.{State}
 use Rattle.table.specs.Each.{Each}
 use Rattle.table.specs.Bytes.{padded}
-use Rattle.table.specs.Meaning.{size, isSet, keyOf, placeOf, numberIn, confirmIn, blobIn, commentIn, view, gatewayOf, noEntry, startOf, fieldsFrom, partAt, keptComment, entryFor}
+use Rattle.table.specs.Meaning.{size, isSet, keyOf, placeOf, numberIn, confirmIn, blobIn, commentIn, view, gatewayOf, noEntry, startOf, fieldsStart, partAt, keptComment, entryFor}
 use Rattle.table.specs.Soundness.{soundPlace, soundPlaces, SoundPlace, free, held, Housed, Sound}
 use Rattle.table.proofs.EachLaws.{each-length, each-at, every-at, each-says}
-use Rattle.table.proofs.SizeLaws.{InStore, in-store}
+use Rattle.table.proofs.SizeLaws.{blob-room, fields-room, InStore, in-store}
 use Rattle.table.proofs.TestLaws.{place-says}
 use Rattle.table.proofs.WritingLaws.{Seen, seen-free, seen-held, seen}
 
@@ -135,17 +135,17 @@ module _ (es : List Entry) (x : List ℕ) (i : ℕ) (there : InStore es x i) whe
 
   module _ (fits : here .«blob_len» ≤ blobLimit) where
     pub blob-lies : cutOf x (startOf es i) (startOf es i + here .«blob_len») ≡ keyOf here (partAt es x i) .blob
-    blob-lies = part-cut x (startOf es i) (size here) 0 (here .«blob_len») _ (omega arith) (omega arith) (there .inside)
+    blob-lies = part-cut x (startOf es i) (size here) 0 (here .«blob_len») _ (omega arith) (omega (arith, blob-room here)) (there .inside)
 
     pub blob-ends : startOf es i + here .«blob_len» ≤ length x
-    blob-ends = omega (arith, there .inside)
+    blob-ends = omega (arith, there .inside, blob-room here)
 
   module _ (fits : here .«fields_len» ≤ fieldsLimit) where
-    pub fields-lie : cutOf x (fieldsFrom es i) (fieldsFrom es i + here .«fields_len») ≡ keyOf here (partAt es x i) .fields
-    fields-lie = part-cut x (startOf es i) (size here) fieldsAt (here .«fields_len») _ refl (omega arith) (there .inside)
+    pub fields-lie : cutOf x (fieldsStart es i) (fieldsStart es i + here .«fields_len») ≡ keyOf here (partAt es x i) .fields
+    fields-lie = part-cut x (startOf es i) (size here) fieldsAt (here .«fields_len») _ refl (omega (arith, fields-room here)) (there .inside)
 
-    pub fields-end : fieldsFrom es i + here .«fields_len» ≤ length x
-    fields-end = omega (arith, there .inside)
+    pub fields-end : fieldsStart es i + here .«fields_len» ≤ length x
+    fields-end = omega (arith, there .inside, fields-room here)
 
 -- as many elements as are asked for are there, so there are some exactly where some are asked for
 pub some-taken : (n : ℕ) (bs : List ℕ) (m : ℕ) → length bs ≡ suc m → ltb 0 n ≡ ltb 0 (length (take n bs))

@@ -13,18 +13,29 @@ use Rattle.rule.specs.Soundness.{EveryEntry, Fits}
 use Rattle.table.specs.declared.Entry.{Entry}
 use Rattle.table.specs.Bytes.{Zeros}
 use Rattle.table.specs.Each.{offset}
-use Rattle.table.specs.Meaning.{size, noEntry, startOf, fieldsFrom, partAt, heldBytes, entryFor, bytesFor, laid}
+use Rattle.table.specs.Meaning.{size, noEntry, startOf, fieldsStart, partAt, heldBytes, entryFor, bytesFor, laid}
 use Rattle.table.proofs.ByteLaws.{padded-size, zeros-append}
 use Rattle.table.proofs.EachLaws.{offset-even}
 use Rattle.table.proofs.LayoutLaws.{roomOf, startIn, laid-size, Spans}
 
 -- ## Entries
 
+pub size-is : (e : Entry) → size e ≡ placeSize
+unfolding size
+size-is e = refl
+
+-- the room in a place
+pub blob-room : (e : Entry) → blobLimit ≤ size e
+blob-room e = omega (arith, size-is e)
+
+pub fields-room : (e : Entry) → fieldsAt + fieldsLimit ≤ size e
+fields-room e = omega (arith, size-is e)
+
 -- place i begins behind i others
 pub place-start : (es : List Entry) (i : ℕ) → i ≤ length es → startOf es i ≡ i * placeSize
-place-start es i h = offset-even size placeSize (λ e. refl) es i h
+place-start es i h = offset-even size placeSize size-is es i h
 
-pub fields-start : (es : List Entry) (i : ℕ) → i ≤ length es → fieldsFrom es i ≡ i * placeSize + fieldsAt
+pub fields-start : (es : List Entry) (i : ℕ) → i ≤ length es → fieldsStart es i ≡ i * placeSize + fieldsAt
 fields-start es i h = ap (λ (n : ℕ). n + fieldsAt) (place-start es i h)
 
 -- eight places fill the store
@@ -38,9 +49,10 @@ pub record InStore (es : List Entry) (x : List ℕ) (i : ℕ) : Type 0 where
 
 pub in-store : (es : List Entry) (x : List ℕ) → length es ≡ 8 → length x ≡ storeSize → (i : ℕ) → i < 8 → InStore es x i
 in-store es x eight long i h =
+    let here = getD es i noEntry in
     let begins = place-start es i (omega arith) in
-    let room : placeSize ≤ length (drop (startOf es i) x) = rw length-drop (omega arith) in
-    record { inside = omega arith; whole = length-take-le placeSize (drop (startOf es i) x) room }
+    let room : size here ≤ length (drop (startOf es i) x) = rw length-drop (omega (arith, size-is here)) in
+    record { inside = omega (arith, size-is here); whole = length-take-le (size here) (drop (startOf es i) x) room }
 
 -- ## What is written
 
@@ -55,11 +67,11 @@ held-size blob fields h g = rw (length-append, padded-size blobLimit blob h, pad
 -- the bytes are as many as the entry's size says
 pub free-size : roomOf none ≡ size (entryFor none)
 unfolding bytesFor
-free-size = length-replicate {A = ℕ} placeSize 0
+free-size = length-replicate {A = ℕ} placeSize 0 ∙ sym (size-is (entryFor none))
 
 pub key-size : (k : Key) → KeyFits k → roomOf (some k) ≡ size (entryFor (some k))
 unfolding bytesFor
-key-size k fits = held-size (k .blob) (k .fields) (fits .blob-fits) (fits .fields-fit)
+key-size k fits = held-size (k .blob) (k .fields) (fits .blob-fits) (fits .fields-fit) ∙ sym (size-is (entryFor (some k)))
 
 pub free-zeros : Zeros (bytesFor none)
 unfolding bytesFor
@@ -76,8 +88,8 @@ record FitsFirst (p : Place) (ps : List Place) : Type 0 where
   rest : EveryEntry KeyFits ps
 
 fits-first : (p : Place) (ps : List Place) → EveryEntry KeyFits (p ∷ ps) → FitsFirst p ps
-fits-first none ps all = record { first = free-size; rest = all }
-fits-first (some k) ps all = record { first = key-size k (all .0); rest = all .1 }
+fits-first none ps all = record { first = free-size ∙ size-is (entryFor none); rest = all }
+fits-first (some k) ps all = record { first = key-size k (all .0) ∙ size-is (entryFor (some k)); rest = all .1 }
 
 start-even : (ps : List Place) → EveryEntry KeyFits ps → (i : ℕ) → i ≤ length ps → startIn ps i ≡ i * placeSize
 unfolding offset

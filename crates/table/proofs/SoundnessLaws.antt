@@ -25,7 +25,7 @@ use Rattle.table.specs.Each.{each}
 use Rattle.table.specs.Meaning.{size, keyOf, placeOf, view, noEntry, partAt}
 use Rattle.table.specs.Soundness.{soundComment, zeroComment, isFlag, soundFlags, soundLifetime, soundLock, soundPlace, all, soundPlaces, unlike, Housed}
 use Rattle.table.proofs.EachLaws.{each-length, each-at}
-use Rattle.table.proofs.SizeLaws.{in-store}
+use Rattle.table.proofs.SizeLaws.{blob-room, in-store}
 use Rattle.table.proofs.ReadLaws.{view-length, view-at, place-free, place-held}
 
 -- ## Tests
@@ -204,7 +204,7 @@ module _ (es : List Entry) (x : List ℕ) (housed : Housed es x) where
   blob-inside i p h p-is =
       let whole : length p ≡ size (getD es i noEntry) = rw p-is (in-store es x (housed .eight-entries) (housed .store-size) i h .whole) in
       let fits = housed .blobs-fit i h in
-      omega arith
+      omega (arith, blob-room (getD es i noEntry))
 
   module _ (i j : ℕ) (p q : List ℕ) (b : Bool) (i-in : i < 8) (j-in : j < 8) (p-is : p ≡ partAt es x i) (q-is : q ≡ partAt es x j) (e : b ≡ unlike (placeOf (getD es i noEntry) p) (placeOf (getD es j noEntry) q ∷ [])) where
     unlike-at : b ≡ unlike (getD (view es x) i none) (getD (view es x) j none ∷ [])

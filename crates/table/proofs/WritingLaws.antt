@@ -1,6 +1,6 @@
 -- A sound state and store are written in one way: place by place, entry and bytes are those of what they mean, and a sound gateway written
 -- so is sound and means itself.
-use Prim.Native.Nat.{ℕ, zero, suc, _≤_}
+use Prim.Native.Nat.{ℕ, zero, suc, _+_, _≤_}
 use mathlib.Core.Path.{_≡_, refl, sym, ap, _∙_}
 use mathlib.Core.Bool.{Bool, true, false, cond}
 use mathlib.Core.Option.{none, some}
@@ -29,7 +29,7 @@ use Rattle.table.specs.Soundness.{Flag, SoundComment, SoundPlace, free, 
 use Rattle.table.specs.Promises.{FlagRule, SoundMeaning, SoundCanonical, OneWriting, EveryGateway, FreshMeans}
 use Rattle.table.proofs.ByteLaws.{padded-size, padded-front, padded-rest, zeros-padded}
 use Rattle.table.proofs.EachLaws.{each-length}
-use Rattle.table.proofs.SizeLaws.{entries-end, KeyFits, free-size, key-size, free-zeros, laid-free, laid-store}
+use Rattle.table.proofs.SizeLaws.{size-is, entries-end, KeyFits, free-size, key-size, free-zeros, laid-free, laid-store}
 
 -- ## One place
 
@@ -69,12 +69,13 @@ pub data Seen (clock : Millis) (next : ℕ) (e : Entry) (p : List ℕ) : Type 0 
 module _ (clock : Millis) (next : ℕ) (e : Entry) (p : List ℕ) (whole : length p ≡ size e) where
   pub seen : SoundPlace clock next e p → Seen clock next e p
   unfolding placeOf entryFor bytesFor heldBytes
-  seen (free f z) = seen-free (rw f) f (z ∙ ap (λ (n : ℕ). replicate n 0) whole)
+  seen (free f z) = seen-free (rw f) f (z ∙ ap (λ (n : ℕ). replicate n 0) (whole ∙ size-is e))
   seen (held s) =
+      let long : length p ≡ fieldsAt + fieldsLimit = whole ∙ size-is e in
       let number : e .number ≡ 0 → ⊥ = λ (n : e .number ≡ 0). let h = s .number-first in omega arith in
       let blob-size : length (take (e .«blob_len») p) ≡ e .«blob_len» = let h = s .blob-fits in length-take-le _ p (omega arith) in
       let front : length (take fieldsAt p) ≡ fieldsAt = length-take-le fieldsAt p (omega arith) in
-      let back : length (drop fieldsAt p) ≡ fieldsLimit = rw (length-drop, whole) in
+      let back : length (drop fieldsAt p) ≡ fieldsLimit = rw (length-drop, long) in
       let fields-size : length (take (e .«fields_len») (drop fieldsAt p)) ≡ e .«fields_len» = let h = s .fields-fit in length-take-le _ (drop fieldsAt p) (omega arith) in
       let comment-size : length (commentOf (e .comment)) ≡ e .comment .len = comment-length (e .comment) (s .comment) in
       let lifetime = lifetime-kept e (s .limited-flag) (s .no-seconds) in

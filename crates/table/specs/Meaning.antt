@@ -10,7 +10,7 @@ use Rattle.wire.specs.Limits.{placeSize, blobLimit, fieldsLimit, fieldsAt, comm
 use Rattle.wire.specs.declared.Seconds.{Seconds}
 use Rattle.keys.specs.declared.constraints.Lifetime.{Lifetime}
 use Rattle.keys.specs.declared.constraints.Lifetime.the-variants.{Forever, For}
-use Rattle.rule.specs.Gateway.{Entry as Key, Place, Gateway}
+use Rattle.rule.specs.Gateway.{Entry as Key, Place, Gateway, zeroMillis}
 use Rattle.table.specs.declared.Comment.{Comment}
 use Rattle.table.specs.declared.Entry.{Entry}
 use Rattle.table.specs.declared.LockRecord.{LockRecord}
@@ -19,7 +19,7 @@ use Rattle.table.specs.Bytes.{padded}
 use Rattle.table.specs.Each.{each, offset, share}
 
 -- "Eight places, 4,096 bytes each in the store"
-abbrev pub size : Entry → ℕ
+unfoldable pub size : Entry → ℕ
 size e = placeSize
 
 -- ## What is meant
@@ -83,7 +83,7 @@ gatewayOf s x = record { places = view (s .entries) x; lock = passphrase (s .loc
 abbrev pub noEntry : Entry
 noEntry = record {
   number = 0;
-  reading = record { count = 0 };
+  reading = zeroMillis;
   limited = 0;
   seconds = record { count = 0 };
   confirm = 0;
@@ -99,8 +99,8 @@ abbrev pub startOf : List Entry → ℕ → ℕ
 startOf es i = offset size es i
 
 -- its key fields: "in the last 3,072"
-abbrev pub fieldsFrom : List Entry → ℕ → ℕ
-fieldsFrom es i = startOf es i + fieldsAt
+abbrev pub fieldsStart : List Entry → ℕ → ℕ
+fieldsStart es i = startOf es i + fieldsAt
 
 -- the bytes of place i
 abbrev pub partAt : List Entry → List ℕ → ℕ → List ℕ
@@ -112,7 +112,7 @@ partAt es x i = share size es x i noEntry
 abbrev pub freeEntry : Entry
 freeEntry = record {
   number = 0;
-  reading = record { count = 0 };
+  reading = zeroMillis;
   limited = 0;
   seconds = record { count = 0 };
   confirm = 0;

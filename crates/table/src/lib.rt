@@ -1,5 +1,5 @@
 // The gateway's state by value and its key store lent: eight places of 4,096 bytes, the lock record, the kept clock, the next number.
-// Nobody else names an offset in the store or the size of a place.
+// No crate above names an offset in the store or the size of a place.
 pub mod bytes;
 pub mod changes;
 pub mod comments;
@@ -11,7 +11,6 @@ use rule::Millis;
 use wire::Seconds;
 use wire::limits;
 ghost use mathlib.Core.Path.{_≡_};
-ghost use mathlib.Core.List.{[]};
 ghost use mathlib.Core.Option.{none};
 ghost use Rattle.rule.specs.Gateway.{fresh as freshGateway};
 ghost use Rattle.table.specs.Meaning.{isSet, flagOf, entryFor, stateOf};

@@ -29,7 +29,7 @@ pub fn start_of(i: usize) -> usize
 }
 
 // Where its key fields begin.
-pub fn fields_from(i: usize) -> usize
+pub fn fields_start(i: usize) -> usize
     requires { ⌜ i < 8 ⌝ }
     ensures { λ r. ⌜ r ≡ i * placeSize + fieldsAt ⌝ }
 {

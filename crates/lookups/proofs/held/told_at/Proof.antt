@@ -28,7 +28,7 @@ add-fields-to c =
 
 returns : tie.Need-returns
 returns c k there =
-    let fields = c .before .fields-from in
+    let fields = c .before .fields-start in
     let begun : tie.After-start-of = search in
     let left : tie.After-left-at = search in
     let start : tie.Start = search in

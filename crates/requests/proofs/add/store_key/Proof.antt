@@ -7,6 +7,10 @@ use borrow.Author.Needs.{needs}
 use Rattle.requests.proofs.add.store_key.Statement.{statement}
 use Rattle.requests.proofs.add.store_key.Tie as tie
 
+-- where the function began, which is too far back for a search from its end
+abbrev began : tie.After-cut → tie.Start
+began p = search
+
 returns : tie.Need-returns
 unfolding storing
 returns c =
@@ -15,8 +19,8 @@ returns c =
     let at-fits2 : tie.After-fits2 = search in
     let parts : tie.After-cut2 = search in
     let at-cut : tie.After-cut = search in
-    let st = at-cut .before .before .before .before .before .before in
-    λ a e. search (adds, answering (failed .failure .ensures), tested .if1 .taken, at-fits2 .fits2 .ensures, at-cut .cut .ensures .bytes, parts .cut2 .ensures .bytes, st .pre .1) depth 20
+    let start = began at-cut in
+    λ a e. search (adds, answering (failed .failure .ensures), tested .if1 .taken, at-fits2 .fits2 .ensures, at-cut .cut .ensures .bytes, parts .cut2 .ensures .bytes, start .pre .1) depth 20
 
 returns-2 : tie.Need-returns-2
 unfolding storing
@@ -27,8 +31,8 @@ returns-2 c =
     let at-fits2 : tie.After-fits2 = search in
     let parts : tie.After-cut2 = search in
     let at-cut : tie.After-cut = search in
-    let st = at-cut .before .before .before .before .before .before in
-    λ a e. search (adds, answering (failed .failure2 .ensures), numbers .if2 .taken, tested .if1 .left, at-fits2 .fits2 .ensures, at-cut .cut .ensures .bytes, parts .cut2 .ensures .bytes, st .pre .1) depth 20
+    let start = began at-cut in
+    λ a e. search (adds, answering (failed .failure2 .ensures), numbers .if2 .taken, tested .if1 .left, at-fits2 .fits2 .ensures, at-cut .cut .ensures .bytes, parts .cut2 .ensures .bytes, start .pre .1) depth 20
 
 may : tie.Need-put-requires
 may c κs =
@@ -39,15 +43,15 @@ may c κs =
     let at-fits2 : tie.After-fits2 = search in
     let parts : tie.After-cut2 = search in
     let at-cut : tie.After-cut = search in
-    let st = at-cut .before .before .before .before .before .before in
+    let start = began at-cut in
     let fits = lengths-fit _ _ _ _ _ _ (at-fits2 .fits2 .ensures) (at-cut .cut .ensures .bytes) (parts .cut2 .ensures .bytes) (tested .if1 .left) in
-    may-put _ _ _ _ _ (st .pre .1) (place .i .given .1) (found .place-for .ensures) fits (numbers .if2 .left)
+    may-put _ _ _ _ _ (start .pre .1) (place .i .given .1) (found .place-for .ensures) fits (numbers .if2 .left)
 
 room : tie.Need-success-requires
 room c κs =
     let at-cut : tie.After-cut = search in
-    let st = at-cut .before .before .before .before .before .before in
-    omega (arith, st .pre .0)
+    let start = began at-cut in
+    omega (arith, start .pre .0)
 
 returns-3 : tie.Need-returns-3
 unfolding storing
@@ -60,8 +64,8 @@ returns-3 c =
     let at-fits2 : tie.After-fits2 = search in
     let parts : tie.After-cut2 = search in
     let at-cut : tie.After-cut = search in
-    let st = at-cut .before .before .before .before .before .before in
-    λ a e. search (adds, answering (failed .failure3 .ensures), none-found .enum-told .given .1, found .place-for .ensures, numbers .if2 .left, tested .if1 .left, at-fits2 .fits2 .ensures, at-cut .cut .ensures .bytes, parts .cut2 .ensures .bytes, st .pre .1) depth 20
+    let start = began at-cut in
+    λ a e. search (adds, answering (failed .failure3 .ensures), none-found .enum-told .given .1, found .place-for .ensures, numbers .if2 .left, tested .if1 .left, at-fits2 .fits2 .ensures, at-cut .cut .ensures .bytes, parts .cut2 .ensures .bytes, start .pre .1) depth 20
 
 returns-4 : tie.Need-returns-4
 unfolding storing
@@ -73,8 +77,8 @@ returns-4 c =
     let at-fits2 : tie.After-fits2 = search in
     let parts : tie.After-cut2 = search in
     let at-cut : tie.After-cut = search in
-    let st = at-cut .before .before .before .before .before .before in
-    λ a e. search (adds, c .enum-told2 .given .1, place .i .given .1, found .place-for .ensures, numbers .if2 .left, tested .if1 .left, at-fits2 .fits2 .ensures, at-cut .cut .ensures .bytes, parts .cut2 .ensures .bytes, st .pre .1) depth 20
+    let start = began at-cut in
+    λ a e. search (adds, c .enum-told2 .given .1, place .i .given .1, found .place-for .ensures, numbers .if2 .left, tested .if1 .left, at-fits2 .fits2 .ensures, at-cut .cut .ensures .bytes, parts .cut2 .ensures .bytes, start .pre .1) depth 20
 
 returns-5 : tie.Need-returns-5
 unfolding storing
@@ -88,8 +92,8 @@ returns-5 c =
     let at-fits2 : tie.After-fits2 = search in
     let parts : tie.After-cut2 = search in
     let at-cut : tie.After-cut = search in
-    let st = at-cut .before .before .before .before .before .before in
-    λ a e. search (adds, answering (failed .failure4 .ensures), said .enum-told3 .given .1, place .i .given .1, found .place-for .ensures, numbers .if2 .left, tested .if1 .left, at-fits2 .fits2 .ensures, at-cut .cut .ensures .bytes, parts .cut2 .ensures .bytes, st .pre .1) depth 20
+    let start = began at-cut in
+    λ a e. search (adds, answering (failed .failure4 .ensures), said .enum-told3 .given .1, place .i .given .1, found .place-for .ensures, numbers .if2 .left, tested .if1 .left, at-fits2 .fits2 .ensures, at-cut .cut .ensures .bytes, parts .cut2 .ensures .bytes, start .pre .1) depth 20
 
 returns-6 : tie.Need-returns-6
 unfolding storing
@@ -104,8 +108,8 @@ returns-6 c =
     let at-fits2 : tie.After-fits2 = search in
     let parts : tie.After-cut2 = search in
     let at-cut : tie.After-cut = search in
-    let st = at-cut .before .before .before .before .before .before in
-    λ a e. search (adds, answering (done .success .ensures), stored .put .ensures, said .enum-told4 .given .1, place .i .given .1, found .place-for .ensures, numbers .if2 .left, tested .if1 .left, at-fits2 .fits2 .ensures, at-cut .cut .ensures .bytes, parts .cut2 .ensures .bytes, st .pre .1) depth 20
+    let start = began at-cut in
+    λ a e. search (adds, answering (done .success .ensures), stored .put .ensures, said .enum-told4 .given .1, place .i .given .1, found .place-for .ensures, numbers .if2 .left, tested .if1 .left, at-fits2 .fits2 .ensures, at-cut .cut .ensures .bytes, parts .cut2 .ensures .bytes, start .pre .1) depth 20
 
 pub store-key-spec : {M : Type 1} → statement M
 store-key-spec =

@@ -6,6 +6,10 @@ use borrow.Author.Needs.{needs}
 use Rattle.requests.proofs.sign.sign_data.Statement.{statement}
 use Rattle.requests.proofs.sign.sign_data.Tie as tie
 
+-- where the function began, which is too far back for a search from its end
+abbrev began : tie.At-match-keys1 → tie.Start
+began p = search
+
 returns : tie.Need-returns
 unfolding signingData
 returns c = search (signs, closing (c .closed .ensures)) depth 16
@@ -18,9 +22,9 @@ put-reply-requires : tie.Need-put-reply-requires
 put-reply-requires c κs =
     let said : tie.After-enum-told5 = search in
     let signed : tie.After-signed-for = search in
-    let at-match-keys1 : tie.At-match-keys1 = search in
-    let st = at-match-keys1 .before .before .before .before .before .before in
-    (st .pre .0, signature-short (st .args .answers) _ _ _ (signed .signed-for .ensures) _ (said .enum-told5 .given .1) (st .pre .1))
+    let read : tie.At-match-keys1 = search in
+    let start = began read in
+    (start .pre .0, signature-short (start .args .answers) _ _ _ (signed .signed-for .ensures) _ (said .enum-told5 .given .1) (start .pre .1))
 
 returns-3 : tie.Need-returns-3
 unfolding signingData

@@ -6,6 +6,10 @@ use borrow.Author.Needs.{needs}
 use Rattle.requests.proofs.sign.try_sign.Statement.{statement}
 use Rattle.requests.proofs.sign.try_sign.Tie as tie
 
+-- where the function began, which is too far back for a search from its end
+abbrev began : tie.At-match-keys1 → tie.Start
+began p = search
+
 returns : tie.Need-returns
 unfolding signing
 returns c = search (signs, closing (c .closed .ensures)) depth 16
@@ -14,9 +18,9 @@ inside : tie.Need-sign-with-requires
 inside c κs =
     let place : tie.After-i = search in
     let found : tie.After-find = search in
-    let at-match-keys1 : tie.At-match-keys1 = search in
-    let st = at-match-keys1 .before .before .before .before .before .before in
-    (place-within _ _ _ _ _ (st .pre .2) (place .i .given .1) (found .find .ensures), st .pre .0, st .pre .1, st .pre .2)
+    let read : tie.At-match-keys1 = search in
+    let start = began read in
+    (place-within _ _ _ _ _ (start .pre .2) (place .i .given .1) (found .find .ensures), start .pre .0, start .pre .1, start .pre .2)
 
 returns-2 : tie.Need-returns-2
 unfolding signing

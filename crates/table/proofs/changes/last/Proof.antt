@@ -3,6 +3,7 @@ use borrow.Author.Needs.{needs}
 use mathlib.Core.Path.{sym, ap, _∙_}
 use lib.ListN.{replicate}
 use Rattle.table.specs.Meaning.{bytesFor}
+use Rattle.table.proofs.SizeLaws.{size-is}
 use Rattle.table.proofs.ChangeLaws.{due-gone, undue-stays}
 use Rattle.table.proofs.changes.last.Statement.{statement}
 use Rattle.table.proofs.changes.last.Tie as tie
@@ -17,7 +18,7 @@ returns c =
     let start : tie.Start = search in
     let due = sym (asked .is-due .ensures) ∙ tested .if1 .taken in
     rw (due-gone (start .args .clock) (start .args .e) (start .args .p .now) due)
-    (record { entry = free .free-entry .ensures; bytes = wiped .wipe .ensures ∙ ap (λ n. replicate n 0) (start .pre .whole) })
+    (record { entry = free .free-entry .ensures; bytes = wiped .wipe .ensures ∙ ap (λ n. replicate n 0) (start .pre .whole ∙ size-is (start .args .e)) })
 
 returns-2 : tie.Need-returns-2
 returns-2 c =

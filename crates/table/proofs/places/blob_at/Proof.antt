@@ -5,7 +5,7 @@ use mathlib.Core.Path.{_≡_, sym, ap, _∙_}
 use lib.ListN.{length, getD}
 use lib.Seq.{length-take-le}
 use Rattle.table.specs.Meaning.{size, noEntry}
-use Rattle.table.proofs.SizeLaws.{in-store}
+use Rattle.table.proofs.SizeLaws.{blob-room, in-store}
 use Rattle.table.proofs.ReadLaws.{state-blob, state-blob-fits}
 use Rattle.table.proofs.places.blob_at.Statement.{statement}
 use Rattle.table.proofs.places.blob_at.Tie as tie
@@ -20,7 +20,7 @@ front c =
     let whole : length (p .bytes-at .result .now) ≡ size (getD es (a .i) noEntry)
     = ap length (p .bytes-at .ensures es (S .eight-entries) .bytes) ∙ in-store es (a .store .now) (S .eight-entries) (S .store-size) (a .i) (start .pre .0) .whole in
     let fits = state-blob-fits (a .state) (a .store .now) (start .pre .1) (a .i) (start .pre .0) in
-    sym (length-take-le _ (p .bytes-at .result .now) (omega arith))
+    sym (length-take-le _ (p .bytes-at .result .now) (omega (arith, blob-room (getD es (a .i) noEntry))))
 
 returns : tie.Need-returns
 returns c =

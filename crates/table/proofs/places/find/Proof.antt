@@ -7,7 +7,7 @@ use lib.ListN.{length, drop, getD}
 use Rattle.rule.specs.Gateway.{seek, holds}
 use Rattle.table.specs.Meaning.{size, view, gatewayOf, noEntry}
 use Rattle.table.proofs.ReadLaws.{view-length, view-at, state-blob-fits}
-use Rattle.table.proofs.SizeLaws.{in-store}
+use Rattle.table.proofs.SizeLaws.{blob-room, in-store}
 use Rattle.table.proofs.SeekLaws.{seek-step, seek-stop, seek-end}
 use Rattle.table.proofs.places.find.Statement.{statement}
 use Rattle.table.proofs.places.find.Tie as tie
@@ -29,7 +29,7 @@ is-holding-requires c κs =
     let whole : length (c .bytes-at .result .now) ≡ size (getD es (loop .i) noEntry)
     = ap length (c .bytes-at .ensures es (S .eight-entries) .bytes) ∙ in-store es x (S .eight-entries) (S .store-size) (loop .i) (omega arith) .whole in
     let fits = state-blob-fits (start .args .state) x (start .pre) (loop .i) (omega arith) in
-    omega arith
+    omega (arith, blob-room (getD es (loop .i) noEntry))
 
 returns : tie.Need-returns Inv-loop μ-loop
 unfolding gatewayOf

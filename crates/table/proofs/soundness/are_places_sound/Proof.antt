@@ -26,14 +26,18 @@ is-place-sound-requires c κs =
 returns : tie.Need-returns Inv-loop μ-loop
 returns c =
     let turn : tie.At-loop Inv-loop μ-loop = search in
+    let start : tie.Start Inv-loop μ-loop = search in
     let l = turn .loop in
-    place-out _ _ _ _ (l .inv .1) (l .i) _ _ (omega arith) (c .before .before .bytes-at .ensures _ (l .inv .1) .bytes) (c .before .is-place-sound .ensures) (c .if1 .taken) (l .inv .2)
+    let es = start .args .t1 in
+    place-out _ _ _ _ (l .inv .1) (l .i) _ _ (omega arith) (c .before .before .bytes-at .ensures es (l .inv .1) .bytes) (c .before .is-place-sound .ensures) (c .if1 .taken) (l .inv .2)
 
 loop-again : tie.Need-loop-again Inv-loop μ-loop
 loop-again c =
     let turn : tie.At-loop Inv-loop μ-loop = search in
+    let start : tie.Start Inv-loop μ-loop = search in
     let l = turn .loop in
-    (omega arith, l .inv .1, place-on _ _ _ _ (l .inv .1) (l .i) _ _ (omega arith) (c .before .before .bytes-at .ensures _ (l .inv .1) .bytes) (c .before .is-place-sound .ensures) (c .if1 .left) (l .inv .2))
+    let es = start .args .t1 in
+    (omega arith, l .inv .1, place-on _ _ _ _ (l .inv .1) (l .i) _ _ (omega arith) (c .before .before .bytes-at .ensures es (l .inv .1) .bytes) (c .before .is-place-sound .ensures) (c .if1 .left) (l .inv .2))
 
 returns-2 : tie.Need-returns-2 Inv-loop μ-loop
 returns-2 c = let l = c .before .loop in places-end _ _ _ _ (l .inv .1) (l .i) (omega arith) (l .inv .2)

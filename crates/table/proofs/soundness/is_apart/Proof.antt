@@ -16,6 +16,12 @@ front-2 c =
     let start : tie.Start = search in
     sym (length-take-le _ _ (start .pre .1))
 
+returns-3 : tie.Need-returns-3
+returns-3 c =
+    let other : tie.Else2 = search in
+    let one : tie.Else1 = search in
+    apart-number _ _ _ _ (one .if1 .left) (other .if2 .left) (c .if3 .taken)
+
 returns-4 : tie.Need-returns-4
 returns-4 c =
     let number : tie.Else3 = search in
@@ -29,7 +35,7 @@ is-apart-spec =
     (tie.spec
     (λ c. apart-free _ _ _ _ (c .if1 .taken))
     (λ c. apart-other-free _ _ _ _ (c .before .before .if1 .left) (c .if2 .taken))
-    (λ c. apart-number _ _ _ _ (c .before .before .before .before .before .if1 .left) (c .before .before .before .if2 .left) (c .if3 .taken))
+    returns-3
     front
     front-2
     (λ c κs. search needs)

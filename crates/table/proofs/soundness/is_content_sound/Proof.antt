@@ -1,12 +1,13 @@
 -- The definition makes the same tests; the parts that are tested for zeros are the unused ones. Assumes nothing.
 use borrow.Author.Needs.{needs}
+use Rattle.table.specs.Meaning.{size}
 use Rattle.table.specs.Soundness.{soundContent}
 use Rattle.table.proofs.SoundnessLaws.{tests}
 use Rattle.table.proofs.soundness.is_content_sound.Statement.{statement}
 use Rattle.table.proofs.soundness.is_content_sound.Tie as tie
 
 pub is-content-sound-spec : {M : Type 1} → statement M
-unfolding soundContent
+unfolding soundContent size
 is-content-sound-spec =
     tie.close
     (tie.spec

@@ -18,9 +18,10 @@ is-apart-requires c κs =
     let turn : tie.At-loop Inv-loop μ-loop = search in
     let first : tie.After-bytes-at Inv-loop μ-loop = search in
     let start : tie.Start Inv-loop μ-loop = search in
+    let es = start .args .t1 in
     let h = start .pre in
     let l = turn .loop in
-    (blob-inside _ _ (h .1) _ _ (h .0) (first .bytes-at .ensures _ (h .1 .eight-entries) .bytes), blob-inside _ _ (h .1) (l .j) _ (omega arith) (c .bytes-at2 .ensures _ (h .1 .eight-entries) .bytes))
+    (blob-inside _ _ (h .1) _ _ (h .0) (first .bytes-at .ensures es (h .1 .eight-entries) .bytes), blob-inside _ _ (h .1) (l .j) _ (omega arith) (c .bytes-at2 .ensures es (h .1 .eight-entries) .bytes))
 
 returns : tie.Need-returns Inv-loop μ-loop
 returns c =
@@ -29,9 +30,10 @@ returns c =
     let turn : tie.At-loop Inv-loop μ-loop = search in
     let first : tie.After-bytes-at Inv-loop μ-loop = search in
     let start : tie.Start Inv-loop μ-loop = search in
+    let es = start .args .t1 in
     let h = start .pre in
     let l = turn .loop in
-    other-out _ _ (h .1) _ (l .j) _ _ _ (h .0) (omega arith) (first .bytes-at .ensures _ (h .1 .eight-entries) .bytes) (second .bytes-at2 .ensures _ (h .1 .eight-entries) .bytes) (asked .is-apart .ensures) (c .if1 .taken) (l .inv .1)
+    other-out _ _ (h .1) _ (l .j) _ _ _ (h .0) (omega arith) (first .bytes-at .ensures es (h .1 .eight-entries) .bytes) (second .bytes-at2 .ensures es (h .1 .eight-entries) .bytes) (asked .is-apart .ensures) (c .if1 .taken) (l .inv .1)
 
 loop-again : tie.Need-loop-again Inv-loop μ-loop
 loop-again c =
@@ -40,9 +42,10 @@ loop-again c =
     let turn : tie.At-loop Inv-loop μ-loop = search in
     let first : tie.After-bytes-at Inv-loop μ-loop = search in
     let start : tie.Start Inv-loop μ-loop = search in
+    let es = start .args .t1 in
     let h = start .pre in
     let l = turn .loop in
-    (omega arith, other-on _ _ (h .1) _ (l .j) _ _ _ (h .0) (omega arith) (first .bytes-at .ensures _ (h .1 .eight-entries) .bytes) (second .bytes-at2 .ensures _ (h .1 .eight-entries) .bytes) (asked .is-apart .ensures) (c .if1 .left) (l .inv .1))
+    (omega arith, other-on _ _ (h .1) _ (l .j) _ _ _ (h .0) (omega arith) (first .bytes-at .ensures es (h .1 .eight-entries) .bytes) (second .bytes-at2 .ensures es (h .1 .eight-entries) .bytes) (asked .is-apart .ensures) (c .if1 .left) (l .inv .1))
 
 returns-2 : tie.Need-returns-2 Inv-loop μ-loop
 returns-2 c =
