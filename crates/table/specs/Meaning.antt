@@ -98,7 +98,7 @@ noEntry = record {
 abbrev pub startOf : List Entry → ℕ → ℕ
 startOf es i = offset size es i
 
--- its key fields: "in the last 3,072"
+-- and its key fields "in the last 3,072"
 abbrev pub fieldsStart : List Entry → ℕ → ℕ
 fieldsStart es i = startOf es i + fieldsAt
 

@@ -28,7 +28,7 @@ pub fn start_of(i: usize) -> usize
     i * limits::PLACE_SIZE
 }
 
-// Where its key fields begin.
+// Where the key fields of place i begin.
 pub fn fields_start(i: usize) -> usize
     requires { ⌜ i < 8 ⌝ }
     ensures { λ r. ⌜ r ≡ i * placeSize + fieldsAt ⌝ }
