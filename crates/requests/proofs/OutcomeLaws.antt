@@ -31,10 +31,10 @@ wordFor kind value =
     (cond (eqb kind 4) (Sign (value 1) (value 2) (value 3) (hashIn (value 4)))
     (cond (eqb kind 5) (Reply (value 1)) Close)))))
 
-wordIn : List ℕ → Outcome
+pub wordIn : List ℕ → Outcome
 wordIn vs = wordFor (getD vs 0 0) (λ i. getD vs i 0)
 
-word-in : (o : Outcome) → wordIn (outcomeValues o) ≡ o
+pub word-in : (o : Outcome) → wordIn (outcomeValues o) ≡ o
 unfolding wordFor wordIn
 word-in (Refused n) = refl
 word-in (Gate class) = refl

@@ -46,11 +46,11 @@ use Rattle.server.proofs.RowSteps.{lent-given}
 -- ## The contract
 
 -- what a call gives, in 01's numbers
-abbrev gaveOf : Done → Gave
+abbrev pub gaveOf : Done → Gave
 gaveOf d = record { ended = outcomeValues (d .called .outcome); state = d .called .state; store = d .store; reply = d .reply }
 
 -- the contract as one equation
-call-gives : (state : State) (store : List ℕ) (k : Step) → ByCall state store k
+pub call-gives : (state : State) (store : List ℕ) (k : Step) → ByCall state store k
     → k .gave ≡ gaveOf (callOf state store (k .payload) (k .reading) (k .answers) (k .signature) (k .buffer))
 call-gives state store k m =
     let values = m .ended-is ∙ ap outcomeValues (m .meets .outcome-is) in
@@ -77,7 +77,7 @@ refusedDone state store buffer n = record { called = record { outcome = Refused 
 abbrev servedHere : State → List ℕ → Step → Result
 servedHere state store k = served (advance (k .reading) (gatewayOf state store)) (record { payload = k .payload }) (lentOf (k .answers) (k .signature))
 
-abbrev refusalAt : State → List ℕ → Step → Option ℕ
+abbrev pub refusalAt : State → List ℕ → Step → Option ℕ
 refusalAt state store k = refusalHere state store (k .payload) (k .reading) (k .answers) (k .signature) (k .buffer)
 
 abbrev byRefusal : State → List ℕ → Step → Option ℕ → Result → Done
@@ -97,6 +97,14 @@ code-refusal-leaves state store k n m e = by (refusalAt state store k) (step-is 
       store-stays = ap (λ (x : Gave). x .store) is;
       buffer-stays = ap (λ (x : Gave). x .reply) is;
     }
+
+-- the number that it ended with is that of the first refusal that applies
+pub refused-first : (state : State) (store : List ℕ) (k : Step) (n : ℕ) → ByCall state store k → EndedWith (0 ∷ n ∷ []) k → refusalAt state store k ≡ some n
+refused-first state store k n m e = by (refusalAt state store k) (step-is state store k m)
+  where
+    by : (o : Option ℕ) → k .gave ≡ gaveOf (byRefusal state store k o (servedHere state store k)) → o ≡ some n
+    by none is = absurd (served-not-refused (k .buffer) (k .gave) _ _ _ n is e)
+    by (some number) is = ap (λ (vs : List ℕ). some (getD vs 1 0)) (sym (ap (λ (x : Gave). x .ended) is) ∙ e)
 
 -- ## As the rule's call
 

@@ -1,2 +1,4 @@
-// The server: one call of the gateway. `call::call` is the one function that other crates see, and it requires nothing.
+// The server: one call of the gateway. `call::call`, and `first::first_call` for the first call of a request, are the functions that other crates see,
+// and they require nothing.
 pub mod call;
+pub mod first;

@@ -181,6 +181,14 @@ pub record SplitSays (s : List ℕ) : Type 0 where
 abbrev pub SplitTable : Type 0
 SplitTable = (s : List ℕ) → SplitSays s
 
+-- a part of a whole frame's payload, and where it lies in the bytes: four further on
+pub record LiesIn (s : List ℕ) (from to : ℕ) : Type 0 where
+  pub bytes : cutOf (framePayload s) from to ≡ cutOf s (4 + from) (4 + to)
+  pub within : 4 + to ≤ length s
+
+abbrev pub FrameParts : Type 0
+FrameParts = (s : List ℕ) (from to : ℕ) → splitNumber (splitOf s) ≡ 2 → from ≤ to → to ≤ length (framePayload s) → LiesIn s from to
+
 -- ## Refusals
 
 -- the number and the place of a refusal tell it from every other, and a writer's values its answer

@@ -1,0 +1,63 @@
+-- A first call that made a call is that call, and one that made none left state and store; so a run with first calls is a run of calls, and what is
+-- promised of runs of calls holds of it. Assumed: first calls that meet the contract of `first_call`, and others that meet that of `call`.
+use Prim.Native.Nat.{ℕ}
+use mathlib.Core.Path.{_≡_, refl, sym, ap, _∙_, subst}
+use mathlib.Core.Logic.{inl, inr}
+use mathlib.Core.Bool.{Bool, true, false}
+use mathlib.Core.List.{List, [], _∷_}
+use lib.Dec.{ltb}
+use lib.ListN.{getD}
+use Rattle.wire.proofs.Cases.{cond-cases, true-not-false}
+use Rattle.table.specs.declared.State.{State}
+use Rattle.server.specs.Runs.{Gave, Step, ByCall, CodeRun, endState, endStore, CodePromises}
+use Rattle.server.specs.FirstPromises.{FirstStep, ByFirst, Whole, Untouched, AnyCall, first, later, stepIn, isMade, stepsIn, lastState, lastStore}
+use Rattle.server.specs.FirstPromises.{AnyRun, MadeFirst, ByEither, IsARunOfCalls, FirstRuns, FirstPromises}
+use Rattle.server.proofs.Lift.{code-promises}
+use Rattle.server.proofs.FirstLaws.{by-made, no-second-first, first-is-two-steps, first-refusals, first-refused, first-uses, first-uses-frame, first-asks}
+
+module _ (Met : State → List ℕ → FirstStep → Type 0) (by-first : (state : State) (store : List ℕ) (f : FirstStep) → Met state store f → ByFirst state store f)
+    (MetLater : State → List ℕ → Step → Type 0) (by-call : (state : State) (store : List ℕ) (k : Step) → MetLater state store k → ByCall state store k) where
+  either-by-call : (state : State) (store : List ℕ) (k : Step) → ByEither Met MetLater state store k → ByCall state store k
+  either-by-call state store k (inl m) = rw (m .step-is) (by-made state store (m .first) (by-first state store (m .first) (m .met)) .step (m .made))
+  either-by-call state store k (inr m) = by-call state store k m
+
+  runs : FirstRuns Met MetLater
+  unfolding stepsIn lastState lastStore endState endStore
+  runs state store [] run = record { run = tt; end-state = refl; end-store = refl }
+  runs state store (later k ∷ cs) run =
+      let rest = runs (k .gave .state) (k .gave .store) cs (run .1) in
+      record { run = (inr (run .0), rest .run); end-state = rest .end-state; end-store = rest .end-store }
+  runs state store (first f ∷ cs) run =
+      by-test (isMade f) refl (runs (f .gave .state) (f .gave .store) cs (run .1)) (λ stays. runs state store cs (rw (stays .state-stays, stays .store-stays) at (run .1)))
+    where
+      by-test : (b : Bool) → isMade f ≡ b → IsARunOfCalls Met MetLater (f .gave .state) (f .gave .store) cs → (Untouched state store f → IsARunOfCalls Met MetLater state store cs)
+          → IsARunOfCalls Met MetLater state store (first f ∷ cs)
+      by-test true made rest _ = record {
+        run = rw made (inl (record { first = f; met = run .0; made = made; step-is = refl }), rest .run);
+        end-state = rw made (rest .end-state);
+        end-store = rw made (rest .end-store);
+      }
+      by-test false unmade _ from-here =
+          let stays = by-made state store f (by-first state store f (run .0)) .stays unmade in
+          let rest = from-here stays in
+          record {
+            run = rw unmade (rest .run);
+            end-state = rw (unmade, stays .state-stays) (rest .end-state);
+            end-store = rw (unmade, stays .store-stays) (rest .end-store);
+          }
+
+  pub first-promises : FirstPromises Met MetLater
+  first-promises = record {
+    no-second-answer = λ state store f other m n. no-second-first state store f other (by-first _ _ _ m) (by-first _ _ _ n);
+    two-steps = λ state store f m. first-is-two-steps state store f (by-first _ _ _ m);
+    refusals = λ state store f eight long m. first-refusals state store f eight long (by-first _ _ _ m);
+    refused = λ state store f n m. first-refused state store f n (by-first _ _ _ m);
+    uses = λ state store f used ended m. first-uses state store f used ended (by-first _ _ _ m);
+    uses-frame = λ state store f payload rest used ended m. first-uses-frame state store f payload rest used ended (by-first _ _ _ m);
+    asks = λ state store f S m. first-asks state store f S (by-first _ _ _ m);
+    runs = runs;
+    as-calls = code-promises (ByEither Met MetLater) either-by-call;
+  }
+
+pub call-first-promises : FirstPromises ByFirst ByCall
+call-first-promises = first-promises ByFirst (λ state store f m. m) ByCall (λ state store k m. m)
