@@ -20,10 +20,14 @@ use Rattle.requests.specs.declared.Outcome.{Outcome}
 use Rattle.requests.specs.declared.Outcome.the-variants.{Refused, Gate, Check, Confirm, Sign, Reply, Close}
 use Rattle.requests.specs.Outcomes.{hashBits}
 use Rattle.requests.specs.Ends.{Done}
+use Rattle.server.specs.declared.first.First.{First}
+use Rattle.server.specs.declared.first.First.the-variants as first
 use Rattle.server.specs.Calls.{callOf}
+use Rattle.server.specs.First.{FirstDone, firstOf}
 use Rattle.gateway.specs.declared.flat.FlatAnswers.{FlatAnswers}
 use Rattle.gateway.specs.declared.flat.FlatOutcome.{FlatOutcome}
 use Rattle.gateway.specs.declared.flat.FlatSplit.{FlatSplit}
+use Rattle.gateway.specs.declared.flat.FlatFirst.{FlatFirst}
 
 -- ## Answers: 1 is no, 2 is yes, any other number is no answer
 
@@ -87,3 +91,26 @@ splitAs (Frame from to) = record { kind = 2; from = from; to = to }
 
 unfoldable pub flatSplit : List ℕ → FlatSplit
 flatSplit s = splitAs (splitOf s)
+
+-- ## The first call: 0 more needed, 1 too long, 2 refused, 3 begun; the bytes used and the outcome
+
+-- nothing has begun: no bytes are used, and the outcome is all 0 but for the number of a refusal
+abbrev pub unbegunFirst : ℕ → ℕ → FlatFirst
+unbegunFirst kind number = record { kind = kind; used = 0; outcome = numbered 0 number }
+
+unfoldable pub flatFirst : First → FlatFirst
+flatFirst first.MoreNeeded = unbegunFirst 0 0
+flatFirst first.TooLong = unbegunFirst 1 0
+flatFirst (first.Refused n) = unbegunFirst 2 n
+flatFirst (first.Began used o) = record { kind = 3; used = used; outcome = flatOf o }
+
+module _ (state : State) (store bytes : List ℕ) (reading : Millis) (buffer : List ℕ) where
+  abbrev firstDone : FirstDone
+  firstDone = firstOf state store bytes reading buffer
+
+  -- what it gave is what `firstOf` gives, flat
+  pub record FlatFirstMeets (first : FlatFirst) (after : State) (storeAfter reply : List ℕ) : Type 0 where
+    pub first-is : first ≡ flatFirst (firstDone .first)
+    pub state-is : after ≡ firstDone .state
+    pub store-is : storeAfter ≡ firstDone .store
+    pub reply-is : reply ≡ firstDone .reply

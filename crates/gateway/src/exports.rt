@@ -1,11 +1,14 @@
 // What C and Rust link. include/key_agent.h says what the other side must keep.
 use crate::flat::FlatAnswers;
+use crate::flat::FlatFirst;
 use crate::flat::FlatOutcome;
 use crate::flat::FlatSplit;
 use crate::flat::answers_of;
+use crate::flat::first_of;
 use crate::flat::flat_of;
 use crate::flat::split;
 use crate::lent::serve;
+use crate::lent::serve_first;
 use lookups::HeldKey;
 use lookups::held::key_of;
 use lookups::order::next_of;
@@ -18,7 +21,7 @@ ghost use Rattle.rule.specs.Gateway.{fresh as freshGateway};
 ghost use Rattle.table.specs.Meaning.{stateOf};
 ghost use Rattle.table.specs.Soundness.{soundState};
 ghost use Rattle.lookups.specs.Told.{keyTold, nextTold};
-ghost use Rattle.gateway.specs.Flat.{FlatMeets, flatSplit};
+ghost use Rattle.gateway.specs.Flat.{FlatMeets, FlatFirstMeets, flatSplit};
 
 #[no_mangle]
 pub extern "C" fn key_agent_fresh() -> State
@@ -50,6 +53,21 @@ pub extern "C" fn key_agent_call(
     let lent = answers_of(answers);
     let outcome = serve(state, store, payload, reading, lent, signature, reply);
     flat_of(outcome)
+}
+
+// The first call of a request, from the connection's bytes: no payload is handed in, so no length can stand in front of it.
+#[no_mangle]
+pub extern "C" fn key_agent_first(
+    state: &mut State,
+    store: &mut [u8],
+    bytes: &[u8],
+    reading: Millis,
+    reply: &mut [u8],
+) -> FlatFirst
+    ensures { λ r. ⌜ FlatFirstMeets (now (state .entry)) (now (store .entry)) (now (bytes .entry)) reading (now (reply .entry)) r (now (state .exit)) (now (store .exit)) (now (reply .exit)) ⌝ }
+{
+    let first = serve_first(state, store, bytes, reading, reply);
+    first_of(first)
 }
 
 #[no_mangle]

@@ -1,15 +1,17 @@
-// What crosses to C and Rust in place of the enums, as 01's numbers and values: answers on the way in, an outcome or a split on the way out.
+// What crosses to C and Rust in place of the enums, as 01's numbers and values: answers on the way in, an outcome, a split or what a first call came to
+// on the way out.
 use requests::Answers;
 use requests::Confirmed;
 use requests::Outcome;
 use requests::Said;
 use requests::Signed;
 use rule::Hash;
+use server::first::First;
 use wire::frame::Split;
 use wire::frame::read_frame;
 ghost use mathlib.Core.Path.{_≡_};
 ghost use Rattle.requests.specs.Outcomes.{hashBits};
-ghost use Rattle.gateway.specs.Flat.{saidOf, confirmedOf, signedOf, answersOf, flatOf, flatSplit};
+ghost use Rattle.gateway.specs.Flat.{saidOf, confirmedOf, signedOf, answersOf, flatOf, flatSplit, unbegunFirst, flatFirst};
 
 // Each answer is 1 no (of the signature: nothing given), 2 yes (of the signature: given, its bytes beside it); any other number is no answer.
 // The numbers are the insertion numbers that confirmation and signature count for.
@@ -39,6 +41,14 @@ pub struct FlatSplit {
     pub kind: u8,
     pub from: usize,
     pub to: usize,
+}
+
+// 0 more needed; 1 too long; 2 refused, as the outcome says; 3 begun, the bytes used, and the outcome. A field without meaning is 0.
+#[repr(C)]
+pub struct FlatFirst {
+    pub kind: u8,
+    pub used: usize,
+    pub outcome: FlatOutcome,
 }
 
 fn said_of(word: u8) -> Said
@@ -162,5 +172,30 @@ pub(crate) fn split(bytes: &[u8]) -> FlatSplit
             to: 0,
         },
         Split::Frame { from, to } => FlatSplit { kind: 2, from, to },
+    }
+}
+
+fn unbegun(kind: u8, number: u64) -> FlatFirst
+    ensures { λ r. ⌜ r ≡ unbegunFirst kind number ⌝ }
+{
+    FlatFirst {
+        kind,
+        used: 0,
+        outcome: numbered(0, number),
+    }
+}
+
+pub(crate) fn first_of(first: First) -> FlatFirst
+    ensures { λ r. ⌜ r ≡ flatFirst first ⌝ }
+{
+    match first {
+        First::MoreNeeded => unbegun(0, 0),
+        First::TooLong => unbegun(1, 0),
+        First::Refused { number } => unbegun(2, number as u64),
+        First::Began { used, outcome } => FlatFirst {
+            kind: 3,
+            used,
+            outcome: flat_of(outcome),
+        },
     }
 }
