@@ -24,7 +24,7 @@ use Rattle.gateway.proofs.FlatLaws.{same-values}
 
 -- ## Runs
 
-export-calls : (state : State) (store : List ℕ) (k : Step) → ByExport state store k → ByCall state store k
+pub export-calls : (state : State) (store : List ℕ) (k : Step) → ByExport state store k → ByCall state store k
 export-calls state store k x =
     let o = callOf state store (k .payload) (k .reading) (answersOf (x .answers)) (k .signature) (k .buffer) .called .outcome in
     record {

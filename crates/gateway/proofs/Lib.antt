@@ -4,3 +4,4 @@ pub mod FlatLaws
 pub mod WithinLaws
 pub mod ExportLaws
 pub mod AskedLaws
+pub mod FirstLaws

@@ -211,7 +211,7 @@ coded payload buffer (asks (signature n from to hash)) f g = record {
 coded payload buffer (lands (reply bytes)) f g = record { ordered = omega arith; of-payload = λ other. absurd (other refl); of-reply = λ _. g bytes refl }
 coded payload buffer (lands close) f g = record { ordered = omega arith; of-payload = λ _. omega arith; of-reply = λ _. omega arith }
 
-call-names-within : (state : State) (store payload : List ℕ) (reading : Millis) (answers : Answers) (bytes buffer : List ℕ)
+pub call-names-within : (state : State) (store payload : List ℕ) (reading : Millis) (answers : Answers) (bytes buffer : List ℕ)
     → length (state .entries) ≡ 8 → length (state .lock .bytes) ≡ passphraseLimit
     → NamesWithin payload buffer (flatOf (callOf state store payload reading answers bytes buffer .called .outcome))
 unfolding callOf served flatOf

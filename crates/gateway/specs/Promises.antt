@@ -1,5 +1,5 @@
--- What the flat values and the exported call promise, as statements; the proofs are in proofs/FlatLaws.antt, WithinLaws.antt, ExportLaws.antt and
--- AskedLaws.antt.
+-- What the flat values and the exported calls promise, as statements; the proofs are in proofs/FlatLaws.antt, WithinLaws.antt, ExportLaws.antt,
+-- AskedLaws.antt and FirstLaws.antt.
 use Prim.Native.Nat.{ℕ, _+_, _≤_}
 use mathlib.Core.Path.{_≡_}
 use mathlib.Core.Logic.{_⊎_, _≢_}
@@ -27,10 +27,14 @@ use Rattle.requests.specs.declared.Signed.the-variants as signed
 use Rattle.requests.specs.declared.Answers.{Answers}
 use Rattle.requests.specs.declared.Outcome.{Outcome}
 use Rattle.requests.specs.Outcomes.{outcomeValues}
+use Rattle.server.specs.declared.first.First.{First}
+use Rattle.server.specs.First.{firstValues}
 use Rattle.server.specs.Runs.{Step, CodePromises}
+use Rattle.server.specs.FirstPromises.{FirstStep, FirstPromises}
 use Rattle.gateway.specs.declared.flat.FlatAnswers.{FlatAnswers}
 use Rattle.gateway.specs.declared.flat.FlatOutcome.{FlatOutcome}
-use Rattle.gateway.specs.Flat.{saidOf, confirmedOf, signedOf, answersOf, flatOf, FlatMeets, flatSplit}
+use Rattle.gateway.specs.declared.flat.FlatFirst.{FlatFirst}
+use Rattle.gateway.specs.Flat.{saidOf, confirmedOf, signedOf, answersOf, numbered, flatOf, FlatMeets, flatSplit, flatFirst, FlatFirstMeets}
 
 -- ## Answers
 
@@ -185,3 +189,52 @@ pub record SplitsAs (s : List ℕ) : Type 0 where
 
 abbrev pub SplitRule : Type 0
 SplitRule = (s : List ℕ) → SplitsAs s
+
+-- ## The first call
+
+-- its number and values, read from the fields that its kind uses
+abbrev pub flatFirstValues : FlatFirst → List ℕ
+flatFirstValues x =
+    cond (eqb (x .kind) 3) (x .kind ∷ x .used ∷ flatValues (x .outcome))
+    (cond (eqb (x .kind) 2) (x .kind ∷ x .outcome .number ∷ []) (x .kind ∷ []))
+
+abbrev pub SameFirstValues : Type 0
+SameFirstValues = (x : First) → flatFirstValues (flatFirst x) ≡ firstValues x
+
+abbrev pub FlatFirstApart : Type 0
+FlatFirstApart = OneToOne First FlatFirst flatFirst
+
+-- a field without meaning is 0; a refusal's outcome is the one that the call would tell
+pub record FirstUnusedZero (x : FlatFirst) : Type 0 where
+  pub used : x .kind ≢ 3 → x .used ≡ 0
+  pub outcome : x .kind ≤ 1 → x .outcome ≡ numbered 0 0
+  pub refused : x .kind ≡ 2 → x .outcome ≡ numbered 0 (x .outcome .number)
+  pub begun : x .kind ≡ 3 → UnusedZero (x .outcome)
+
+abbrev pub FlatFirstUnused : Type 0
+FlatFirstUnused = (x : First) → FirstUnusedZero (flatFirst x)
+
+-- a first step gave what meets the contract of `key_agent_first`
+pub record ByFirstExport (state : State) (store : List ℕ) (f : FirstStep) : Type 0 where
+  pub first : FlatFirst
+  pub ended-is : f .gave .ended ≡ flatFirstValues first
+  pub meets : FlatFirstMeets state store (f .bytes) (f .reading) (f .buffer) first (f .gave .state) (f .gave .store) (f .gave .reply)
+
+-- all that is promised of `first_call`, and runs of it and of the exported call
+abbrev pub FirstExportPromises : Type 0
+FirstExportPromises = FirstPromises ByFirstExport ByExport
+
+-- the outcome's parts are places in the payload, as at later calls; and where such a part lies in the connection's bytes: four further on, before
+-- what is used ends
+pub record FirstNames (bytes buffer : List ℕ) (x : FlatFirst) : Type 0 where
+  pub names : NamesWithin (framePayload bytes) buffer (x .outcome)
+  pub used-within : x .used ≤ length bytes
+  pub part-lies : x .kind ≡ 3 → x .outcome .kind ≢ 5
+      → cutOf (framePayload bytes) (x .outcome .from) (x .outcome .to) ≡ cutOf bytes (4 + x .outcome .from) (4 + x .outcome .to)
+  pub before-end : x .kind ≡ 3 → x .outcome .kind ≢ 5 → 4 + x .outcome .to ≤ x .used
+
+abbrev pub FirstNamesWithin : Type 0
+FirstNamesWithin =
+    (state : State) (store bytes : List ℕ) (reading : Millis) (buffer : List ℕ) (x : FlatFirst) (after : State) (storeAfter reply : List ℕ)
+    → length (state .entries) ≡ 8 → length (state .lock .bytes) ≡ passphraseLimit
+    → FlatFirstMeets state store bytes reading buffer x after storeAfter reply → FirstNames bytes buffer x
