@@ -1,14 +1,14 @@
 /* The key agent for C: what the archive of the crate gateway exports. rust/archive makes it, for x86-64 Linux and
  * aarch64 Linux.
  *
- * The agent decides and keeps; sockets, clock, panel, key check and signer stay on this side. Each call is handed the request's payload and
- * the answers so far, and hands back a question, a reply, or a close. What it promises is proved of the code in the archive; it holds while
+ * The agent decides and keeps; sockets, clock, panel, key check and signer stay on this side. The first call of a request is handed the bytes
+ * of its connection, each later one the payload and the answers so far; it hands back a question, a reply, or a close. What it promises is proved of the code in the archive; it holds while
  * this side keeps what is said below, which nothing tests:
  *
  *   - no pointer is null, also where the length beside it is 0;
  *   - a pointer to bytes has as many bytes behind it as the length says, and no length is above PTRDIFF_MAX;
- *   - store, reply and state are written: they overlap neither each other nor payload, signature or the result, and nobody else reads or
- *     writes them while a call runs. So: one call at a time on one state. Payload and signature are only read, and may overlap;
+ *   - store, reply and state are written: they overlap neither each other nor payload, bytes, signature or the result, and nobody else reads
+ *     or writes them while a call runs. So: one call at a time on one state. Payload, bytes and signature are only read, and may overlap;
  *   - state and store belong together: keep, copy and restore them as a pair;
  *   - the stack has room: a call takes up to 29 KB of it (measured on x86-64), a state by value 3.5 KB more.
  *
@@ -118,6 +118,25 @@ typedef struct {
     size_t to;
 } key_agent_outcome;
 
+/* ---- First call ---- */
+
+/* Each kind, and the fields that it uses; the others are 0, those of the outcome too. */
+enum {
+    KEY_AGENT_FIRST_MORE_NEEDED = 0,  /* no whole frame yet. Nothing was altered, the clock neither */
+    KEY_AGENT_FIRST_TOO_LONG = 1,     /* a frame that is never to be read: close the connection. Nothing was altered, the clock neither */
+    KEY_AGENT_FIRST_REFUSED = 2,      /* outcome.number: 1 reply buffer too short; 2 store of another length; 3 state not sound; no other. A frame
+                                         is whole, no byte of it is used, and nothing was altered, the clock neither */
+    KEY_AGENT_FIRST_BEGUN = 3         /* used, outcome: a request has begun */
+};
+
+/* The request's frame is bytes[0 .. used), its payload bytes[4 .. used), and the next frame begins at bytes[used]. The outcome's part, as at every
+ * call, is a part of the payload: payload[from .. to) is bytes[4 + from .. 4 + to), and 4 + to <= used <= bytes_len. */
+typedef struct {
+    uint8_t kind;
+    size_t used;
+    key_agent_outcome outcome;
+} key_agent_first_result;
+
 /* ---- Split ---- */
 
 enum {
@@ -157,6 +176,22 @@ key_agent_state key_agent_fresh(void);
 
 /* Are state and store sound together, as refusal 3 tests at each call? For a host that restores them; makes no call and alters nothing. */
 bool key_agent_is_sound(key_agent_state state, const uint8_t *store, size_t store_len);
+
+/* The first call for a request, from its connection's bytes: what key_agent_split says of them, and where they hold a whole frame what
+ * key_agent_call gives on its payload, with nothing answered; in one, so that the length in front of the payload is not handed along with it.
+ *
+ *   bytes          what the connection has sent and no request has used. Only the first frame counts; more may stand behind it.
+ *   state, store, reading, reply   as in key_agent_call, and read only where a frame is whole.
+ *
+ * The outcome is KEY_AGENT_ASK_GATE, or KEY_AGENT_REPLY with a failure of five bytes. Later calls of the request are key_agent_call's, with the
+ * payload bytes[4 .. used): keep the bytes until it ends, and let go of `used` of them then.
+ */
+key_agent_first_result key_agent_first(
+    key_agent_state *state,
+    uint8_t *store, size_t store_len,
+    const uint8_t *bytes, size_t bytes_len,
+    key_agent_millis reading,
+    uint8_t *reply, size_t reply_len);
 
 /* One call for a request.
  *
@@ -207,6 +242,7 @@ _Static_assert(sizeof(key_agent_state) == 3544 && offsetof(key_agent_state, lock
 _Static_assert(sizeof(key_agent_answers) == 24 && offsetof(key_agent_answers, confirmation_number) == 8, "layout of answers");
 _Static_assert(sizeof(key_agent_outcome) == 32 && offsetof(key_agent_outcome, hash) == 2 && offsetof(key_agent_outcome, number) == 8, "layout of an outcome");
 _Static_assert(sizeof(key_agent_split_result) == 24 && offsetof(key_agent_split_result, from) == 8, "layout of a split");
+_Static_assert(sizeof(key_agent_first_result) == 48 && offsetof(key_agent_first_result, used) == 8 && offsetof(key_agent_first_result, outcome) == 16, "layout of a first result");
 _Static_assert(sizeof(key_agent_held_key) == 320 && offsetof(key_agent_held_key, confirm) == 8 && offsetof(key_agent_held_key, limited) == 9 && offsetof(key_agent_held_key, left) == 16, "layout of a held key");
 _Static_assert(offsetof(key_agent_held_key, blob_from) == 24 && offsetof(key_agent_held_key, fields_from) == 40 && offsetof(key_agent_held_key, comment) == 56, "layout of a held key's parts");
 #endif

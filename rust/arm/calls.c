@@ -1,4 +1,4 @@
-/* The gateway's six calls for Arm. The module was made for x86-64's rules of structs that go or come by value, and Arm's are others: `archive`
+/* The gateway's seven functions for Arm. The module was made for x86-64's rules of structs that go or come by value, and Arm's are others: `archive`
  * gives its functions other names and a pointer for every struct, the result's in front. What stands between the two rules is written by the C
  * compiler, from the header. */
 #include "key_agent.h"
@@ -13,6 +13,13 @@ key_agent_outcome *plain_key_agent_call(
     const key_agent_millis *reading,
     const key_agent_answers *answers,
     const uint8_t *signature, size_t signature_len,
+    uint8_t *reply, size_t reply_len);
+key_agent_first_result *plain_key_agent_first(
+    key_agent_first_result *result,
+    key_agent_state *state,
+    uint8_t *store, size_t store_len,
+    const uint8_t *bytes, size_t bytes_len,
+    const key_agent_millis *reading,
     uint8_t *reply, size_t reply_len);
 key_agent_split_result *plain_key_agent_split(key_agent_split_result *result, const uint8_t *bytes, size_t bytes_len);
 key_agent_held_key *plain_key_agent_key(key_agent_held_key *result, const key_agent_state *state, const uint8_t *store, size_t store_len, uint64_t number);
@@ -41,6 +48,18 @@ key_agent_outcome key_agent_call(
 {
     key_agent_outcome result;
     plain_key_agent_call(&result, state, store, store_len, payload, payload_len, &reading, &answers, signature, signature_len, reply, reply_len);
+    return result;
+}
+
+key_agent_first_result key_agent_first(
+    key_agent_state *state,
+    uint8_t *store, size_t store_len,
+    const uint8_t *bytes, size_t bytes_len,
+    key_agent_millis reading,
+    uint8_t *reply, size_t reply_len)
+{
+    key_agent_first_result result;
+    plain_key_agent_first(&result, state, store, store_len, bytes, bytes_len, &reading, reply, reply_len);
     return result;
 }
 

@@ -5,7 +5,7 @@
 //!     cargo run --example gateway             plays two crossing requests on a socket of its own, and ends
 //!
 //! The signer here is a stand-in: it writes the key's type and the data. A true one takes the key fields and signs.
-use key_agent::{split, Answers, Class, Gateway, Hash, Key, Numbered, Outcome, Question, Reply, Split};
+use key_agent::{split, Answers, Class, First, Gateway, Hash, Numbered, Outcome, Payload, Question, Reply, Split};
 use std::fs::{self, DirBuilder, Permissions};
 use std::io::{self, Read, Write};
 use std::os::unix::fs::{DirBuilderExt, PermissionsExt};
@@ -40,7 +40,7 @@ struct Shared {
 fn serve<A: Agent>(listener: UnixListener, agent: A) -> io::Result<()> {
     let shared = Arc::new(Shared { gateway: Mutex::new(Gateway::new()), start: Instant::now() });
     for stream in listener.incoming() {
-        let c = Connection { shared: shared.clone(), agent: agent.clone(), s: stream?, buf: Vec::new(), at: 0 };
+        let c = Connection { shared: shared.clone(), agent: agent.clone(), s: stream?, buf: Vec::new() };
         std::thread::spawn(move || c.run());
     }
     Ok(())
@@ -50,88 +50,96 @@ struct Connection<A: Agent> {
     shared: Arc<Shared>,
     agent: A,
     s: UnixStream,
+    /// What has come and no request has used.
     buf: Vec<u8>,
-    /// The bytes of `buf` that are done.
-    at: usize,
 }
 
 impl<A: Agent> Connection<A> {
     fn run(mut self) -> io::Result<()> {
         let mut reply = Reply::new();
-        while let Some(payload) = self.read_frame()? {
-            if !self.respond(&self.buf[payload], &mut reply) {
+        while let Some((used, first)) = self.read_frame(&mut reply)? {
+            if !self.respond(first, &mut reply) {
                 break;
             }
             self.s.write_all(reply.bytes())?;
+            self.buf.drain(..used);
         }
         Ok(())
     }
 
-    /// The next payload, as a part of `buf`; none at the end of the connection, or if a frame is too long.
-    fn read_frame(&mut self) -> io::Result<Option<std::ops::Range<usize>>> {
-        self.buf.drain(..self.at);
-        self.at = 0;
+    fn reading(&self) -> u64 {
+        self.shared.start.elapsed().as_millis() as u64
+    }
+
+    /// Reads until a request has begun: the bytes that it takes, and what its first call came to; none at the end of the connection, or if a frame
+    /// is too long.
+    fn read_frame(&mut self, reply: &mut Reply) -> io::Result<Option<(usize, Outcome)>> {
         loop {
-            match split(&self.buf) {
-                Split::Frame(payload) => {
-                    self.at = payload.end;
-                    return Ok(Some(payload));
-                }
-                Split::TooLong => return Ok(None),
-                Split::MoreNeeded => {
-                    let mut chunk = [0; 4096];
-                    match self.s.read(&mut chunk)? {
-                        0 => return Ok(None),
-                        n => self.buf.extend_from_slice(&chunk[..n]),
-                    }
-                }
+            match self.shared.gateway.lock().unwrap().first(&self.buf, self.reading(), reply) {
+                First::Began { used, outcome, .. } => return Ok(Some((used, outcome))),
+                First::TooLong => return Ok(None),
+                First::MoreNeeded => {}
+            }
+            let mut chunk = [0; 4096];
+            match self.s.read(&mut chunk)? {
+                0 => return Ok(None),
+                n => self.buf.extend_from_slice(&chunk[..n]),
             }
         }
     }
 
+    /// The payload of the request that has begun.
+    fn payload(&self) -> Payload<'_> {
+        match split(&self.buf) {
+            Split::Frame { payload, .. } => payload,
+            Split::MoreNeeded | Split::TooLong => unreachable!("a request's frame is whole"),
+        }
+    }
+
     /// Calls until the request lands: true with a reply, false to close.
-    fn respond(&self, payload: &[u8], reply: &mut Reply) -> bool {
+    fn respond(&self, first: Outcome, reply: &mut Reply) -> bool {
+        let payload = self.payload();
+        let mut outcome = first;
         let (mut gate, mut check, mut confirmation) = (None, None, None);
         let mut signature: Option<(u64, Option<Vec<u8>>)> = None;
+        let mut about = Vec::new();
         loop {
+            match outcome {
+                Outcome::Reply => return true,
+                Outcome::Close => return false,
+                // `sign` gives no longer signature
+                Outcome::Refused(why) => panic!("{why}"),
+                Outcome::Asks(Question::Gate(class)) => gate = Some(self.agent.confirm_request(class)),
+                Outcome::Asks(Question::Check(fields)) => check = Some(self.agent.check(&payload[fields])),
+                Outcome::Asks(Question::Confirmation { number }) => {
+                    confirmation = Some(Numbered { number, answer: self.agent.confirm(&about) });
+                }
+                Outcome::Asks(Question::Signature { number, data, hash }) => {
+                    let s = self.agent.sign(&about, &payload[data], hash).filter(|s| s.len() <= key_agent::MAX_SIGNATURE);
+                    signature = Some((number, s));
+                }
+            }
             let answers = Answers {
                 gate,
                 check,
                 confirmation,
                 signature: signature.as_ref().map(|(number, s)| Numbered { number: *number, answer: s.as_deref() }),
             };
-            let reading = self.shared.start.elapsed().as_millis() as u64;
             let mut g = self.shared.gateway.lock().unwrap();
-            let outcome = g.call(payload, reading, &answers, reply);
-            // what a question is about is looked up before the lock is given back: later the key may be gone
-            let asked = |g: &Gateway, number, part: fn(Key<'_>) -> &[u8]| g.key(number).map(part).unwrap_or(&[]).to_vec();
-            match outcome {
-                Outcome::Reply => return true,
-                Outcome::Close => return false,
-                // neither occurs: `split` gives no longer payload, and `sign` no longer signature
-                Outcome::Refused(why) => panic!("{why}"),
-                Outcome::Asks(Question::Gate(class)) => {
-                    drop(g);
-                    gate = Some(self.agent.confirm_request(class));
-                }
-                Outcome::Asks(Question::Check(fields)) => {
-                    drop(g);
-                    check = Some(self.agent.check(&payload[fields]));
-                }
-                Outcome::Asks(Question::Confirmation { number }) => {
-                    let blob = asked(&g, number, |k| k.blob);
-                    drop(g);
-                    confirmation = Some(Numbered { number, answer: self.agent.confirm(&blob) });
-                }
-                Outcome::Asks(Question::Signature { number, data, hash }) => {
-                    let fields = asked(&g, number, |k| k.fields);
-                    drop(g);
-                    let s = self.agent.sign(&fields, &payload[data], hash).filter(|s| s.len() <= key_agent::MAX_SIGNATURE);
-                    signature = Some((number, s));
-                }
-            }
+            outcome = g.call(payload, self.reading(), &answers, reply);
+            about = key_asked(&g, &outcome);
         }
     }
+}
+
+/// What a question about a key needs of it, looked up before the lock is given back: later the key may be gone.
+fn key_asked(g: &Gateway, outcome: &Outcome) -> Vec<u8> {
+    let part = match outcome {
+        Outcome::Asks(Question::Confirmation { number }) => g.key(*number).map(|k| k.blob),
+        Outcome::Asks(Question::Signature { number, .. }) => g.key(*number).map(|k| k.fields),
+        _ => None,
+    };
+    part.unwrap_or(&[]).to_vec()
 }
 
 /// Says what it is asked, and yes. A list waits for the head grower's word, where somebody plays her.

@@ -1,23 +1,32 @@
 //! The proved key agent core for Rust programs: the rules of an SSH agent with eight places for keys, a lock, lifetimes and confirmations, and
 //! none of the rest. Sockets, signing, key mathematics and the clock stay with the caller.
 //!
-//! A request is one payload. [`Gateway::call`] works on the present state and either lands ([`Outcome::Reply`], [`Outcome::Close`]) or asks a
-//! [`Question`]. The caller finds the answer, puts it into [`Answers`] and calls again with the same payload; other requests may land between
-//! the two calls, and each call looks at lock and table afresh. That is what the core is for: the request that lands first holds.
+//! A request is one frame of a connection's bytes. [`Gateway::first`] takes it off their front; that call, and [`Gateway::call`] on its
+//! [`Payload`], work on the present state and either land ([`Outcome::Reply`], [`Outcome::Close`]) or ask a [`Question`]. The caller finds the
+//! answer, puts it into [`Answers`] and calls again with the same payload; other requests may land between the two calls, and each call looks at
+//! lock and table afresh. That is what the core is for: the request that lands first holds.
 //!
 //! ```
-//! use key_agent::{Answers, Gateway, Outcome, Question, Reply};
+//! use key_agent::{Answers, Class, First, Gateway, Outcome, Question, Reply};
 //!
 //! let mut gateway = Gateway::new();
 //! let mut reply = Reply::new();
-//! let mut answers = Answers::default();
-//! // 11: which keys are held? The gate is asked first.
-//! let first = gateway.call(&[11], 0, &answers, &mut reply);
-//! assert_eq!(first, Outcome::Asks(Question::Gate(key_agent::Class::RequestKeys)));
-//! answers.gate = Some(true);
-//! let second = gateway.call(&[11], 0, &answers, &mut reply);
-//! assert_eq!(second, Outcome::Reply);
+//! // 11: which keys are held? The gate is asked first. A second request stands behind it.
+//! let bytes = [0, 0, 0, 1, 11, 0, 0, 0, 1, 19];
+//! let payload = match gateway.first(&bytes, 0, &mut reply) {
+//!     First::Began { payload, used: 5, outcome: Outcome::Asks(Question::Gate(Class::RequestKeys)) } => payload,
+//!     other => panic!("{other:?}"),
+//! };
+//! let answers = Answers { gate: Some(true), ..Answers::default() };
+//! assert_eq!(gateway.call(payload, 0, &answers, &mut reply), Outcome::Reply);
 //! assert_eq!(reply.bytes(), [0, 0, 0, 5, 12, 0, 0, 0, 0]);
+//! ```
+//!
+//! A [`Payload`] is only ever cut out of a whole frame, so the length in front of it cannot be handed along with it:
+//!
+//! ```compile_fail
+//! let (mut gateway, mut reply) = (key_agent::Gateway::new(), key_agent::Reply::new());
+//! gateway.call(&[0, 0, 0, 1, 11], 0, &key_agent::Answers::default(), &mut reply);
 //! ```
 //!
 //! What each call does with state, store and reply is proved in the repository's `crates/`; this crate adds the types and keeps the two promises
@@ -99,6 +108,33 @@ pub enum Hash {
     Sha512,
 }
 
+/// The payload of a request: a whole frame without its length in front. [`Gateway::first`] and [`split`] cut it out of a connection's bytes, and
+/// nothing else makes one but the empty one. Never longer than [`MAX_PAYLOAD`].
+#[derive(Clone, Copy, Default, PartialEq, Eq)]
+pub struct Payload<'a>(&'a [u8]);
+
+impl<'a> Payload<'a> {
+    /// Its bytes, for as long as those that it was cut out of.
+    pub fn bytes(self) -> &'a [u8] {
+        self.0
+    }
+}
+
+impl Deref for Payload<'_> {
+    type Target = [u8];
+
+    fn deref(&self) -> &[u8] {
+        self.0
+    }
+}
+
+impl fmt::Debug for Payload<'_> {
+    // keys and passphrases stay out of every log
+    fn fmt(&self, f: &mut fmt::Formatter<'_>) -> fmt::Result {
+        f.debug_struct("Payload").finish_non_exhaustive()
+    }
+}
+
 /// What the core asks. Parts are places in the payload of the call that asked.
 #[derive(Clone, Debug, PartialEq, Eq, Hash)]
 pub enum Question {
@@ -125,8 +161,6 @@ pub enum Question {
 /// Why a call was turned away. Nothing has changed then, the clock neither.
 #[derive(Clone, Copy, Debug, PartialEq, Eq, Hash)]
 pub enum Refusal {
-    /// 4: the payload is longer than [`MAX_PAYLOAD`].
-    PayloadTooLong,
     /// 5: the signature lent is longer than [`MAX_SIGNATURE`].
     SignatureTooLong,
 }
@@ -135,7 +169,6 @@ impl Refusal {
     /// The refusal's number.
     pub fn number(self) -> u8 {
         match self {
-            Refusal::PayloadTooLong => 4,
             Refusal::SignatureTooLong => 5,
         }
     }
@@ -144,7 +177,6 @@ impl Refusal {
 impl fmt::Display for Refusal {
     fn fmt(&self, f: &mut fmt::Formatter<'_>) -> fmt::Result {
         match self {
-            Refusal::PayloadTooLong => write!(f, "refusal 4: the payload is longer than {MAX_PAYLOAD} bytes"),
             Refusal::SignatureTooLong => write!(f, "refusal 5: the signature is longer than {MAX_SIGNATURE} bytes"),
         }
     }
@@ -163,6 +195,52 @@ pub enum Outcome {
     Reply,
     /// The request has landed: close the connection.
     Close,
+}
+
+impl Outcome {
+    fn of(o: raw::FlatOutcome, reply: &mut Reply) -> Outcome {
+        reply.len = if o.kind == 5 { o.to } else { 0 };
+        match o.kind {
+            0 => Outcome::Refused(match o.number {
+                5 => Refusal::SignatureTooLong,
+                n => unreachable!("refusal {n}: store, reply and payload have their lengths, and the state is the core's"),
+            }),
+            1 => Outcome::Asks(Question::Gate(Class::of(o.number))),
+            2 => Outcome::Asks(Question::Check(o.from..o.to)),
+            3 => Outcome::Asks(Question::Confirmation { number: o.number }),
+            4 => Outcome::Asks(Question::Signature {
+                number: o.number,
+                data: o.from..o.to,
+                hash: match o.hash {
+                    0 => Hash::None,
+                    256 => Hash::Sha256,
+                    512 => Hash::Sha512,
+                    n => unreachable!("hash {n}"),
+                },
+            }),
+            5 => Outcome::Reply,
+            6 => Outcome::Close,
+            n => unreachable!("outcome {n}"),
+        }
+    }
+}
+
+/// What a connection's bytes come to.
+#[derive(Clone, Debug, PartialEq, Eq)]
+pub enum First<'a> {
+    /// No whole frame yet. Nothing has changed, the clock neither.
+    MoreNeeded,
+    /// The announced length is above [`MAX_PAYLOAD`]: close the connection. Nothing has changed, the clock neither.
+    TooLong,
+    /// A request has begun.
+    Began {
+        /// What its later calls are made with, a part of the bytes.
+        payload: Payload<'a>,
+        /// How many of the bytes its frame takes: the next one begins there.
+        used: usize,
+        /// What its first call comes to.
+        outcome: Outcome,
+    },
 }
 
 /// An answer that counts for one insertion number alone. If the key is replaced meanwhile, the core asks again for the new number.
@@ -224,7 +302,7 @@ impl Reply {
         Reply { buffer: Box::new([0; REPLY_LEN]), len: 0 }
     }
 
-    /// The frame of the last call that replied, its length prefix included; empty before one, and after a call that did not reply.
+    /// The frame of the last call that replied, its length prefix included; empty before one, and after a call, a first one too, that did not reply.
     pub fn bytes(&self) -> &[u8] {
         &self.buffer[..self.len]
     }
@@ -336,10 +414,37 @@ impl Gateway {
         Gateway { state, store: vec![0; STORE_LEN].into_boxed_slice().try_into().expect("its length") }
     }
 
-    /// One call on the present state, at the clock reading `reading` in milliseconds (a lower one than the kept clock counts as the kept one).
+    /// The first call of a request, from its connection's bytes: looks for one frame at their front, and calls with no answers once it is whole.
+    /// What stands behind that frame is not looked at.
     ///
-    /// `payload` is a frame without its length prefix ([`split`] cuts it out); `answers` are those that this request has so far.
-    pub fn call(&mut self, payload: &[u8], reading: u64, answers: &Answers<'_>, reply: &mut Reply) -> Outcome {
+    /// Keep the bytes until the request ends, and let go of `used` of them then; meanwhile [`split`] cuts the same payload out of them again.
+    pub fn first<'a>(&mut self, bytes: &'a [u8], reading: u64, reply: &mut Reply) -> First<'a> {
+        // SAFETY: as in `call`.
+        let f = unsafe {
+            raw::key_agent_first(
+                &mut *self.state,
+                self.store.as_mut_ptr(),
+                self.store.len(),
+                bytes.as_ptr(),
+                bytes.len(),
+                reading,
+                reply.buffer.as_mut_ptr(),
+                reply.buffer.len(),
+            )
+        };
+        reply.len = 0;
+        match f.kind {
+            0 => First::MoreNeeded,
+            1 => First::TooLong,
+            2 => unreachable!("refusal {}: store and reply have their lengths, and the state is the core's", f.outcome.number),
+            3 => First::Began { payload: Payload(&bytes[4..f.used]), used: f.used, outcome: Outcome::of(f.outcome, reply) },
+            n => unreachable!("first {n}"),
+        }
+    }
+
+    /// A later call of a request on the present state, at the clock reading `reading` in milliseconds (a lower one than the kept clock counts as
+    /// the kept one). `answers` are those that this request has so far.
+    pub fn call(&mut self, payload: Payload<'_>, reading: u64, answers: &Answers<'_>, reply: &mut Reply) -> Outcome {
         let (flat, signature) = answers.flat();
         // SAFETY: every pointer comes from a reference or a slice, so it is not null, and its length goes with it; the three that are written
         // (state, store, reply) are borrowed mutably here, so they overlap with nothing. The core reads no byte behind a length and keeps no
@@ -359,33 +464,7 @@ impl Gateway {
                 reply.buffer.len(),
             )
         };
-        reply.len = 0;
-        match o.kind {
-            0 => Outcome::Refused(match o.number {
-                4 => Refusal::PayloadTooLong,
-                5 => Refusal::SignatureTooLong,
-                n => unreachable!("refusal {n}: store and reply have their lengths, and the state is the core's"),
-            }),
-            1 => Outcome::Asks(Question::Gate(Class::of(o.number))),
-            2 => Outcome::Asks(Question::Check(o.from..o.to)),
-            3 => Outcome::Asks(Question::Confirmation { number: o.number }),
-            4 => Outcome::Asks(Question::Signature {
-                number: o.number,
-                data: o.from..o.to,
-                hash: match o.hash {
-                    0 => Hash::None,
-                    256 => Hash::Sha256,
-                    512 => Hash::Sha512,
-                    n => unreachable!("hash {n}"),
-                },
-            }),
-            5 => {
-                reply.len = o.to;
-                Outcome::Reply
-            }
-            6 => Outcome::Close,
-            n => unreachable!("outcome {n}"),
-        }
+        Outcome::of(o, reply)
     }
 
     /// What the core tells of a number; all zero where no held key has it.
@@ -477,24 +556,29 @@ impl Drop for Gateway {
 }
 
 /// What stands at the front of a connection's bytes.
-#[derive(Clone, Debug, PartialEq, Eq, Hash)]
-pub enum Split {
+#[derive(Clone, Debug, PartialEq, Eq)]
+pub enum Split<'a> {
     /// No whole frame yet.
     MoreNeeded,
     /// The announced length is above [`MAX_PAYLOAD`]: close the connection.
     TooLong,
-    /// A whole frame; its payload is this part of the bytes, and the next frame begins at its end.
-    Frame(Range<usize>),
+    /// A whole frame.
+    Frame {
+        /// Its payload, a part of the bytes.
+        payload: Payload<'a>,
+        /// How many of the bytes it takes: the next one begins there.
+        used: usize,
+    },
 }
 
-/// Looks for one frame at the front of a connection's bytes; nothing is copied.
-pub fn split(bytes: &[u8]) -> Split {
+/// Looks for one frame at the front of a connection's bytes; nothing is copied, and no call is made.
+pub fn split(bytes: &[u8]) -> Split<'_> {
     // SAFETY: a slice's pointer and length; nothing is written.
     let s = unsafe { raw::key_agent_split(bytes.as_ptr(), bytes.len()) };
     match s.kind {
         0 => Split::MoreNeeded,
         1 => Split::TooLong,
-        2 => Split::Frame(s.from..s.to),
+        2 => Split::Frame { payload: Payload(&bytes[s.from..s.to]), used: s.to },
         n => unreachable!("split {n}"),
     }
 }
@@ -505,6 +589,10 @@ fn self_test() {
     let string = |b: &[u8]| [&(b.len() as u32).to_be_bytes()[..], b].concat();
     let mut g = Gateway::untested();
     let mut reply = Reply::new();
+    let first = |f: First<'_>| match f {
+        First::Began { used, outcome, .. } => (used, outcome),
+        other => panic!("first: {other:?}"),
+    };
     let fresh = *g.state;
     let mut comment = raw::Comment { bytes: [0; 255], len: 0 };
     let free = raw::Entry { number: 0, reading: 0, limited: 0, seconds: 0, confirm: 0, blob_len: 0, fields_len: 0, comment };
@@ -514,12 +602,21 @@ fn self_test() {
     let blob = [string(b"ecdsa-sha2-nistp256"), string(b"nistp256"), string(&[4; 65])].concat();
     let fields = [blob.clone(), string(&[5; 32])].concat();
     let add = [&[25][..], &fields, &string(b"shed"), &[1, 1, 2, 3, 4, 2]].concat();
-    let mut a = Answers::default();
-    assert_eq!(g.call(&add, 77, &a, &mut reply), Outcome::Asks(Question::Gate(Class::AddKeys)), "gate");
-    a.gate = Some(true);
-    assert_eq!(g.call(&add, 77, &a, &mut reply), Outcome::Asks(Question::Check(1..1 + fields.len())), "check");
+    let mut a = Answers { gate: Some(true), ..Answers::default() };
+    // a frame, and the next one behind it
+    let mut bytes = string(&add);
+    let used = bytes.len();
+    bytes.push(0);
+    assert_eq!((g.first(&bytes[..used - 1], 99, &mut reply), *g.state), (First::MoreNeeded, fresh), "first: more needed");
+    assert_eq!((g.first(&[0, 4, 0, 1], 99, &mut reply), *g.state), (First::TooLong, fresh), "first: too long");
+    assert_eq!(first(g.first(&bytes, 77, &mut reply)), (used, Outcome::Asks(Question::Gate(Class::AddKeys))), "first: gate");
+    assert_eq!(*g.state, raw::State { clock: 77, ..fresh }, "first: the reading");
+    assert_eq!((first(g.first(&[0; 5], 0, &mut reply)), reply.bytes()), ((4, Outcome::Reply), &[0, 0, 0, 1, 5][..]), "first: reply");
+    let add = Payload(&add);
+    assert_eq!(g.call(add, 77, &Answers::default(), &mut reply), Outcome::Asks(Question::Gate(Class::AddKeys)), "gate");
+    assert_eq!(g.call(add, 77, &a, &mut reply), Outcome::Asks(Question::Check(1..1 + fields.len())), "check");
     a.check = Some(true);
-    assert_eq!(g.call(&add, 78, &a, &mut reply), Outcome::Reply, "add");
+    assert_eq!(g.call(add, 78, &a, &mut reply), Outcome::Reply, "add");
     assert_eq!(reply.bytes(), [0, 0, 0, 1, 6], "reply");
     let mut want = fresh;
     comment.bytes[..4].copy_from_slice(b"shed");
@@ -540,32 +637,33 @@ fn self_test() {
     assert_eq!(g.told(1), raw::HeldKey { limited: 0, left: 0, ..held }, "layout of HeldKey: no lifetime");
     *g.state = want;
     let sign = [&[13][..], &string(&blob), &string(b"data"), &[0, 0, 0, 4]].concat();
+    let sign = Payload(&sign);
     let data = 1 + 4 + blob.len() + 4;
     a = Answers { gate: Some(true), ..Answers::default() };
-    assert_eq!(g.call(&sign, 0, &a, &mut reply), Outcome::Asks(Question::Confirmation { number: 1 }), "confirmation");
+    assert_eq!(g.call(sign, 0, &a, &mut reply), Outcome::Asks(Question::Confirmation { number: 1 }), "confirmation");
     a.confirmation = Some(Numbered { number: 1, answer: true });
     let asks = Outcome::Asks(Question::Signature { number: 1, data: data..data + 4, hash: Hash::Sha512 });
-    assert_eq!(g.call(&sign, 0, &a, &mut reply), asks, "signature");
+    assert_eq!(g.call(sign, 0, &a, &mut reply), asks, "signature");
     a.signature = Some(Numbered { number: 2, answer: Some(b"other") });
-    assert_eq!(g.call(&sign, 0, &a, &mut reply), asks, "an answer for another number");
+    assert_eq!(g.call(sign, 0, &a, &mut reply), asks, "an answer for another number");
     a.signature = Some(Numbered { number: 1, answer: Some(b"sig") });
-    assert_eq!(g.call(&sign, 0, &a, &mut reply), Outcome::Reply, "signature lent");
+    assert_eq!(g.call(sign, 0, &a, &mut reply), Outcome::Reply, "signature lent");
     assert_eq!(reply.bytes(), [0, 0, 0, 8, 14, 0, 0, 0, 3, b's', b'i', b'g'], "signature lent");
     a.signature = Some(Numbered { number: 1, answer: None });
-    assert_eq!(g.call(&sign, 0, &a, &mut reply), Outcome::Close, "no signature");
+    assert_eq!(g.call(sign, 0, &a, &mut reply), Outcome::Close, "no signature");
     a.confirmation = Some(Numbered { number: 1, answer: false });
-    assert_eq!(g.call(&sign, 0, &a, &mut reply), Outcome::Reply, "not confirmed");
+    assert_eq!(g.call(sign, 0, &a, &mut reply), Outcome::Reply, "not confirmed");
     assert_eq!(reply.bytes(), [0, 0, 0, 1, 5], "not confirmed");
     a = Answers { gate: Some(true), ..Answers::default() };
-    assert_eq!(g.call(&[22, 0, 0, 0, 2, 97, 98], 0, &a, &mut reply), Outcome::Reply, "lock");
+    assert_eq!(g.call(Payload(&[22, 0, 0, 0, 2, 97, 98]), 0, &a, &mut reply), Outcome::Reply, "lock");
     want.lock.bytes[..2].copy_from_slice(b"ab");
     want.lock.len = 2;
     assert_eq!(*g.state, want, "layout of State: the lock");
     assert!(g.is_sound(), "is_sound");
     let long = [0; MAX_SIGNATURE + 1];
     a.signature = Some(Numbered { number: 1, answer: Some(&long) });
-    assert_eq!(g.call(&[], 0, &a, &mut reply), Outcome::Refused(Refusal::SignatureTooLong), "refusal 5");
-    assert_eq!(split(&[0, 0, 0, 1, 11, 0]), Split::Frame(4..5), "split");
+    assert_eq!(g.call(Payload(&[]), 0, &a, &mut reply), Outcome::Refused(Refusal::SignatureTooLong), "refusal 5");
+    assert_eq!(split(&[0, 0, 0, 1, 11, 0]), Split::Frame { payload: Payload(&[11]), used: 5 }, "split");
     assert_eq!(split(&[0, 4, 0, 1]), Split::TooLong, "split");
     assert_eq!(split(&[0, 4, 0, 0]), Split::MoreNeeded, "split");
     // the last field of a state by value: the next number is not above a held one

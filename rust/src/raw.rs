@@ -68,6 +68,15 @@ pub struct FlatSplit {
     pub to: usize,
 }
 
+/// What a first call came to: the bytes used and the outcome, 0 in what its kind does not use.
+#[repr(C)]
+#[derive(Clone, Copy, Debug, PartialEq, Eq)]
+pub struct FlatFirst {
+    pub kind: u8,
+    pub used: usize,
+    pub outcome: FlatOutcome,
+}
+
 /// A held key: parts of the store, `left` in milliseconds. Number 0: nothing is told, and all is zero.
 #[repr(C)]
 #[derive(Clone, Copy, Debug, PartialEq, Eq)]
@@ -100,6 +109,16 @@ extern "C" {
         reply: *mut u8,
         reply_len: usize,
     ) -> FlatOutcome;
+    pub fn key_agent_first(
+        state: *mut State,
+        store: *mut u8,
+        store_len: usize,
+        bytes: *const u8,
+        bytes_len: usize,
+        reading: u64,
+        reply: *mut u8,
+        reply_len: usize,
+    ) -> FlatFirst;
     pub fn key_agent_split(bytes: *const u8, bytes_len: usize) -> FlatSplit;
     pub fn key_agent_key(state: State, store: *const u8, store_len: usize, number: u64) -> HeldKey;
     pub fn key_agent_next(state: State, store: *const u8, store_len: usize, after: u64) -> u64;
@@ -141,6 +160,7 @@ const _: () = {
     assert!(size_of::<FlatOutcome>() == 32 && offset_of!(FlatOutcome, hash) == 2 && offset_of!(FlatOutcome, number) == 8);
     assert!(offset_of!(FlatOutcome, from) == 16 && offset_of!(FlatOutcome, to) == 24);
     assert!(size_of::<FlatSplit>() == 24 && offset_of!(FlatSplit, from) == 8);
+    assert!(size_of::<FlatFirst>() == 48 && offset_of!(FlatFirst, used) == 8 && offset_of!(FlatFirst, outcome.kind) == 16);
     assert!(size_of::<HeldKey>() == 320 && offset_of!(HeldKey, confirm) == 8 && offset_of!(HeldKey, limited) == 9);
     assert!(offset_of!(HeldKey, left) == 16 && offset_of!(HeldKey, blob_from) == 24 && offset_of!(HeldKey, blob_to) == 32);
     assert!(offset_of!(HeldKey, fields_from) == 40 && offset_of!(HeldKey, fields_to) == 48 && offset_of!(HeldKey, comment.bytes[0]) == 56);

@@ -1,4 +1,7 @@
 //! The comment of each key: kept, listed, replaced, and gone with the key; and comments in a state handed in, which the safe interface cannot make.
+mod framed;
+
+use framed::{call, string};
 use key_agent::*;
 
 #[allow(dead_code)]
@@ -9,9 +12,6 @@ const FAILURE: [u8; 5] = [0, 0, 0, 1, 5];
 const SUCCESS: [u8; 5] = [0, 0, 0, 1, 6];
 const NONE: raw::Comment = raw::Comment { bytes: [0; 255], len: 0 };
 
-fn string(b: &[u8]) -> Vec<u8> {
-    [&(b.len() as u32).to_be_bytes()[..], b].concat()
-}
 /// Key fields and public blob.
 type Key = (Vec<u8>, Vec<u8>);
 fn ed25519(i: u8) -> Key {
@@ -42,7 +42,7 @@ fn gate() -> Answers<'static> {
 /// One call with the gate's and the check's yes, which replies.
 fn reply(g: &mut Gateway, payload: &[u8]) -> Vec<u8> {
     let mut r = Reply::new();
-    assert_eq!(g.call(payload, 0, &Answers { check: Some(true), ..gate() }, &mut r), Outcome::Reply);
+    assert_eq!(call(g, payload, 0, &Answers { check: Some(true), ..gate() }, &mut r), Outcome::Reply);
     r.bytes().to_vec()
 }
 /// The list, each item once as its reply has it and once as `keys` does.
@@ -86,13 +86,13 @@ fn kept_for_every_kind_and_replaced() {
 /// The add is FAILURE with the gate's yes alone, so no key check is asked; and nothing changes.
 fn refused(g: &mut Gateway, payload: &[u8]) {
     let (before, mut r) = (g.clone(), Reply::new());
-    assert_eq!(g.call(payload, 0, &gate(), &mut r), Outcome::Reply);
+    assert_eq!(call(g, payload, 0, &gate(), &mut r), Outcome::Reply);
     assert_eq!(r.bytes(), FAILURE);
     assert!(*g == before);
 }
 /// The key check is asked; with its yes the key is added.
 fn taken(g: &mut Gateway, key: &Key, payload: &[u8]) {
-    assert_eq!(g.call(payload, 0, &gate(), &mut Reply::new()), Outcome::Asks(Question::Check(1..1 + key.0.len())));
+    assert_eq!(call(g, payload, 0, &gate(), &mut Reply::new()), Outcome::Asks(Question::Check(1..1 + key.0.len())));
     assert_eq!(reply(g, payload), SUCCESS);
 }
 

@@ -1,25 +1,25 @@
 //! What is told of held keys: one by its insertion number, all in order of insertion, and nothing of a number that none has.
+mod framed;
+
+use framed::{call, string};
 use key_agent::*;
 
-fn string(b: &[u8]) -> Vec<u8> {
-    [&(b.len() as u32).to_be_bytes()[..], b].concat()
-}
 /// A P-256 key whose point and number are made up: fields, blob.
 fn key(i: u8) -> (Vec<u8>, Vec<u8>) {
     let blob = [string(b"ecdsa-sha2-nistp256"), string(b"nistp256"), string(&[&[4][..], &[i; 64]].concat())].concat();
     ([blob.clone(), string(&[i; 32])].concat(), blob)
 }
-fn call(g: &mut Gateway, payload: &[u8], at: u64) -> Outcome {
-    g.call(payload, at, &Answers { gate: Some(true), check: Some(true), ..Answers::default() }, &mut Reply::new())
+fn yes(g: &mut Gateway, payload: &[u8], at: u64) -> Outcome {
+    call(g, payload, at, &Answers { gate: Some(true), check: Some(true), ..Answers::default() }, &mut Reply::new())
 }
 fn add(g: &mut Gateway, i: u8, comment: &str, constraints: &[u8], at: u64) {
     let mut r = Reply::new();
     let payload = [&[25][..], &key(i).0, &string(comment.as_bytes()), constraints].concat();
-    g.call(&payload, at, &Answers { gate: Some(true), check: Some(true), ..Answers::default() }, &mut r);
+    call(g, &payload, at, &Answers { gate: Some(true), check: Some(true), ..Answers::default() }, &mut r);
     assert_eq!(r.bytes(), [0, 0, 0, 1, 6]);
 }
 fn remove(g: &mut Gateway, i: u8) {
-    assert_eq!(call(g, &[&[18][..], &string(&key(i).1)].concat(), 0), Outcome::Reply);
+    assert_eq!(yes(g, &[&[18][..], &string(&key(i).1)].concat(), 0), Outcome::Reply);
 }
 fn numbers(g: &Gateway) -> Vec<u64> {
     g.keys().map(|k| k.number).collect()
@@ -48,16 +48,19 @@ fn what_is_left() {
     let mut g = Gateway::new();
     add(&mut g, 1, "", &[1, 0, 0, 0, 2], 5_000);
     assert_eq!(g.key(1).unwrap().left, Some(2_000));
-    assert_eq!(call(&mut g, &[11], 5_700), Outcome::Reply);
+    assert_eq!(yes(&mut g, &[11], 5_700), Outcome::Reply);
     assert_eq!(g.key(1).unwrap().left, Some(1_300));
-    // a lower reading moves nothing, a refused call neither
-    assert_eq!(call(&mut g, &[11], 10), Outcome::Reply);
-    assert_eq!(call(&mut g, &[11; MAX_PAYLOAD + 1], 9_000), Outcome::Refused(Refusal::PayloadTooLong));
+    // a lower reading moves nothing, a refused call neither, nor bytes of which none is made
+    assert_eq!(yes(&mut g, &[11], 10), Outcome::Reply);
+    let long = Answers { signature: Some(Numbered { number: 1, answer: Some(&[0; MAX_SIGNATURE + 1]) }), ..Answers::default() };
+    assert_eq!(call(&mut g, &[11], 9_000, &long, &mut Reply::new()), Outcome::Refused(Refusal::SignatureTooLong));
+    assert_eq!(g.first(&string(&[11; MAX_PAYLOAD + 1]), 9_000, &mut Reply::new()), First::TooLong);
+    assert_eq!(g.first(&string(&[11])[..4], 9_000, &mut Reply::new()), First::MoreNeeded);
     assert_eq!(g.key(1).unwrap().left, Some(1_300));
     // there a millisecond before, gone when none is left, also while locked
-    assert_eq!(call(&mut g, &[22, 0, 0, 0, 1, 97], 6_999), Outcome::Reply);
+    assert_eq!(yes(&mut g, &[22, 0, 0, 0, 1, 97], 6_999), Outcome::Reply);
     assert_eq!(g.key(1).unwrap().left, Some(1));
-    assert_eq!(call(&mut g, &[11], 7_000), Outcome::Reply);
+    assert_eq!(yes(&mut g, &[11], 7_000), Outcome::Reply);
     assert_eq!((g.key(1), g.next_held(0), g.is_locked()), (None, None, true));
 }
 
@@ -91,7 +94,7 @@ fn in_order_of_insertion() {
         assert_eq!(g.key(n).map(|k| k.number), want.iter().copied().find(|m| *m == n), "number {n}");
     }
     assert_eq!(g.next_held(u64::MAX), None);
-    assert_eq!(call(&mut g, &[19], 0), Outcome::Reply);
+    assert_eq!(yes(&mut g, &[19], 0), Outcome::Reply);
     assert_eq!((numbers(&g), g.key(10)), (vec![], None));
 }
 
@@ -102,7 +105,7 @@ fn what_a_question_names_is_told() {
     add(&mut g, 2, "", &[], 0);
     for (i, number) in [(1, 1), (2, 2)] {
         let sign = [&[13][..], &string(&key(i).1), &string(b"data"), &[0; 4]].concat();
-        let asked = match call(&mut g, &sign, 0) {
+        let asked = match yes(&mut g, &sign, 0) {
             Outcome::Asks(Question::Confirmation { number }) | Outcome::Asks(Question::Signature { number, .. }) => number,
             other => panic!("{other:?}"),
         };

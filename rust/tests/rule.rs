@@ -1,9 +1,9 @@
 //! 01's examples and the edges of the interface, through the linked archive.
+mod framed;
+
+use framed::{call, string};
 use key_agent::*;
 
-fn string(b: &[u8]) -> Vec<u8> {
-    [&(b.len() as u32).to_be_bytes()[..], b].concat()
-}
 /// A P-256 key whose point and number are made up: fields, blob.
 fn key(i: u8) -> (Vec<u8>, Vec<u8>) {
     let mut q = vec![4];
@@ -23,7 +23,7 @@ fn yes() -> Answers<'static> {
 /// One call with the gate's and the check's yes: the reply, or the outcome in words.
 fn reply(g: &mut Gateway, payload: &[u8], at: u64) -> Vec<u8> {
     let mut r = Reply::new();
-    match g.call(payload, at, &yes(), &mut r) {
+    match call(g, payload, at, &yes(), &mut r) {
         Outcome::Reply => r.bytes().to_vec(),
         other => format!("{other:?}").into_bytes(),
     }
@@ -41,13 +41,13 @@ fn examples() {
     assert_eq!(reply(&mut g, &[0x16, 0, 0, 0, 2, 0x61, 0x62], 0), SUCCESS);
     assert!(g.is_locked());
     // wrong lock state: no question
-    assert_eq!(g.call(&[11], 0, &Answers::default(), &mut Reply::new()), Outcome::Reply);
+    assert_eq!(call(&mut g, &[11], 0, &Answers::default(), &mut Reply::new()), Outcome::Reply);
     assert_eq!(reply(&mut g, &[11], 0), FAILURE);
     assert_eq!(reply(&mut g, &[0x17, 0, 0, 0, 2, 0x61, 0x63], 0), FAILURE);
     assert_eq!(reply(&mut g, &[0x17, 0, 0, 0, 2, 0x61, 0x62, 0xff], 0), SUCCESS);
     assert_eq!(reply(&mut g, &[0x16, 0, 0, 0, 3, 0x61, 0x62], 0), FAILURE);
     assert!(!g.is_locked());
-    assert_eq!(g.call(&[0x0d, 0, 0, 0, 4, 0x61], 0, &yes(), &mut Reply::new()), Outcome::Close);
+    assert_eq!(call(&mut g, &[0x0d, 0, 0, 0, 4, 0x61], 0, &yes(), &mut Reply::new()), Outcome::Close);
     assert_eq!(reply(&mut g, &[0x0d, 0, 0, 0, 1, 0x61], 0), FAILURE);
 }
 
@@ -56,7 +56,7 @@ fn flags() {
     let mut g = Gateway::new();
     assert_eq!(reply(&mut g, &added(1, &[]), 0), SUCCESS);
     for (flags, want) in [(6, Hash::Sha256), (2, Hash::Sha256), (4, Hash::Sha512), (1, Hash::None), (0, Hash::None)] {
-        match g.call(&signing(1, flags), 0, &yes(), &mut Reply::new()) {
+        match call(&mut g, &signing(1, flags), 0, &yes(), &mut Reply::new()) {
             Outcome::Asks(Question::Signature { number: 1, data, hash }) => {
                 assert_eq!(hash, want);
                 assert_eq!(signing(1, flags)[data], *b"data");
@@ -71,8 +71,8 @@ fn two_locks_past_the_gate() {
     let mut g = Gateway::new();
     let mut r = Reply::new();
     let (ab, cd) = ([0x16, 0, 0, 0, 2, 0x61, 0x62], [0x16, 0, 0, 0, 2, 0x63, 0x64]);
-    assert_eq!(g.call(&ab, 0, &Answers::default(), &mut r), Outcome::Asks(Question::Gate(Class::Lock)));
-    assert_eq!(g.call(&cd, 0, &Answers::default(), &mut r), Outcome::Asks(Question::Gate(Class::Lock)));
+    assert_eq!(call(&mut g, &ab, 0, &Answers::default(), &mut r), Outcome::Asks(Question::Gate(Class::Lock)));
+    assert_eq!(call(&mut g, &cd, 0, &Answers::default(), &mut r), Outcome::Asks(Question::Gate(Class::Lock)));
     assert_eq!(reply(&mut g, &ab, 0), SUCCESS);
     assert_eq!(reply(&mut g, &cd, 0), FAILURE);
     assert_eq!(reply(&mut g, &[0x17, 0, 0, 0, 2, 0x61, 0x62], 0), SUCCESS);
@@ -84,10 +84,10 @@ fn a_yes_for_the_old_key_does_not_count() {
     let mut r = Reply::new();
     assert_eq!(reply(&mut g, &added(1, &[2]), 0), SUCCESS);
     let mut a = yes();
-    assert_eq!(g.call(&signing(1, 0), 0, &a, &mut r), Outcome::Asks(Question::Confirmation { number: 1 }));
+    assert_eq!(call(&mut g, &signing(1, 0), 0, &a, &mut r), Outcome::Asks(Question::Confirmation { number: 1 }));
     assert_eq!(reply(&mut g, &added(1, &[2]), 0), SUCCESS);
     a.confirmation = Some(Numbered { number: 1, answer: true });
-    assert_eq!(g.call(&signing(1, 0), 0, &a, &mut r), Outcome::Asks(Question::Confirmation { number: 2 }));
+    assert_eq!(call(&mut g, &signing(1, 0), 0, &a, &mut r), Outcome::Asks(Question::Confirmation { number: 2 }));
     assert_eq!(g.key(1), None);
     assert_eq!(g.key(2).unwrap().blob, key(1).1);
 }
@@ -108,7 +108,7 @@ fn lifetimes() {
     // lifetime 0 goes at the next call, a question too
     assert_eq!(reply(&mut g, &added(2, &[1, 0, 0, 0, 0]), 7_000), SUCCESS);
     assert_eq!(held(&g), 2);
-    g.call(&[11], 7_000, &Answers::default(), &mut Reply::new());
+    call(&mut g, &[11], 7_000, &Answers::default(), &mut Reply::new());
     assert_eq!(held(&g), 1);
 }
 
@@ -147,16 +147,15 @@ fn refusals_change_nothing() {
     let mut g = Gateway::new();
     reply(&mut g, &added(1, &[1, 0, 0, 0, 1]), 0);
     let mut r = Reply::new();
-    let long = vec![11; MAX_PAYLOAD + 1];
-    assert_eq!(g.call(&long, 9_000, &yes(), &mut r), Outcome::Refused(Refusal::PayloadTooLong));
+    assert_eq!(g.first(&string(&vec![11; MAX_PAYLOAD + 1]), 9_000, &mut r), First::TooLong);
     let sig = [0; MAX_SIGNATURE + 1];
     let a = Answers { signature: Some(Numbered { number: 99, answer: Some(&sig) }), ..yes() };
-    assert_eq!(g.call(&[11], 9_000, &a, &mut r), Outcome::Refused(Refusal::SignatureTooLong));
+    assert_eq!(call(&mut g, &[11], 9_000, &a, &mut r), Outcome::Refused(Refusal::SignatureTooLong));
     assert_eq!((g.clock(), g.keys().count(), r.bytes().len(), r.buffer().iter().all(|b| *b == 0)), (0, 1, 0, true));
     // the longest payload is taken
     let mut whole = vec![0; MAX_PAYLOAD];
     whole[0] = 11;
-    assert_eq!(g.call(&whole, 0, &yes(), &mut r), Outcome::Reply);
+    assert_eq!(call(&mut g, &whole, 0, &yes(), &mut r), Outcome::Reply);
     assert_eq!(r.bytes()[4], 12);
 }
 
@@ -171,28 +170,34 @@ fn the_longest_reply_and_what_stands_behind_a_shorter_one() {
         assert_eq!(reply(&mut g, &[&[17][..], &fields, &string(&[b'c'; MAX_COMMENT])].concat(), 0), SUCCESS);
     }
     let mut r = Reply::new();
-    assert_eq!(g.call(&[11], 0, &yes(), &mut r), Outcome::Reply);
+    assert_eq!(call(&mut g, &[11], 0, &yes(), &mut r), Outcome::Reply);
     assert_eq!(r.bytes().len(), REPLY_LEN);
     let before = *r.buffer();
-    assert_eq!(g.call(&[99], 0, &yes(), &mut r), Outcome::Reply);
+    assert_eq!(call(&mut g, &[99], 0, &yes(), &mut r), Outcome::Reply);
     assert_eq!(r.bytes(), FAILURE);
     assert_eq!(r.buffer()[5..], before[5..]);
-    assert_eq!(g.call(&[11], 0, &Answers::default(), &mut r), Outcome::Asks(Question::Gate(Class::RequestKeys)));
+    assert_eq!(call(&mut g, &[11], 0, &Answers::default(), &mut r), Outcome::Asks(Question::Gate(Class::RequestKeys)));
     assert_eq!((r.bytes().len(), &r.buffer()[5..]), (0, &before[5..]));
 }
 
 #[test]
 fn frames() {
-    assert_eq!(split(&[]), Split::MoreNeeded);
-    assert_eq!(split(&[0, 0, 0]), Split::MoreNeeded);
-    assert_eq!(split(&[0, 0, 0, 0]), Split::Frame(4..4));
-    assert_eq!(split(&[0, 0, 0, 2, 11]), Split::MoreNeeded);
-    assert_eq!(split(&[0, 0, 0, 2, 11, 1, 9]), Split::Frame(4..6));
-    assert_eq!(split(&[0, 4, 0, 0]), Split::MoreNeeded);
-    assert_eq!(split(&[0, 4, 0, 1]), Split::TooLong);
-    assert_eq!(split(&[255, 255, 255, 255]), Split::TooLong);
+    // the payload and the bytes used; 0 for more needed, 1 for too long
+    let found = |bytes: &[u8]| match split(bytes) {
+        Split::MoreNeeded => Err(0),
+        Split::TooLong => Err(1),
+        Split::Frame { payload, used } => Ok((payload.to_vec(), used)),
+    };
+    assert_eq!(found(&[]), Err(0));
+    assert_eq!(found(&[0, 0, 0]), Err(0));
+    assert_eq!(found(&[0, 0, 0, 0]), Ok((vec![], 4)));
+    assert_eq!(found(&[0, 0, 0, 2, 11]), Err(0));
+    assert_eq!(found(&[0, 0, 0, 2, 11, 1, 9]), Ok((vec![11, 1], 6)));
+    assert_eq!(found(&[0, 4, 0, 0]), Err(0));
+    assert_eq!(found(&[0, 4, 0, 1]), Err(1));
+    assert_eq!(found(&[255, 255, 255, 255]), Err(1));
     let mut whole = vec![0; 4 + MAX_PAYLOAD];
     whole[1] = 4;
-    assert_eq!(split(&whole), Split::Frame(4..4 + MAX_PAYLOAD));
-    assert_eq!(split(&whole[..whole.len() - 1]), Split::MoreNeeded);
+    assert_eq!(found(&whole), Ok((whole[4..].to_vec(), 4 + MAX_PAYLOAD)));
+    assert_eq!(found(&whole[..whole.len() - 1]), Err(0));
 }

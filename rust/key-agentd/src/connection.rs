@@ -3,9 +3,8 @@ use crate::core::Lent;
 use crate::names::is_telling;
 use crate::secret::Secret;
 use crate::sockets::Peer;
-use key_agent::{split, Split};
+use key_agent::{split, Payload, Split};
 use std::io::{ErrorKind, Read, Write};
-use std::ops::Range;
 use std::os::unix::net::UnixStream;
 
 /// A frame is at most this long with its length in front.
@@ -20,9 +19,10 @@ pub enum Waiting {
     Work(u64),
 }
 
-/// A request that has not landed. Its payload is a part of the connection's bytes.
+/// A request that has not landed. Its frame stands at the front of the connection's bytes.
 pub struct Request {
-    pub payload: Range<usize>,
+    /// How many of the bytes the frame takes.
+    pub used: usize,
     pub lent: Lent,
     pub waiting: Option<Waiting>,
     /// The insertion number that the question or the work is about; 0 is none.
@@ -50,13 +50,6 @@ pub struct Connection {
     pub has_more: bool,
     /// A frame is whole, and its turn comes.
     pub is_ready: bool,
-}
-
-/// What stands at the front of the bytes.
-pub enum Front {
-    Payload(Range<usize>),
-    More,
-    TooLong(u32),
 }
 
 impl Connection {
@@ -105,22 +98,21 @@ impl Connection {
         self.bytes().len() >= CHUNK
     }
 
-    pub fn front(&self) -> Front {
-        let bytes = self.bytes();
-        match split(bytes) {
-            Split::Frame(payload) => Front::Payload(payload),
-            Split::MoreNeeded => Front::More,
-            Split::TooLong => Front::TooLong(announced(bytes)),
-        }
-    }
-
     pub fn bytes(&self) -> &[u8] {
         self.input.as_deref().unwrap_or(&[])
     }
 
-    /// The payload of the request that waits.
-    pub fn payload(&self) -> &[u8] {
-        self.request.as_ref().map_or(&[], |r| &self.bytes()[r.payload.clone()])
+    /// The payload of the frame at the front, the request's that has not landed; empty where none is whole.
+    pub fn payload(&self) -> Payload<'_> {
+        match split(self.bytes()) {
+            Split::Frame { payload, .. } => payload,
+            Split::MoreNeeded | Split::TooLong => Payload::default(),
+        }
+    }
+
+    /// The length that the frame at the front announces; 0 where not all of it has come.
+    pub fn announced(&self) -> u32 {
+        self.bytes().get(..4).map_or(0, |b| u32::from_be_bytes([b[0], b[1], b[2], b[3]]))
     }
 
     /// What the loop is to be told of. While a request waits nothing is read; who sends nothing meanwhile needs no word to the system.
@@ -147,7 +139,7 @@ impl Connection {
             n @ 1..=3 => Some(format!("cut frame: {n} of 4 bytes of its length")),
             4 => Some("cut frame: nothing of its payload".to_string()),
             _ if is_telling(&bytes[4..]) => Some("cut frame: a part of its payload".to_string()),
-            n => Some(format!("cut frame: {} of {} bytes of its payload", n - 4, announced(bytes))),
+            n => Some(format!("cut frame: {} of {} bytes of its payload", n - 4, self.announced())),
         }
     }
 
@@ -190,8 +182,4 @@ impl Connection {
         self.sent = 0;
         Ok(())
     }
-}
-
-fn announced(bytes: &[u8]) -> u32 {
-    u32::from_be_bytes([bytes[0], bytes[1], bytes[2], bytes[3]])
 }

@@ -3,7 +3,7 @@ use crate::clock::Clock;
 use crate::keys::Key;
 use crate::names::fingerprint;
 use crate::secret;
-use key_agent::{Answers, Gateway, Numbered, Outcome, Reply};
+use key_agent::{Answers, First, Gateway, Numbered, Outcome, Payload, Reply};
 use std::collections::{BTreeMap, HashMap};
 use std::sync::Arc;
 
@@ -60,15 +60,30 @@ impl Core {
         Core { gateway, reply: Reply::new(), clock, derived: HashMap::new(), told: BTreeMap::new(), due: None, gone: Vec::new(), is_changed: false }
     }
 
-    pub fn call(&mut self, payload: &[u8], lent: &Lent) -> Outcome {
+    /// The first call of the request at the front of a connection's bytes, once it is whole.
+    pub fn first<'a>(&mut self, bytes: &'a [u8]) -> First<'a> {
+        let reading = self.clock.reading();
+        let first = self.gateway.first(bytes, reading, &mut self.reply);
+        secret::wipe_stack();
+        if matches!(first, First::Began { .. }) {
+            self.called(reading);
+        }
+        first
+    }
+
+    pub fn call(&mut self, payload: Payload<'_>, lent: &Lent) -> Outcome {
         let reading = self.clock.reading();
         let outcome = self.gateway.call(payload, reading, &lent.answers(), &mut self.reply);
         secret::wipe_stack();
-        // keys come and go by a success or on time, and in no other way
+        self.called(reading);
+        outcome
+    }
+
+    /// Keys come and go by a success or on time, and in no other way.
+    fn called(&mut self, reading: u64) {
         if self.reply.bytes() == SUCCESS || self.due.map_or(false, |due| due <= reading) {
             self.settle();
         }
-        outcome
     }
 
     /// The frame of the last call, where it replied.
@@ -78,7 +93,7 @@ impl Core {
 
     /// Lets what is due go, though nobody asks.
     pub fn let_go(&mut self) {
-        self.call(&[], &Lent::default());
+        self.call(Payload::default(), &Lent::default());
     }
 
     /// The reading at which a key goes.
@@ -149,13 +164,21 @@ impl Core {
 #[cfg(test)]
 mod tests {
     use super::*;
+    use key_agent::Question;
 
     fn string(b: &[u8]) -> Vec<u8> {
         [&(b.len() as u32).to_be_bytes()[..], b].concat()
     }
 
-    fn yes() -> Lent {
-        Lent { gate: Some(true), check: Some(true), ..Lent::default() }
+    /// A request's first call, and one with the gate's and the check's yes.
+    fn land(core: &mut Core, payload: &[u8]) -> Outcome {
+        let frame = string(payload);
+        match core.first(&frame) {
+            First::Began { payload, used, outcome: Outcome::Asks(Question::Gate(_)) } if used == frame.len() => {
+                core.call(payload, &Lent { gate: Some(true), check: Some(true), ..Lent::default() })
+            }
+            other => panic!("{other:?}"),
+        }
     }
 
     #[test]
@@ -164,14 +187,14 @@ mod tests {
         let public = [9; 32];
         let fields = [string(b"ssh-ed25519"), string(&public), string(&[&[7; 32][..], &public].concat())].concat();
         let add = [&[25][..], &fields, &string(b"vents"), &[1, 0, 0, 0, 0]].concat();
-        assert_eq!(core.call(&add, &yes()), Outcome::Reply);
+        assert_eq!(land(&mut core, &add), Outcome::Reply);
         assert_eq!(core.with_fields(1, |f| f == fields), Some(true));
         assert_eq!(core.shown()[0].comment, "vents");
         core.keep(1, Arc::new(Key::load(&fields).unwrap()));
         core.keep(2, Arc::new(Key::load(&fields).unwrap()));
         assert!(core.derived(1).is_some() && core.derived(2).is_none());
         assert!(core.due().is_some());
-        assert_eq!(core.call(&[22, 0, 0, 0, 1, 97], &yes()), Outcome::Reply);
+        assert_eq!(land(&mut core, &[22, 0, 0, 0, 1, 97]), Outcome::Reply);
         assert!(core.is_locked() && core.shown().is_empty() && core.derived(1).is_none());
         assert_eq!(core.changes().0[0].0, 1);
         assert_eq!(core.due(), None);

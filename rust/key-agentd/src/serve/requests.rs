@@ -57,11 +57,12 @@ impl Loop {
             if c.request.is_some() || c.is_sending() {
                 return Ok(());
             }
-            match c.front() {
-                Front::Payload(payload) => self.begin(token, c, payload)?,
-                Front::TooLong(n) => return Err(End::Fault(format!("closed: too long a frame: {n} bytes announced"))),
-                Front::More if c.has_ended => return Err(End::Closed(c.cut().map_or("closed".to_string(), |cut| format!("closed: {cut}")))),
-                Front::More => return Ok(()),
+            // of no bytes there is nothing to ask
+            match if c.bytes().is_empty() { First::MoreNeeded } else { self.core.first(c.bytes()) } {
+                First::Began { used, outcome, .. } => self.begin(token, c, used, outcome)?,
+                First::TooLong => return Err(End::Fault(format!("closed: too long a frame: {} bytes announced", c.announced()))),
+                First::MoreNeeded if c.has_ended => return Err(End::Closed(c.cut().map_or("closed".to_string(), |cut| format!("closed: {cut}")))),
+                First::MoreNeeded => return Ok(()),
             }
         }
         if !c.is_ready {
@@ -71,52 +72,58 @@ impl Loop {
         Ok(())
     }
 
-    fn begin(&mut self, token: u64, c: &mut Connection, payload: Range<usize>) -> Result<(), End> {
+    /// A request whose first call came to this.
+    fn begin(&mut self, token: u64, c: &mut Connection, used: usize, first: Outcome) -> Result<(), End> {
         if self.set.log.has(Level::Info) {
-            let bytes = &c.bytes()[payload.clone()];
-            let size = if names::is_telling(bytes) { String::new() } else { format!(", {} bytes", bytes.len()) };
-            self.set.log.write(Level::Info, &c.name, &names::message(bytes), &format!("request{size}"));
+            let payload = c.payload();
+            let size = if names::is_telling(&payload) { String::new() } else { format!(", {} bytes", payload.len()) };
+            self.set.log.write(Level::Info, &c.name, &names::message(&payload), &format!("request{size}"));
         }
-        // lent before it is asked a standing answer changes nothing; the log is to show that it was asked
-        let gate = self.set.options.gate.standing().filter(|_| !self.set.log.has(Level::Info));
         c.has_more = false;
-        c.request = Some(Request { payload, lent: Lent { gate, ..Lent::default() }, waiting: None, about: 0, what: String::new() });
-        self.go_on(token, c)
+        let request = Request { used, lent: Lent::default(), waiting: None, about: 0, what: String::new() };
+        self.until_landed(token, c, request, Some(first))
     }
 
-    /// Calls until the request lands or waits.
+    /// Goes on with the request that waited, if one did.
     pub(super) fn go_on(&mut self, token: u64, c: &mut Connection) -> Result<(), End> {
-        let mut request = match c.request.take() {
-            Some(r) => r,
-            None => return Ok(()),
-        };
-        match self.step(token, c, &mut request)? {
+        match c.request.take() {
+            Some(request) => self.until_landed(token, c, request, None),
+            None => Ok(()),
+        }
+    }
+
+    /// Calls until the request lands or waits; what its first call came to is not asked again.
+    fn until_landed(&mut self, token: u64, c: &mut Connection, mut request: Request, first: Option<Outcome>) -> Result<(), End> {
+        match self.step(token, c, &mut request, first)? {
             Step::Wait(waiting, about, what) => {
                 c.request = Some(Request { waiting: Some(waiting), about, what, ..request });
                 Ok(())
             }
             Step::Close => {
-                self.set.log.write(Level::Info, &c.name, &names::message(&c.bytes()[request.payload.clone()]), "landed: close");
+                self.set.log.write(Level::Info, &c.name, &names::message(&c.payload()), "landed: close");
                 Err(End::Fault("closed".to_string()))
             }
             Step::Reply => {
                 if self.set.log.has(Level::Info) {
                     let text = format!("landed: {}", names::reply(self.core.reply()));
-                    self.set.log.write(Level::Info, &c.name, &names::message(&c.bytes()[request.payload.clone()]), &text);
+                    self.set.log.write(Level::Info, &c.name, &names::message(&c.payload()), &text);
                 }
-                c.drop_front(request.payload.end);
+                c.drop_front(request.used);
                 c.active = self.set.clock.reading();
                 Ok(c.send(self.core.reply())?)
             }
         }
     }
 
-    fn step(&mut self, token: u64, c: &Connection, request: &mut Request) -> Result<Step, End> {
+    fn step(&mut self, token: u64, c: &Connection, request: &mut Request, mut first: Option<Outcome>) -> Result<Step, End> {
+        let payload = c.payload();
         loop {
-            let payload = &c.bytes()[request.payload.clone()];
-            let outcome = self.core.call(payload, &request.lent);
+            let outcome = match first.take() {
+                Some(outcome) => outcome,
+                None => self.core.call(payload, &request.lent),
+            };
             if self.set.log.has(Level::Debug) {
-                self.set.log.write(Level::Debug, &c.name, &names::message(payload), &format!("call: {}", outcome_words(&outcome)));
+                self.set.log.write(Level::Debug, &c.name, &names::message(&payload), &format!("call: {}", outcome_words(&outcome)));
             }
             match outcome {
                 Outcome::Reply => return Ok(Step::Reply),
@@ -132,20 +139,20 @@ impl Loop {
     }
 
     /// Answers a question at once, where an answer stands, or hands it to whoever finds the answer.
-    fn meet(&mut self, token: u64, c: &Connection, payload: &[u8], lent: &mut Lent, question: Question) -> Result<Option<Step>, End> {
+    fn meet(&mut self, token: u64, c: &Connection, payload: Payload<'_>, lent: &mut Lent, question: Question) -> Result<Option<Step>, End> {
         match question {
             Question::Gate(class) => {
                 let what = format!("gate {}", names::class(class));
                 match self.standing(c, self.set.options.gate) {
-                    Some(yes) => lent.gate = Some(self.stands(c, payload, &what, yes)),
-                    None => return Ok(Some(Step::Wait(self.ask(token, c, payload, &what, None), 0, what))),
+                    Some(yes) => lent.gate = Some(self.stands(c, &payload, &what, yes)),
+                    None => return Ok(Some(Step::Wait(self.ask(token, c, &payload, &what, None), 0, what))),
                 }
             }
             Question::Confirmation { number } => {
                 let what = format!("confirm key {number}");
                 match self.standing(c, self.set.options.confirm) {
-                    Some(yes) => lent.confirmation = Some(Numbered { number, answer: self.stands(c, payload, &what, yes) }),
-                    None => return Ok(Some(Step::Wait(self.ask(token, c, payload, &what, Some(number)), number, what))),
+                    Some(yes) => lent.confirmation = Some(Numbered { number, answer: self.stands(c, &payload, &what, yes) }),
+                    None => return Ok(Some(Step::Wait(self.ask(token, c, &payload, &what, Some(number)), number, what))),
                 }
             }
             Question::Check(part) => {
@@ -233,7 +240,7 @@ impl Loop {
             }
         };
         let text = format!("{}? {result}", request.what);
-        self.set.log.write(Level::Info, &c.name, &names::message(c.payload()), &text);
+        self.set.log.write(Level::Info, &c.name, &names::message(&c.payload()), &text);
         self.go_on(token, c)?;
         self.take_turn(token, c)
     }
