@@ -2,7 +2,7 @@
 //! instructions from outside. Sides: core (the proved library), table (the same fixed table in Rust), russh (the unchanged `respond`).
 mod table;
 use agent_oracle::keys::agent::server::probe::Probe;
-use key_agent::{Answers, Gateway, Numbered, Outcome, Question, Reply};
+use key_agent::{split, Answers, First, Gateway, Numbered, Outcome, Payload, Question, Reply, Split};
 use std::hint::black_box;
 use std::time::Instant;
 
@@ -32,19 +32,27 @@ fn without_comments(mut r: Vec<u8>) -> Vec<u8> {
     }
     r
 }
-/// The requests of a work: with 8 keys held.
+/// The frames of a work: with 8 keys held.
 fn work(name: &str) -> Vec<Vec<u8>> {
-    match name {
+    let payloads = match name {
         "list" => vec![vec![11]],
         "sign" => vec![[vec![13], s(&key(7).1), s(&[7; 200]), vec![0; 4]].concat()],
         "add" => vec![add(7)],
         "lock+unlock" => vec![[vec![22], s(b"ab")].concat(), [vec![23], s(b"ab")].concat()],
         "empty" => vec![vec![]],
         w => panic!("unknown work {w}"),
+    };
+    payloads.iter().map(|p| s(p)).collect()
+}
+fn payload(frame: &[u8]) -> Payload<'_> {
+    match split(frame) {
+        Split::Frame { payload, .. } => payload,
+        other => panic!("{other:?}"),
     }
 }
 const WORKS: [&str; 5] = ["list", "sign", "add", "lock+unlock", "empty"];
-/// `core` and `table`: one call with all answers lent. `..-asked`: the calls of the loop, each question answered as it comes.
+/// `core` and `table`: one call on the payload with all answers lent. `..-asked`: the calls of the loop, each question answered as it comes; the
+/// core's first one is from the frame.
 const SIDES: [&str; 5] = ["core", "table", "core-asked", "table-asked", "russh"];
 
 /// A signature as the oracle's `scripted` signer makes it.
@@ -82,7 +90,8 @@ impl Side {
             _ => panic!("unknown side {name}"),
         };
         for i in 0..8 {
-            side.serve(&add(i));
+            let frame = s(&add(i));
+            side.serve(&frame, payload(&frame));
             assert_eq!(side.reply(), [0, 0, 0, 1, 6], "{name}");
         }
         // the eighth add took number 8; `add` replaces that key, so its number goes on
@@ -101,7 +110,7 @@ impl Side {
     }
     /// One request, to its landing.
     #[inline(never)]
-    fn serve(&mut self, p: &[u8]) {
+    fn serve(&mut self, frame: &[u8], p: Payload<'_>) {
         match self {
             Side::Core { g, reply, asked: false, lent, number } => {
                 let a = Answers {
@@ -114,26 +123,31 @@ impl Side {
             }
             Side::Core { g, reply, .. } => {
                 let (mut gate, mut check, mut made) = (None, None, None::<(u64, Vec<u8>)>);
+                let (p, mut outcome) = match g.first(frame, 5, reply) {
+                    First::Began { payload, outcome, .. } => (payload, outcome),
+                    other => panic!("{other:?}"),
+                };
                 loop {
-                    let signature_lent = made.as_ref().map(|(number, sig)| Numbered { number: *number, answer: Some(&sig[..]) });
-                    match g.call(p, 5, &Answers { gate, check, confirmation: None, signature: signature_lent }, reply) {
+                    match outcome {
                         Outcome::Reply => break,
                         Outcome::Asks(Question::Gate(_)) => gate = Some(true),
                         Outcome::Asks(Question::Check(_)) => check = Some(true),
                         Outcome::Asks(Question::Signature { number, data, .. }) => made = Some((number, signature(&p[data]))),
                         o => panic!("{o:?}"),
                     }
+                    let signature_lent = made.as_ref().map(|(number, sig)| Numbered { number: *number, answer: Some(&sig[..]) });
+                    outcome = g.call(p, 5, &Answers { gate, check, confirmation: None, signature: signature_lent }, reply);
                 }
             }
             Side::Table { t, reply, asked: false, lent, number } => {
                 let a = table::Answers { gate: Some(true), check: Some(true), confirmation: None, signature: Some((*number, Some(lent))) };
-                assert!(matches!(t.call(p, 5, a, reply), table::Outcome::Reply(_)));
+                assert!(matches!(t.call(&p, 5, a, reply), table::Outcome::Reply(_)));
             }
             Side::Table { t, reply, .. } => {
                 let (mut gate, mut check, mut made) = (None, None, None::<(u64, Vec<u8>)>);
                 loop {
                     let signature_lent = made.as_ref().map(|(number, sig)| (*number, Some(&sig[..])));
-                    match t.call(p, 5, table::Answers { gate, check, confirmation: None, signature: signature_lent }, reply) {
+                    match t.call(&p, 5, table::Answers { gate, check, confirmation: None, signature: signature_lent }, reply) {
                         table::Outcome::Reply(_) => break,
                         table::Outcome::Gate(_) => gate = Some(true),
                         table::Outcome::Check(..) => check = Some(true),
@@ -143,7 +157,7 @@ impl Side {
                 }
             }
             Side::Russh { p: probe, reply } => {
-                assert!(probe.call(p, reply));
+                assert!(probe.call(&p, reply));
                 // what the scripted signer keeps for `siglog`
                 if p.first() == Some(&13) {
                     agent_oracle::scripted::LOG.lock().unwrap().clear();
@@ -164,8 +178,8 @@ fn agree() {
                 let mut side = Side::new(n);
                 work(w)
                     .iter()
-                    .map(|p| {
-                        side.serve(p);
+                    .map(|frame| {
+                        side.serve(frame, payload(frame));
                         side.reply()
                     })
                     .collect()
@@ -182,10 +196,11 @@ fn main() {
     match a.get(1).map(String::as_str) {
         Some("count") => {
             let mut side = Side::new(&a[2]);
-            let w = work(&a[3]);
+            let frames = work(&a[3]);
+            let w: Vec<_> = frames.iter().map(|f| (f, payload(f))).collect();
             for _ in 0..a[4].parse::<u64>().expect("REQUESTS") {
-                for p in &w {
-                    side.serve(black_box(p));
+                for (frame, p) in &w {
+                    side.serve(black_box(frame), black_box(*p));
                 }
             }
         }
@@ -198,15 +213,16 @@ fn main() {
                 if w == "empty" {
                     names.extend(["core-sound", "table-sound"]);
                 }
-                let p = work(w);
+                let frames = work(w);
+                let p: Vec<_> = frames.iter().map(|f| (f, payload(f))).collect();
                 let mut sides: Vec<Side> = names.iter().map(|n| Side::new(n)).collect();
                 let mut times = vec![Vec::new(); names.len()];
                 for _ in 0..rounds {
                     for (side, t) in sides.iter_mut().zip(&mut times) {
                         let start = Instant::now();
                         for _ in 0..CALLS {
-                            for p in &p {
-                                side.serve(black_box(p));
+                            for (frame, p) in &p {
+                                side.serve(black_box(frame), black_box(*p));
                             }
                         }
                         t.push(start.elapsed().as_nanos() as f64 / (CALLS * p.len()) as f64);

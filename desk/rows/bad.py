@@ -10,7 +10,7 @@ import time
 
 from .agents import Desk
 from .base import AGENT, at, must, row, until
-from .frames import ADD, ADD_CONSTRAINED, EMPTY_LIST, FAILURE, LIST, LOCK, REMOVE, SIGN, SUCCESS, UNLOCK, Raw, receive, string
+from .frames import ADD, ADD_CONSTRAINED, EMPTY_LIST, FAILURE, LIST, LOCK, REMOVE, SIGN, SUCCESS, UNLOCK, Raw, receive, receive_all, string
 from .keys import blob_of, fields_of, sign_request
 from .processes import cpu
 from .tools import ended, fails, run, started, works
@@ -71,6 +71,41 @@ def _():
         must(ended(waits)[0] == 0, 'the open question suffers')
         works(a, 'ssh-add', '-X', word='night')
     return 'served; that connection closes at its fourth byte, an open question and the others go on'
+
+
+@row('first calls: two frames in one read, a frame in single bytes, frames of 0, 262,144 and 262,145 bytes, one behind the other (raw)')
+def _():
+    lock, unlock = string(LOCK + string(b'night')), string(UNLOCK + string(b'night'))
+    longest = string(LIST + bytes(262143))
+    with Desk() as a:
+        r = Raw(a)
+        r.send(lock + unlock)
+        must(receive_all(r.conn, 2) == [SUCCESS, SUCCESS], 'two in one')
+        for b in lock[:-1]:
+            r.send(bytes([b]))
+            time.sleep(0.01)
+        must(Raw(a).ask(LIST) == EMPTY_LIST, 'a cut LOCK locks')
+        r.send(lock[-1:] + string(LIST) + string(b'') + unlock[:3])
+        must(receive_all(r.conn, 3) == [SUCCESS, FAILURE, FAILURE], 'the last byte, and two frames behind it')
+        r.send(unlock[3:] + string(b''))
+        must(receive_all(r.conn, 2) == [SUCCESS, FAILURE], 'a frame of 0 bytes')
+        r.send(longest + string(LIST) + longest[:200000])
+        must(receive_all(r.conn, 2) == [EMPTY_LIST, EMPTY_LIST], 'the longest, and one behind it')
+        r.send(longest[200000:] + struct.pack('>I', 262145) + LIST)
+        must(receive_all(r.conn, 1) == [EMPTY_LIST], 'the longest in two')
+        must(r.is_closed(), 'too long a frame')
+        must(Raw(a).ask(LIST) == EMPTY_LIST, 'others suffer')
+        must(len(re.findall('landed', a.log())) == 12, 'each frame lands once')
+    with Desk('--gate', 'ask') as a:
+        r = Raw(a)
+        r.send(string(LIST) + lock)
+        q = a.waiting('RequestKeys')[0]
+        must(Raw(a).ask(b'') == FAILURE and a.waiting('') == [q], 'the second is asked about while the first waits')
+        a.answer(q, True)
+        must(receive_all(r.conn, 1) == [EMPTY_LIST], 'the first')
+        a.answer(a.waiting('Lock')[0], True)
+        must(receive_all(r.conn, 1) == [SUCCESS], 'the second')
+    return 'each frame is one request, in its order; none is taken before it is whole, nor while the one before it waits; then 262,145 closes'
 
 
 @row('damaged requests: SIGN with a cut blob, data, flags; ADD cut at each byte; LOCK of 1,025 bytes (raw)')

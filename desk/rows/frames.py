@@ -34,6 +34,22 @@ def receive(conn):
     return got[4:]
 
 
+def receive_all(conn, n):
+    """The payloads of the next n frames, which may come in one; the connection stays open."""
+    got, found = b'', []
+    while len(found) < n:
+        while len(got) >= 4 and len(got) >= 4 + struct.unpack('>I', got[:4])[0]:
+            end = 4 + struct.unpack('>I', got[:4])[0]
+            found.append(got[4:end])
+            got = got[end:]
+        if len(found) < n:
+            part = conn.recv(65536)
+            if not part:
+                return found
+            got += part
+    return found + [got] * (got != b'')
+
+
 class Raw:
     def __init__(self, agent):
         self.conn = socket.socket(socket.AF_UNIX)

@@ -2,7 +2,7 @@
 //! check that ssh-key makes and the signer that the oracle `scripted` has.
 use crate::stale::addition;
 use crate::{ed25519, hex, items, sorted, string, strings, unhex};
-use key_agent::{split, Answers, Gateway, Hash, Numbered, Outcome, Question, Reply, Split};
+use key_agent::{split, Answers, First, Gateway, Hash, Numbered, Outcome, Payload, Question, Reply, Split};
 use std::collections::{HashMap, VecDeque};
 
 /// Does the library take these key fields, which 01 has parsed? The Rust's check is what its key decoder does beyond 01: an Ed25519 seed must
@@ -35,7 +35,7 @@ pub fn signature(fields: &[u8], data: &[u8], hash: Hash, standin: bool) -> Vec<u
 /// A request on its way, with the answers that it has.
 #[derive(Clone, Default)]
 pub struct Request {
-    pub payload: Vec<u8>,
+    frame: Vec<u8>,
     pub gate: Option<bool>,
     pub check: Option<bool>,
     pub confirmation: Option<Numbered<bool>>,
@@ -47,6 +47,13 @@ pub struct Request {
     pub hash: Option<Hash>,
 }
 impl Request {
+    pub fn payload(&self) -> Payload<'_> {
+        match split(&self.frame) {
+            Split::Frame { payload, .. } => payload,
+            other => panic!("{other:?}"),
+        }
+    }
+
     pub fn answers(&self) -> Answers<'_> {
         Answers {
             gate: self.gate,
@@ -67,6 +74,17 @@ pub struct Landing {
     pub full: Option<Vec<Vec<u8>>>,
     pub outcome: Outcome,
     pub reply: Vec<u8>,
+}
+
+/// What a call finds.
+struct Found {
+    was_locked: bool,
+    full: Option<Vec<Vec<u8>>>,
+}
+impl Found {
+    fn of(g: &Gateway) -> Found {
+        Found { was_locked: g.is_locked(), full: (g.keys().count() == 8).then(|| g.keys().map(|k| k.blob.to_vec()).collect()) }
+    }
 }
 
 #[derive(Default)]
@@ -177,16 +195,16 @@ impl World {
         if c.request.is_some() {
             return "wait".into();
         }
-        match split(&c.bytes) {
-            Split::MoreNeeded => "wait".into(),
-            Split::TooLong => {
+        let found = Found::of(&self.gateway);
+        match self.gateway.first(&c.bytes, self.clock, &mut self.reply) {
+            First::MoreNeeded => "wait".into(),
+            First::TooLong => {
                 self.conns.remove(name);
                 "close".into()
             }
-            Split::Frame(part) => {
-                let payload = c.bytes[part.clone()].to_vec();
-                c.bytes.drain(..part.end);
-                self.step(name, Request { payload, ..Request::default() })
+            First::Began { used, outcome, .. } => {
+                let frame = c.bytes.drain(..used).collect();
+                self.step(name, Request { frame, ..Request::default() }, Some((found, outcome)))
             }
         }
     }
@@ -197,10 +215,10 @@ impl World {
             Question::Gate(_) => r.gate = Some(yes),
             Question::Confirmation { number } => r.confirmation = Some(Numbered { number, answer: yes }),
             // held questions are answered by library and signer, whatever `ans` says
-            Question::Check(part) => r.check = Some(self.standin || library_accepts(&r.payload[part], &mut self.known)),
-            Question::Signature { number, data, hash } => r.signature = Some((number, self.sign(number, &r.payload[data], hash))),
+            Question::Check(part) => r.check = Some(self.standin || library_accepts(&r.payload()[part], &mut self.known)),
+            Question::Signature { number, data, hash } => r.signature = Some((number, self.sign(number, &r.payload()[data], hash))),
         }
-        self.step(name, r)
+        self.step(name, r, None)
     }
 
     /// The signer: nothing if the key has gone meanwhile (the answer is then for an old number), or if the signature would be refused.
@@ -229,12 +247,13 @@ impl World {
         }
     }
 
-    /// Calls until the request lands or a question stays open.
-    fn step(&mut self, name: &str, mut r: Request) -> String {
+    /// Calls until the request lands or a question stays open; what its first call found and came to, where that is made.
+    fn step(&mut self, name: &str, mut r: Request, mut first: Option<(Found, Outcome)>) -> String {
         loop {
-            let was_locked = self.gateway.is_locked();
-            let full = (self.gateway.keys().count() == 8).then(|| self.gateway.keys().map(|k| k.blob.to_vec()).collect());
-            let outcome = self.gateway.call(&r.payload, self.clock, &r.answers(), &mut self.reply);
+            let (found, outcome) = first.take().unwrap_or_else(|| {
+                (Found::of(&self.gateway), self.gateway.call(r.payload(), self.clock, &r.answers(), &mut self.reply))
+            });
+            let Found { was_locked, full } = found;
             let q = match outcome {
                 Outcome::Asks(q) => q,
                 Outcome::Refused(why) => panic!("{why}"),
@@ -249,7 +268,7 @@ impl World {
                         format!("reply {}", hex(&reply))
                     };
                     if outcome == Outcome::Reply {
-                        self.compare_comments(&r.payload, &reply);
+                        self.compare_comments(&r.payload(), &reply);
                     }
                     let clock = self.gateway.clock();
                     self.landings.push(Landing { conn: name.to_string(), request: r, clock, was_locked, full, outcome, reply });
@@ -279,8 +298,8 @@ impl World {
             match r.open.take().unwrap() {
                 Question::Gate(_) => r.gate = Some(said == 'y'),
                 Question::Confirmation { number } => r.confirmation = Some(Numbered { number, answer: said == 'y' }),
-                Question::Check(part) => r.check = Some(self.standin || library_accepts(&r.payload[part], &mut self.known)),
-                Question::Signature { number, data, hash } => r.signature = Some((number, self.sign(number, &r.payload[data], hash))),
+                Question::Check(part) => r.check = Some(self.standin || library_accepts(&r.payload()[part], &mut self.known)),
+                Question::Signature { number, data, hash } => r.signature = Some((number, self.sign(number, &r.payload()[data], hash))),
             }
         }
     }

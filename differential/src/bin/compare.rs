@@ -399,13 +399,13 @@ fn replay(landings: &[Landing], mut end: Gateway, clock: u64) -> Result<u64, Str
     let mut g = Gateway::new();
     let mut reply = Reply::new();
     for (i, l) in landings.iter().enumerate() {
-        let o = g.call(&l.request.payload, l.clock, &l.request.answers(), &mut reply);
+        let o = g.call(l.request.payload(), l.clock, &l.request.answers(), &mut reply);
         if o != l.outcome || reply.bytes() != l.reply {
             return Err(format!("landing {i} ({}): {:?} {} alone, {:?} {} crossing", l.conn, o, hex(reply.bytes()), l.outcome, hex(&l.reply)));
         }
     }
     for gateway in [&mut g, &mut end] {
-        gateway.call(&[], clock, &Default::default(), &mut reply);
+        gateway.call(Default::default(), clock, &Default::default(), &mut reply);
     }
     if g != end {
         return Err(format!("ends differ: {g:?} alone, {end:?} crossing"));
@@ -472,7 +472,7 @@ fn judge_crossing(s: &Segment, ours: &[String], rust: &[String], predicted: &[St
         } else if p[0] == 13 && asked && l.request.confirmations > 0 && l.request.confirmations < 2 && l.request.signature.is_none() && mine[i] == FAILURE && l.request.confirmation.is_some_and(|c| c.answer) {
             let blob = strings(&p[1..], 1).0[0];
             let removed = landings[..at].iter().any(|x| {
-                x.reply == [0, 0, 0, 1, 6] && (x.request.payload[0] == 19 || x.request.payload[0] == 18 && strings(&x.request.payload[1..], 1).0[0] == blob)
+                x.reply == [0, 0, 0, 1, 6] && (x.request.payload()[0] == 19 || x.request.payload()[0] == 18 && strings(&x.request.payload()[1..], 1).0[0] == blob)
             });
             Some(format!("sign with a key that {} while its confirmation was open", if removed { "was removed" } else { "expired" }))
         } else if p[0] == 13 && asked && l.request.confirmation.zip(l.request.signature.as_ref()).is_some_and(|(c, s)| c.number != s.0) {
