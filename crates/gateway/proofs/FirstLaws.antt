@@ -1,8 +1,8 @@
 -- The flat values of a first call say what they stand for, case by case; what it gave meets the contract of `first_call`, so all that is promised of that
 -- holds of it; and the parts that it names lie in the connection's bytes, since they lie in the payload. Assumes nothing.
-use Prim.Native.Nat.{ℕ, _+_, _≤_}
+use Prim.Native.Nat.{ℕ, _+_}
 use mathlib.Core.Path.{_≡_, refl, sym, ap, _∙_, subst}
-use mathlib.Core.Logic.{_≢_}
+use mathlib.Core.Logic.{inl, inr}
 use mathlib.Core.List.{List, [], _∷_}
 use native.Mathlib.Omega.{arith}
 use lib.ListN.{length}
@@ -16,18 +16,16 @@ use Rattle.table.specs.declared.State.{State}
 use Rattle.requests.specs.declared.Outcome.{Outcome}
 use Rattle.requests.specs.declared.Outcome.the-variants.{Gate, Check, Confirm, Sign, Reply, Close}
 use Rattle.requests.specs.declared.Outcome.the-variants as outcome
-use Rattle.server.specs.declared.first.First.{First}
 use Rattle.server.specs.declared.first.First.the-variants.{MoreNeeded, TooLong, Refused, Began}
 use Rattle.server.specs.Calls.{callOf}
-use Rattle.server.specs.First.{firstValues, nothingLent, firstIn, FirstDone, firstBy, firstOf}
+use Rattle.server.specs.First.{nothingLent, firstIn, firstBy, firstOf}
 use Rattle.server.specs.FirstPromises.{FirstStep, ByFirst}
 use Rattle.server.proofs.FirstLaws.{firsts-apart}
 use Rattle.server.proofs.FirstRuns.{first-promises}
-use Rattle.gateway.specs.declared.flat.FlatFirst.{FlatFirst}
 use Rattle.gateway.specs.Flat.{numbered, flatOf, flatFirst}
-use Rattle.gateway.specs.Promises.{flatFirstValues, SameFirstValues, FlatFirstApart, FlatFirstUnused, ByExport, ByFirstExport, FirstExportPromises, NamesWithin, FirstNames, FirstNamesWithin}
+use Rattle.gateway.specs.Promises.{flatFirstValues, SameFirstValues, FlatFirstApart, FlatFirstUnused, ByExport, ByFirstExport, FirstExportPromises, NamesWithin, FirstUnusedZero, FirstFields, FirstsTell, CallPartsLie}
 use Rattle.gateway.proofs.FlatLaws.{same-values, flat-unused}
-use Rattle.gateway.proofs.WithinLaws.{call-names-within}
+use Rattle.gateway.proofs.WithinLaws.{call-names-within, calls-name-within}
 use Rattle.gateway.proofs.ExportLaws.{export-calls}
 
 -- ## Its values
@@ -63,55 +61,84 @@ export-first state store f x =
 pub first-export-promises : FirstExportPromises
 first-export-promises = first-promises ByFirstExport export-first ByExport export-calls
 
--- ## What it names
+-- ## Its fields
 
 module _ (bytes buffer : List ℕ) where
-  -- nothing is named and nothing used
-  unbegun-names : (kind n : ℕ) → kind ≢ 3 → FirstNames bytes buffer (record { kind = kind; used = 0; outcome = numbered 0 n })
-  unbegun-names kind n other = record {
-    names = record { ordered = omega arith; of-payload = λ _. omega arith; of-reply = λ _. omega arith };
-    used-within = omega arith;
-    part-lies = λ never. absurd (other never);
-    before-end = λ never. absurd (other never);
-  }
+  -- nothing has begun: nothing is named and nothing used
+  names-nothing : (n : ℕ) → NamesWithin (framePayload bytes) buffer (numbered 0 n)
+  names-nothing n = record { ordered = omega arith; of-payload = λ _. omega arith; of-reply = λ _. omega arith }
 
   module _ (whole : splitNumber (splitOf bytes) ≡ 2) where
     abbrev frameEnd : ℕ
     frameEnd = 4 + length (framePayload bytes)
 
-    begun-names : (o : Outcome) → NamesWithin (framePayload bytes) buffer (flatOf o) → FirstNames bytes buffer (record { kind = 3; used = frameEnd; outcome = flatOf o })
-    begun-names o names = record {
+    begun-fields : (o : Outcome) → NamesWithin (framePayload bytes) buffer (flatOf o) → FirstUnusedZero (record { kind = 3; used = frameEnd; outcome = flatOf o })
+        → FirstFields bytes buffer (record { kind = 3; used = frameEnd; outcome = flatOf o })
+    begun-fields o names unused = record {
+      more-needed = λ never. absurd (omega (arith, whole, never));
+      too-long = λ never. absurd (omega (arith, whole, never));
+      whole = λ _. inr refl;
+      used = λ _. refl;
+      within = whole-frame bytes whole .within;
       names = names;
-      used-within = whole-frame bytes whole .within;
-      part-lies = λ _ other. frame-parts bytes (flatOf o .from) (flatOf o .to) whole (names .ordered) (names .of-payload other) .bytes;
-      before-end = λ _ other. omega (arith, names .of-payload other);
+      unused = unused;
     }
 
-    first-names : (o : Outcome) → NamesWithin (framePayload bytes) buffer (flatOf o) → FirstNames bytes buffer (flatFirst (firstIn frameEnd o))
+    called-fields : (o : Outcome) → NamesWithin (framePayload bytes) buffer (flatOf o) → FirstUnusedZero (flatFirst (firstIn frameEnd o)) → FirstFields bytes buffer (flatFirst (firstIn frameEnd o))
     unfolding firstIn flatFirst
-    first-names (outcome.Refused n) names = unbegun-names 2 n (λ never. omega (arith, never))
-    first-names (Gate class) names = begun-names (Gate class) names
-    first-names (Check from to) names = begun-names (Check from to) names
-    first-names (Confirm n) names = begun-names (Confirm n) names
-    first-names (Sign n from to hash) names = begun-names (Sign n from to hash) names
-    first-names (Reply n) names = begun-names (Reply n) names
-    first-names Close names = begun-names Close names
+    called-fields (outcome.Refused n) names unused = record {
+      more-needed = λ never. absurd (omega (arith, whole, never));
+      too-long = λ never. absurd (omega (arith, whole, never));
+      whole = λ _. inl refl;
+      used = λ never. absurd (omega (arith, never));
+      within = omega arith;
+      names = names-nothing n;
+      unused = unused;
+    }
+    called-fields (Gate class) names unused = begun-fields (Gate class) names unused
+    called-fields (Check from to) names unused = begun-fields (Check from to) names unused
+    called-fields (Confirm n) names unused = begun-fields (Confirm n) names unused
+    called-fields (Sign n from to hash) names unused = begun-fields (Sign n from to hash) names unused
+    called-fields (Reply n) names unused = begun-fields (Reply n) names unused
+    called-fields Close names unused = begun-fields Close names unused
 
 module _ (state : State) (store bytes : List ℕ) (reading : Millis) (buffer : List ℕ) (eight : length (state .entries) ≡ 8) (long : length (state .lock .bytes) ≡ passphraseLimit) where
-  names-by : (x : Split) → splitOf bytes ≡ x → FirstNames bytes buffer (flatFirst (firstBy state store bytes reading buffer x .first))
+  fields-by : (x : Split) → splitOf bytes ≡ x → FirstFields bytes buffer (flatFirst (firstBy state store bytes reading buffer x .first))
   unfolding firstBy flatFirst
-  names-by split.MoreNeeded e = unbegun-names bytes buffer 0 0 (λ never. omega (arith, never))
-  names-by split.TooLong e = unbegun-names bytes buffer 1 0 (λ never. omega (arith, never))
-  names-by (split.Frame from to) e =
+  fields-by split.MoreNeeded e = record {
+    more-needed = λ _. refl;
+    too-long = λ never. absurd (omega (arith, ap splitNumber e, never));
+    whole = λ never. absurd (omega (arith, ap splitNumber e, never));
+    used = λ never. absurd (omega (arith, never));
+    within = omega arith;
+    names = names-nothing bytes buffer 0;
+    unused = flat-first-unused MoreNeeded;
+  }
+  fields-by split.TooLong e = record {
+    more-needed = λ never. absurd (omega (arith, ap splitNumber e, never));
+    too-long = λ _. refl;
+    whole = λ never. absurd (omega (arith, ap splitNumber e, never));
+    used = λ never. absurd (omega (arith, never));
+    within = omega arith;
+    names = names-nothing bytes buffer 0;
+    unused = flat-first-unused TooLong;
+  }
+  fields-by (split.Frame from to) e =
       let whole = ap splitNumber e in
       let end : to ≡ 4 + length (framePayload bytes) = same-end (sym e ∙ whole-frame bytes whole .is) in
       let o = callOf state store (framePayload bytes) reading nothingLent [] buffer .called .outcome in
-      rw end (first-names bytes buffer whole o (call-names-within state store (framePayload bytes) reading nothingLent [] buffer eight long))
+      rw end
+      (called-fields bytes buffer whole o (call-names-within state store (framePayload bytes) reading nothingLent [] buffer eight long) (flat-first-unused (firstIn (frameEnd bytes buffer whole) o)))
     where
       same-end : {f g s t : ℕ} → split.Frame f s ≡ split.Frame g t → s ≡ t
       same-end is = cc
 
-pub first-names-within : FirstNamesWithin
+pub firsts-tell : FirstsTell
 unfolding firstOf
-first-names-within state store bytes reading buffer x after storeAfter reply eight long m =
-    subst (FirstNames bytes buffer) (sym (m .first-is)) (names-by state store bytes reading buffer eight long (splitOf bytes) refl)
+firsts-tell state store bytes reading buffer x after storeAfter reply eight long m =
+    subst (FirstFields bytes buffer) (sym (m .first-is)) (fields-by state store bytes reading buffer eight long (splitOf bytes) refl)
+
+pub call-parts-lie : CallPartsLie
+call-parts-lie state store bytes reading answers signature buffer outcome after storeAfter reply eight long whole m other =
+    let names = calls-name-within state store (framePayload bytes) reading answers signature buffer outcome after storeAfter reply eight long m .0 in
+    frame-parts bytes (outcome .from) (outcome .to) whole (names .ordered) (names .of-payload other)

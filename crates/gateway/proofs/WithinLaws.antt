@@ -37,7 +37,8 @@ use Rattle.requests.specs.Outcomes.{lentOf, code}
 use Rattle.requests.specs.Ends.{Done, laidOut}
 use Rattle.server.specs.Calls.{callOf}
 use Rattle.gateway.specs.Flat.{answersOf, flatOf}
-use Rattle.gateway.specs.Promises.{NamesWithin, CallsNameWithin}
+use Rattle.gateway.specs.Promises.{UnusedZero, NamesWithin, CallsNameWithin}
+use Rattle.gateway.proofs.FlatLaws.{flat-unused}
 
 -- ## What a plan asks
 
@@ -227,5 +228,7 @@ call-names-within state store payload reading answers bytes buffer eight long =
     (λ n _. record { ordered = omega arith; of-payload = λ _. omega arith; of-reply = λ _. omega arith })
 
 pub calls-name-within : CallsNameWithin
-calls-name-within state store payload reading answers bytes buffer outcome after storeAfter out eight long m =
-    subst (NamesWithin payload buffer) (sym (m .outcome-is)) (call-names-within state store payload reading (answersOf answers) bytes buffer eight long)
+calls-name-within state store payload reading answers bytes buffer outcome after storeAfter out eight long m = (
+  subst (NamesWithin payload buffer) (sym (m .outcome-is)) (call-names-within state store payload reading (answersOf answers) bytes buffer eight long),
+  subst UnusedZero (sym (m .outcome-is)) (flat-unused (callOf state store payload reading (answersOf answers) bytes buffer .called .outcome)),
+)

@@ -11,7 +11,7 @@ use Rattle.wire.specs.Limits.{passphraseLimit, replyRoom}
 use Rattle.wire.specs.Numbers.{Bytes}
 use Rattle.wire.specs.Read.{cutOf}
 use Rattle.wire.specs.Frames.{splitOf, splitNumber, framePayload}
-use Rattle.wire.specs.Promises.{OneToOne}
+use Rattle.wire.specs.Promises.{OneToOne, LiesIn}
 use Rattle.rule.specs.declared.Millis.{Millis}
 use Rattle.rule.specs.Gateway.{zeroMillis}
 use Rattle.rule.specs.Examples.{oneKey, signWith}
@@ -121,13 +121,14 @@ pub record NamesWithin (payload buffer : List ℕ) (o : FlatOutcome) : Type 0 wh
   pub of-payload : (o .kind ≡ 5 → ⊥) → o .to ≤ length payload
   pub of-reply : o .kind ≡ 5 → o .to ≤ length buffer
 
--- for every call; a state's two arrays have the lengths of their types
+-- for every call, and the fields without meaning are 0; a state's two arrays have the lengths of their types
 abbrev pub CallsNameWithin : Type 0
 CallsNameWithin =
     (state : State) (store payload : List ℕ) (reading : Millis) (answers : FlatAnswers) (signature buffer : List ℕ) (outcome : FlatOutcome) (after : State)
     (storeAfter reply : List ℕ)
     → length (state .entries) ≡ 8 → length (state .lock .bytes) ≡ passphraseLimit
-    → FlatMeets state store payload reading answers signature buffer outcome after storeAfter reply → NamesWithin payload buffer outcome
+    → FlatMeets state store payload reading answers signature buffer outcome after storeAfter reply
+    → NamesWithin payload buffer outcome × UnusedZero outcome
 
 -- ## The exported call
 
@@ -220,21 +221,31 @@ pub record ByFirstExport (state : State) (store : List ℕ) (f : FirstStep) : Ty
   pub ended-is : f .gave .ended ≡ flatFirstValues first
   pub meets : FlatFirstMeets state store (f .bytes) (f .reading) (f .buffer) first (f .gave .state) (f .gave .store) (f .gave .reply)
 
--- all that is promised of `first_call`, and runs of it and of the exported call
+-- all that is promised of `first_call`, also of runs of `key_agent_first` and `key_agent_call`
 abbrev pub FirstExportPromises : Type 0
 FirstExportPromises = FirstPromises ByFirstExport ByExport
 
--- the outcome's parts are places in the payload, as at later calls; and where such a part lies in the connection's bytes: four further on, before
--- what is used ends
-pub record FirstNames (bytes buffer : List ℕ) (x : FlatFirst) : Type 0 where
+-- field by field: the kind goes by what the splitter says; where a request has begun, its frame is used; the outcome names parts of the payload
+pub record FirstFields (bytes buffer : List ℕ) (x : FlatFirst) : Type 0 where
+  pub more-needed : splitNumber (splitOf bytes) ≡ 0 → x .kind ≡ 0
+  pub too-long : splitNumber (splitOf bytes) ≡ 1 → x .kind ≡ 1
+  pub whole : splitNumber (splitOf bytes) ≡ 2 → (x .kind ≡ 2) ⊎ (x .kind ≡ 3)
+  pub used : x .kind ≡ 3 → x .used ≡ 4 + length (framePayload bytes)
+  pub within : x .used ≤ length bytes
   pub names : NamesWithin (framePayload bytes) buffer (x .outcome)
-  pub used-within : x .used ≤ length bytes
-  pub part-lies : x .kind ≡ 3 → x .outcome .kind ≢ 5
-      → cutOf (framePayload bytes) (x .outcome .from) (x .outcome .to) ≡ cutOf bytes (4 + x .outcome .from) (4 + x .outcome .to)
-  pub before-end : x .kind ≡ 3 → x .outcome .kind ≢ 5 → 4 + x .outcome .to ≤ x .used
+  pub unused : FirstUnusedZero x
 
-abbrev pub FirstNamesWithin : Type 0
-FirstNamesWithin =
+abbrev pub FirstsTell : Type 0
+FirstsTell =
     (state : State) (store bytes : List ℕ) (reading : Millis) (buffer : List ℕ) (x : FlatFirst) (after : State) (storeAfter reply : List ℕ)
     → length (state .entries) ≡ 8 → length (state .lock .bytes) ≡ passphraseLimit
-    → FlatFirstMeets state store bytes reading buffer x after storeAfter reply → FirstNames bytes buffer x
+    → FlatFirstMeets state store bytes reading buffer x after storeAfter reply → FirstFields bytes buffer x
+
+-- and where a part that a call on the payload names lies in the connection's bytes
+abbrev pub CallPartsLie : Type 0
+CallPartsLie =
+    (state : State) (store bytes : List ℕ) (reading : Millis) (answers : FlatAnswers) (signature buffer : List ℕ) (outcome : FlatOutcome) (after : State)
+    (storeAfter reply : List ℕ)
+    → length (state .entries) ≡ 8 → length (state .lock .bytes) ≡ passphraseLimit → splitNumber (splitOf bytes) ≡ 2
+    → FlatMeets state store (framePayload bytes) reading answers signature buffer outcome after storeAfter reply → outcome .kind ≢ 5
+    → LiesIn bytes (outcome .from) (outcome .to)

@@ -1,13 +1,13 @@
 -- A first call by what the splitter says: more needed and too long leave all as it was; a whole frame is the call on its payload, whose laws carry over.
 -- Assumed: a first call that meets the contract of `first_call` (`ByFirst`).
 use Prim.Native.Nat.{ℕ, _+_, _≤_, _<_}
-use mathlib.Core.Path.{_≡_, refl, sym, ap, ap₂, _∙_, subst}
+use mathlib.Core.Path.{_≡_, refl, sym, ap, _∙_, subst}
 use mathlib.Core.Logic.{_⊎_, inl, inr}
 use mathlib.Core.Bool.{Bool, true, false, not, cond}
 use mathlib.Core.Option.{Option, none, some}
-use mathlib.Core.List.{List, [], _∷_, _++_}
+use mathlib.Core.List.{List, [], _∷_}
 use native.Mathlib.Omega.{arith}
-use borrow.Author.Tests.{ltb-true, le-ltb}
+use borrow.Author.Tests.{le-ltb}
 use lib.Dec.{eqb, ltb}
 use lib.ListN.{length, getD, drop}
 use lib.Seq.{drop-at}
@@ -27,7 +27,7 @@ use Rattle.rule.proofs.PlaceLaws.{some-not-none}
 use Rattle.rule.proofs.RowLaws.{rows-cases}
 use Rattle.table.specs.declared.State.{State}
 use Rattle.table.specs.Meaning.{gatewayOf}
-use Rattle.table.specs.Soundness.{soundState, Sound}
+use Rattle.table.specs.Soundness.{soundState}
 use Rattle.requests.specs.declared.Signed.the-variants.{Missing, Given}
 use Rattle.requests.specs.declared.Answers.{Answers}
 use Rattle.requests.specs.declared.Outcome.{Outcome}
@@ -41,9 +41,9 @@ use Rattle.server.specs.declared.first.First.the-variants.{MoreNeeded, T
 use Rattle.server.specs.Calls.{callOf}
 use Rattle.server.specs.First.{firstValues, nothingLent, firstIn, FirstDone, firstBy, firstOf}
 use Rattle.server.specs.Runs.{Gave, Step, ByCall, EndedWith, Unchanged, EndsAs, asCall}
-use Rattle.server.specs.FirstPromises.{FirstsApart, FirstStep, firstGiving, ByFirst, Told, Whole, payloadIn, Untouched, OnPayload, AsCalled, TwoSteps}
-use Rattle.server.specs.FirstPromises.{FirstRefusalsInOrder, FirstRefused, Uses, UsesFrame, GateOrFailure, endedIn, stepIn, isMade}
-use Rattle.server.specs.FirstPromises.{FirstNoSecondAnswer, FirstIsTwoSteps, FirstRefusals, FirstRefusedRule, FirstUses, FirstUsesFrame, FirstAsks}
+use Rattle.server.specs.FirstPromises.{FirstsApart, FirstStep, firstGiving, ByFirst, FirstEnded, Whole, payloadIn, FirstUnchanged, OnPayload, AsCalled}
+use Rattle.server.specs.FirstPromises.{GateOrFailure, endedIn, stepIn, isMade}
+use Rattle.server.specs.FirstPromises.{FirstNoSecondAnswer, FirstIsTwoSteps, FirstRefusals, FirstRefusedRule, FirstUses, FirstUsesFrame, FirstAsks, FirstMade}
 use Rattle.server.proofs.Leavings.{gaveOf, call-gives, refused-first, code-refusals, code-refusal-leaves, step-ends}
 
 -- ## Its number and values
@@ -76,17 +76,17 @@ refusal-said used n (Reply m) e = absurd (omega (arith, ap (λ (vs : List ℕ). 
 refusal-said used n Close e = absurd (omega (arith, ap (λ (vs : List ℕ). getD vs 0 0) e))
 
 -- what is said of an outcome with the bytes that its frame takes
-record Said (used : ℕ) (o : Outcome) (values : List ℕ) : Type 0 where
+record Values (used : ℕ) (o : Outcome) (values : List ℕ) : Type 0 where
   made : ltb 1 (getD values 0 0) ≡ true
   ended : endedIn values ≡ outcomeValues o
   number : (n : ℕ) → values ≡ 2 ∷ n ∷ [] → outcomeValues o ≡ 0 ∷ n ∷ []
   begun : ((n : ℕ) → ¬ (outcomeValues o ≡ 0 ∷ n ∷ [])) → values ≡ 3 ∷ used ∷ outcomeValues o
   uses : getD values 0 0 ≡ 3 → getD values 1 0 ≡ used
 
-began : (used : ℕ) (o : Outcome) → Said used o (3 ∷ used ∷ outcomeValues o)
+began : (used : ℕ) (o : Outcome) → Values used o (3 ∷ used ∷ outcomeValues o)
 began used o = record { made = refl; ended = refl; number = λ n e. absurd (omega (arith, ap (λ (vs : List ℕ). getD vs 0 0) e)); begun = λ _. refl; uses = λ _. refl }
 
-said : (used : ℕ) (o : Outcome) → Said used o (firstValues (firstIn used o))
+said : (used : ℕ) (o : Outcome) → Values used o (firstValues (firstIn used o))
 unfolding firstIn
 said used (outcome.Refused n) = record {
   made = refl;
@@ -125,7 +125,7 @@ module _ (state : State) (store payload : List ℕ) (reading : Millis) (buffer :
       (laidOut buffer (served (advance reading (gatewayOf state store)) (record { payload = payload }) l))
       (λ n. record { called = record { outcome = outcome.Refused n; state = state }; store = store; reply = buffer })) e
 
-nothing-is-lent : lentOf nothingLent [] ≡ rule.nothingLent
+pub nothing-is-lent : lentOf nothingLent [] ≡ rule.nothingLent
 unfolding lentOf
 nothing-is-lent = refl
 
@@ -144,11 +144,11 @@ module _ (state : State) (store : List ℕ) (f : FirstStep) (m : ByFirst state s
   gave-by x e = first-gives state store f m ∙ ap (λ (y : Split). gaveFirst (firstBy state store (f .bytes) (f .reading) (f .buffer) y)) e
 
   -- nothing was done
-  record Nothing (n : ℕ) : Type 0 where
-    told : Told (n ∷ []) f
-    untouched : Untouched state store f
+  record NoneMade (n : ℕ) : Type 0 where
+    told : FirstEnded (n ∷ []) f
+    untouched : FirstUnchanged state store f
 
-  nothing-done : (x : First) → f .gave ≡ record { ended = firstValues x; state = state; store = store; reply = f .buffer } → Untouched state store f
+  nothing-done : (x : First) → f .gave ≡ record { ended = firstValues x; state = state; store = store; reply = f .buffer } → FirstUnchanged state store f
   nothing-done x e = record { state-stays = ap (λ (g : Gave). g .state) e; store-stays = ap (λ (g : Gave). g .store) e; buffer-stays = ap (λ (g : Gave). g .reply) e }
 
   -- a call was made
@@ -156,20 +156,20 @@ module _ (state : State) (store : List ℕ) (f : FirstStep) (m : ByFirst state s
     whole : WholeFrame (f .bytes)
     gave-is : f .gave ≡ record { ended = firstValues (firstIn frameEnd (onPayload .called .outcome)); state = onPayload .called .state; store = onPayload .store; reply = onPayload .reply }
 
-  when-more : splitNumber (splitOf (f .bytes)) ≡ 0 → Nothing 0
+  when-more : splitNumber (splitOf (f .bytes)) ≡ 0 → NoneMade 0
   unfolding firstBy
   when-more few = by (splitOf (f .bytes)) refl few
     where
-      by : (x : Split) → splitOf (f .bytes) ≡ x → splitNumber x ≡ 0 → Nothing 0
+      by : (x : Split) → splitOf (f .bytes) ≡ x → splitNumber x ≡ 0 → NoneMade 0
       by split.MoreNeeded e _ = record { told = ap (λ (g : Gave). g .ended) (gave-by split.MoreNeeded e); untouched = nothing-done MoreNeeded (gave-by split.MoreNeeded e) }
       by split.TooLong e never = absurd (omega (arith, never))
       by (split.Frame from to) e never = absurd (omega (arith, never))
 
-  when-long : splitNumber (splitOf (f .bytes)) ≡ 1 → Nothing 1
+  when-long : splitNumber (splitOf (f .bytes)) ≡ 1 → NoneMade 1
   unfolding firstBy
   when-long long = by (splitOf (f .bytes)) refl long
     where
-      by : (x : Split) → splitOf (f .bytes) ≡ x → splitNumber x ≡ 1 → Nothing 1
+      by : (x : Split) → splitOf (f .bytes) ≡ x → splitNumber x ≡ 1 → NoneMade 1
       by split.MoreNeeded e never = absurd (omega (arith, never))
       by split.TooLong e _ = record { told = ap (λ (g : Gave). g .ended) (gave-by split.TooLong e); untouched = nothing-done TooLong (gave-by split.TooLong e) }
       by (split.Frame from to) e never = absurd (omega (arith, never))
@@ -179,7 +179,7 @@ module _ (state : State) (store : List ℕ) (f : FirstStep) (m : ByFirst state s
   when-whole whole = let w = whole-frame (f .bytes) whole in record { whole = w; gave-is = gave-by (split.Frame 4 frameEnd) (w .is) }
 
   -- one of the three
-  by-split : {X : Type 0} → (Nothing 0 → X) → (Nothing 1 → X) → (Whole f → X) → X
+  by-split : {X : Type 0} → (NoneMade 0 → X) → (NoneMade 1 → X) → (Whole f → X) → X
   by-split {X} more long whole = by (splitOf (f .bytes)) refl
     where
       by : (x : Split) → splitOf (f .bytes) ≡ x → X
@@ -188,7 +188,7 @@ module _ (state : State) (store : List ℕ) (f : FirstStep) (m : ByFirst state s
       by (split.Frame from to) e = whole (ap splitNumber e)
 
   -- a number above 1 comes of a whole frame alone
-  whole-told : (n : ℕ) (values : List ℕ) → 1 < n → Told (n ∷ values) f → Whole f
+  whole-told : (n : ℕ) (values : List ℕ) → 1 < n → FirstEnded (n ∷ values) f → Whole f
   whole-told n values above e =
       by-split
       (λ o. absurd (omega (arith, ap (λ (vs : List ℕ). getD vs 0 0) (sym (o .told) ∙ e))))
@@ -211,8 +211,8 @@ module _ (state : State) (store : List ℕ) (f : FirstStep) (m : ByFirst state s
   made-by-call = record { outcome = onPayload .called .outcome; ended-is = refl; meets = record { outcome-is = refl; state-is = refl; store-is = refl; reply-is = refl } }
 
   -- what it said of it
-  made-said : Whole f → Said frameEnd (onPayload .called .outcome) (f .gave .ended)
-  made-said whole = subst (Said frameEnd (onPayload .called .outcome)) (sym (ap (λ (g : Gave). g .ended) (when-whole whole .gave-is))) (said frameEnd (onPayload .called .outcome))
+  made-said : Whole f → Values frameEnd (onPayload .called .outcome) (f .gave .ended)
+  made-said whole = subst (Values frameEnd (onPayload .called .outcome)) (sym (ap (λ (g : Gave). g .ended) (when-whole whole .gave-is))) (said frameEnd (onPayload .called .outcome))
 
   -- ## Two steps
 
@@ -269,10 +269,10 @@ first-three buffer store payload lent n isSound short few =
 
 module _ (state : State) (store : List ℕ) (f : FirstStep) (m : ByFirst state store f) where
   -- how the call that was made ended where it was refused
-  refused-made : Whole f → (n : ℕ) → Told (2 ∷ n ∷ []) f → EndedWith (0 ∷ n ∷ []) (made state store f m)
+  refused-made : Whole f → (n : ℕ) → FirstEnded (2 ∷ n ∷ []) f → EndedWith (0 ∷ n ∷ []) (made state store f m)
   refused-made whole n e = made-said state store f m whole .number n e
 
-  untouched-by : Whole f → (n : ℕ) → Told (2 ∷ n ∷ []) f → Untouched state store f
+  untouched-by : Whole f → (n : ℕ) → FirstEnded (2 ∷ n ∷ []) f → FirstUnchanged state store f
   untouched-by whole n e =
       let alike = made-called state store f m whole in
       let stays : Unchanged state store (made state store f m) = code-refusal-leaves state store (made state store f m) n (made-by-call state store f m) (refused-made whole n e) in
@@ -282,7 +282,7 @@ module _ (state : State) (store : List ℕ) (f : FirstStep) (m : ByFirst state s
         buffer-stays = alike .reply-is ∙ stays .buffer-stays;
       }
 
-  one-to-three : Whole f → (n : ℕ) → Told (2 ∷ n ∷ []) f → (1 ≤ n) × (n ≤ 3)
+  one-to-three : Whole f → (n : ℕ) → FirstEnded (2 ∷ n ∷ []) f → (1 ≤ n) × (n ≤ 3)
   unfolding lentOf lentLength
   one-to-three whole n e =
       first-three (length (f .buffer)) (length store) (length (payloadIn f)) 0 n (soundState state store) (whole-frame (f .bytes) whole .limit) (omega arith)
@@ -294,9 +294,8 @@ first-refused state store f n m e =
     let within = one-to-three state store f m whole n e in
     record {
       only-whole = whole;
-      never-4 = λ is. omega (arith, is, within .1);
-      never-5 = λ is. omega (arith, is, within .1);
-      no-other = within;
+      from-1 = within .0;
+      to-3 = within .1;
       leaves = untouched-by state store f m whole n e;
     }
 
@@ -308,7 +307,7 @@ first-refusals state store f eight long m =
       first = λ whole a. made-called state store f m whole .refused 1 (calls .first a);
       second = λ whole a b. made-called state store f m whole .refused 2 (calls .second a b);
       third = λ whole a b never. made-called state store f m whole .refused 3 (calls .third a b never);
-      begun = λ a S n e.
+      accepted = λ a S n e.
           let whole = whole-told state store f m 2 (n ∷ []) (omega arith) e in
           calls .accepted a S (whole-frame (f .bytes) whole .limit) (λ i never. absurd (missing-not-given i never)) n (refused-made state store f m whole n e);
     }
@@ -359,7 +358,7 @@ first-asks state store f S m whole room =
     ruled = call (gatewayOf state store) (asCall (made state store f m))
 
     by-word : EndsAs (made state store f m) ruled → ((n : ℕ) → ¬ (EndedWith (0 ∷ n ∷ []) (made state store f m)))
-        → Told (3 ∷ (4 + length (payloadIn f)) ∷ made state store f m .gave .ended) f → f .gave .reply ≡ made state store f m .gave .reply → FirstWord (ruled .outcome)
+        → FirstEnded (3 ∷ (4 + length (payloadIn f)) ∷ made state store f m .gave .ended) f → f .gave .reply ≡ made state store f m .gave .reply → FirstWord (ruled .outcome)
         → GateOrFailure f
     by-word ends never told wrote (inl (n, is)) = absurd (never n (ends .ended ∙ ap (λ (o : rule.Outcome). outcomeValues (code o)) is))
     by-word ends never told wrote (inr (inl (class, is))) =
@@ -372,10 +371,18 @@ first-asks state store f S m whole room =
 
 -- ## In a run
 
+pub first-made : FirstMade ByFirst
+first-made state store f m = record {
+  whole = λ whole. made-said state store f m whole .made;
+  other = λ other.
+      by-split state store f m (λ o. ap (λ (vs : List ℕ). ltb 1 (getD vs 0 0)) (o .told)) (λ o. ap (λ (vs : List ℕ). ltb 1 (getD vs 0 0)) (o .told))
+      (λ whole. absurd (other whole));
+}
+
 -- a first call that made a call is that call; one that made none left all as it was
 pub record ByMade (state : State) (store : List ℕ) (f : FirstStep) : Type 0 where
   pub step : isMade f ≡ true → ByCall state store (stepIn f)
-  pub stays : isMade f ≡ false → Untouched state store f
+  pub stays : isMade f ≡ false → FirstUnchanged state store f
 
 pub by-made : (state : State) (store : List ℕ) (f : FirstStep) → ByFirst state store f → ByMade state store f
 by-made state store f m =

@@ -1,19 +1,16 @@
 -- A first call that made a call is that call, and one that made none left state and store; so a run with first calls is a run of calls, and what is
 -- promised of runs of calls holds of it. Assumed: first calls that meet the contract of `first_call`, and others that meet that of `call`.
 use Prim.Native.Nat.{ℕ}
-use mathlib.Core.Path.{_≡_, refl, sym, ap, _∙_, subst}
+use mathlib.Core.Path.{_≡_, refl}
 use mathlib.Core.Logic.{inl, inr}
 use mathlib.Core.Bool.{Bool, true, false}
 use mathlib.Core.List.{List, [], _∷_}
-use lib.Dec.{ltb}
-use lib.ListN.{getD}
-use Rattle.wire.proofs.Cases.{cond-cases, true-not-false}
 use Rattle.table.specs.declared.State.{State}
-use Rattle.server.specs.Runs.{Gave, Step, ByCall, CodeRun, endState, endStore, CodePromises}
-use Rattle.server.specs.FirstPromises.{FirstStep, ByFirst, Whole, Untouched, AnyCall, first, later, stepIn, isMade, stepsIn, lastState, lastStore}
-use Rattle.server.specs.FirstPromises.{AnyRun, MadeFirst, ByEither, IsARunOfCalls, FirstRuns, FirstPromises}
+use Rattle.server.specs.Runs.{Step, ByCall, endState, endStore}
+use Rattle.server.specs.FirstPromises.{FirstStep, ByFirst, FirstUnchanged, first, later, isMade, stepsIn, anyEndState, anyEndStore}
+use Rattle.server.specs.FirstPromises.{ByEither, IsARunOfCalls, FirstRuns, FirstPromises}
 use Rattle.server.proofs.Lift.{code-promises}
-use Rattle.server.proofs.FirstLaws.{by-made, no-second-first, first-is-two-steps, first-refusals, first-refused, first-uses, first-uses-frame, first-asks}
+use Rattle.server.proofs.FirstLaws.{nothing-is-lent, by-made, no-second-first, first-is-two-steps, first-refusals, first-refused, first-uses, first-uses-frame, first-asks, first-made}
 
 module _ (Met : State → List ℕ → FirstStep → Type 0) (by-first : (state : State) (store : List ℕ) (f : FirstStep) → Met state store f → ByFirst state store f)
     (MetLater : State → List ℕ → Step → Type 0) (by-call : (state : State) (store : List ℕ) (k : Step) → MetLater state store k → ByCall state store k) where
@@ -22,7 +19,7 @@ module _ (Met : State → List ℕ → FirstStep → Type 0) (by-first : (state 
   either-by-call state store k (inr m) = by-call state store k m
 
   runs : FirstRuns Met MetLater
-  unfolding stepsIn lastState lastStore endState endStore
+  unfolding stepsIn anyEndState anyEndStore endState endStore
   runs state store [] run = record { run = tt; end-state = refl; end-store = refl }
   runs state store (later k ∷ cs) run =
       let rest = runs (k .gave .state) (k .gave .store) cs (run .1) in
@@ -30,10 +27,10 @@ module _ (Met : State → List ℕ → FirstStep → Type 0) (by-first : (state 
   runs state store (first f ∷ cs) run =
       by-test (isMade f) refl (runs (f .gave .state) (f .gave .store) cs (run .1)) (λ stays. runs state store cs (rw (stays .state-stays, stays .store-stays) at (run .1)))
     where
-      by-test : (b : Bool) → isMade f ≡ b → IsARunOfCalls Met MetLater (f .gave .state) (f .gave .store) cs → (Untouched state store f → IsARunOfCalls Met MetLater state store cs)
+      by-test : (b : Bool) → isMade f ≡ b → IsARunOfCalls Met MetLater (f .gave .state) (f .gave .store) cs → (FirstUnchanged state store f → IsARunOfCalls Met MetLater state store cs)
           → IsARunOfCalls Met MetLater state store (first f ∷ cs)
       by-test true made rest _ = record {
-        run = rw made (inl (record { first = f; met = run .0; made = made; step-is = refl }), rest .run);
+        run = rw made (inl (record { first = f; met = run .0; made = made; step-is = refl; same-request = refl; on-payload = record { payload-is = refl; reading-is = refl; nothing-lent = nothing-is-lent; buffer-is = refl } }), rest .run);
         end-state = rw made (rest .end-state);
         end-store = rw made (rest .end-store);
       }
@@ -55,6 +52,7 @@ module _ (Met : State → List ℕ → FirstStep → Type 0) (by-first : (state 
     uses = λ state store f used ended m. first-uses state store f used ended (by-first _ _ _ m);
     uses-frame = λ state store f payload rest used ended m. first-uses-frame state store f payload rest used ended (by-first _ _ _ m);
     asks = λ state store f S m. first-asks state store f S (by-first _ _ _ m);
+    made = λ state store f m. first-made state store f (by-first _ _ _ m);
     runs = runs;
     as-calls = code-promises (ByEither Met MetLater) either-by-call;
   }

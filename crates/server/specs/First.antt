@@ -54,13 +54,13 @@ module _ (state : State) (store bytes : List ℕ) (reading : Millis) (buffer : L
   abbrev unchanged : First → FirstDone
   unchanged first = record { first = first; state = state; store = store; reply = buffer }
 
-  abbrev begun : ℕ → Done → FirstDone
-  begun used d = record { first = firstIn used (d .called .outcome); state = d .called .state; store = d .store; reply = d .reply }
+  abbrev called : ℕ → Done → FirstDone
+  called used d = record { first = firstIn used (d .called .outcome); state = d .called .state; store = d .store; reply = d .reply }
 
   unfoldable pub firstBy : Split → FirstDone
   firstBy split.MoreNeeded = unchanged MoreNeeded
   firstBy split.TooLong = unchanged TooLong
-  firstBy (split.Frame from to) = begun to (callOf state store (framePayload bytes) reading nothingLent [] buffer)
+  firstBy (split.Frame from to) = called to (callOf state store (framePayload bytes) reading nothingLent [] buffer)
 
   unfoldable pub firstOf : FirstDone
   firstOf = firstBy (splitOf bytes)

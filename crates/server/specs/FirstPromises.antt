@@ -3,7 +3,7 @@
 use Prim.Native.Nat.{ℕ, _+_, _≤_, _<_}
 use mathlib.Core.Path.{_≡_}
 use mathlib.Core.Logic.{_≢_, _⊎_}
-use mathlib.Core.Bool.{Bool, true, cond}
+use mathlib.Core.Bool.{Bool, true, false, cond}
 use mathlib.Core.List.{List, [], _∷_, _++_}
 use lib.Dec.{eqb, ltb}
 use lib.ListN.{length, getD, drop}
@@ -29,7 +29,7 @@ FirstsApart = OneToOne First (List ℕ) firstValues
 
 -- as it was made, and what it gave
 pub record FirstStep : Type 0 where
-  pub request : ℕ  -- which request it begins
+  pub request : ℕ  -- which request it begins, once its frame is whole
   pub bytes : List ℕ  -- of the connection
   pub reading : Millis
   pub buffer : List ℕ  -- the reply buffer at entry
@@ -45,8 +45,8 @@ pub record ByFirst (state : State) (store : List ℕ) (f : FirstStep) : Type 0 w
   pub ended-is : f .gave .ended ≡ firstValues first
   pub meets : FirstMeets state store (f .bytes) (f .reading) (f .buffer) first (f .gave .state) (f .gave .store) (f .gave .reply)
 
-abbrev pub Told : List ℕ → FirstStep → Type 0
-Told values f = f .gave .ended ≡ values
+abbrev pub FirstEnded : List ℕ → FirstStep → Type 0
+FirstEnded values f = f .gave .ended ≡ values
 
 -- the bytes hold a whole frame
 abbrev pub Whole : FirstStep → Type 0
@@ -56,7 +56,7 @@ abbrev pub payloadIn : FirstStep → List ℕ
 payloadIn f = framePayload (f .bytes)
 
 -- "nothing changes, the clock neither"
-pub record Untouched (state : State) (store : List ℕ) (f : FirstStep) : Type 0 where
+pub record FirstUnchanged (state : State) (store : List ℕ) (f : FirstStep) : Type 0 where
   pub state-stays : f .gave .state ≡ state
   pub store-stays : f .gave .store ≡ store
   pub buffer-stays : f .gave .reply ≡ f .buffer
@@ -72,33 +72,32 @@ pub record OnPayload (f : FirstStep) (k : Step) : Type 0 where
 
 -- a refusal and its number alone, or else the frame's bytes and what the call ended with; state, store and reply buffer are the call's
 pub record AsCalled (f : FirstStep) (k : Step) : Type 0 where
-  pub refused : (n : ℕ) → EndedWith (0 ∷ n ∷ []) k → Told (2 ∷ n ∷ []) f
-  pub begun : ((n : ℕ) → ¬ (EndedWith (0 ∷ n ∷ []) k)) → Told (3 ∷ (4 + length (payloadIn f)) ∷ k .gave .ended) f
+  pub refused : (n : ℕ) → EndedWith (0 ∷ n ∷ []) k → FirstEnded (2 ∷ n ∷ []) f
+  pub begun : ((n : ℕ) → ¬ (EndedWith (0 ∷ n ∷ []) k)) → FirstEnded (3 ∷ (4 + length (payloadIn f)) ∷ k .gave .ended) f
   pub state-is : f .gave .state ≡ k .gave .state
   pub store-is : f .gave .store ≡ k .gave .store
   pub reply-is : f .gave .reply ≡ k .gave .reply
 
 pub record TwoSteps (state : State) (store : List ℕ) (f : FirstStep) : Type 0 where
-  pub more-needed : splitNumber (splitOf (f .bytes)) ≡ 0 → Told (0 ∷ []) f × Untouched state store f
-  pub too-long : splitNumber (splitOf (f .bytes)) ≡ 1 → Told (1 ∷ []) f × Untouched state store f
+  pub more-needed : splitNumber (splitOf (f .bytes)) ≡ 0 → FirstEnded (0 ∷ []) f × FirstUnchanged state store f
+  pub too-long : splitNumber (splitOf (f .bytes)) ≡ 1 → FirstEnded (1 ∷ []) f × FirstUnchanged state store f
   pub whole : Whole f → (k : Step) → ByCall state store k → OnPayload f k → AsCalled f k
 
 -- ## Refusals
 
 -- "1, 2 and 3 are tested only when a frame is whole; 4 and 5 no longer occur here"
 pub record FirstRefusalsInOrder (state : State) (store : List ℕ) (f : FirstStep) : Type 0 where
-  pub first : Whole f → length (f .buffer) < replyRoom → Told (2 ∷ 1 ∷ []) f
-  pub second : Whole f → replyRoom ≤ length (f .buffer) → length store ≢ storeSize → Told (2 ∷ 2 ∷ []) f
-  pub third : Whole f → replyRoom ≤ length (f .buffer) → length store ≡ storeSize → (Sound state store → ⊥) → Told (2 ∷ 3 ∷ []) f
-  pub begun : replyRoom ≤ length (f .buffer) → Sound state store → (n : ℕ) → ¬ (Told (2 ∷ n ∷ []) f)
+  pub first : Whole f → length (f .buffer) < replyRoom → FirstEnded (2 ∷ 1 ∷ []) f
+  pub second : Whole f → replyRoom ≤ length (f .buffer) → length store ≢ storeSize → FirstEnded (2 ∷ 2 ∷ []) f
+  pub third : Whole f → replyRoom ≤ length (f .buffer) → length store ≡ storeSize → (Sound state store → ⊥) → FirstEnded (2 ∷ 3 ∷ []) f
+  pub accepted : replyRoom ≤ length (f .buffer) → Sound state store → (n : ℕ) → ¬ (FirstEnded (2 ∷ n ∷ []) f)
 
--- of a refusal, on any state and store
+-- of a refusal, on any state and store: its number is 1, 2 or 3
 pub record FirstRefused (state : State) (store : List ℕ) (f : FirstStep) (n : ℕ) : Type 0 where
   pub only-whole : Whole f
-  pub never-4 : n ≢ 4
-  pub never-5 : n ≢ 5
-  pub no-other : (1 ≤ n) × (n ≤ 3)
-  pub leaves : Untouched state store f
+  pub from-1 : 1 ≤ n
+  pub to-3 : n ≤ 3
+  pub leaves : FirstUnchanged state store f
 
 -- ## The bytes used
 
@@ -118,12 +117,12 @@ pub record UsesFrame (f : FirstStep) (payload rest : List ℕ) (used : ℕ) : Ty
 -- nothing is lent, so it is the gate's question or FAILURE
 abbrev pub GateOrFailure : FirstStep → Type 0
 GateOrFailure f =
-    ((class : ℕ) × Told (3 ∷ (4 + length (payloadIn f)) ∷ 1 ∷ class ∷ []) f)
-    ⊎ (Told (3 ∷ (4 + length (payloadIn f)) ∷ 5 ∷ 5 ∷ []) f × (f .gave .reply ≡ failureBytes ++ drop 5 (f .buffer)))
+    ((class : ℕ) × FirstEnded (3 ∷ (4 + length (payloadIn f)) ∷ 1 ∷ class ∷ []) f)
+    ⊎ (FirstEnded (3 ∷ (4 + length (payloadIn f)) ∷ 5 ∷ 5 ∷ []) f × (f .gave .reply ≡ failureBytes ++ drop 5 (f .buffer)))
 
 -- ## Runs
 
--- a call of a run: a request's first, from the connection's bytes, or any
+-- a call of a run: a request's first, from the connection's bytes, or one on a payload
 pub data AnyCall : Type 0 where
   first : FirstStep → AnyCall
   later : Step → AnyCall
@@ -147,21 +146,26 @@ stepIn f = record {
 abbrev pub isMade : FirstStep → Bool
 isMade f = ltb 1 (getD (f .gave .ended) 0 0)
 
+-- it is made exactly where a frame is whole
+pub record MadeOfWhole (f : FirstStep) : Type 0 where
+  pub whole : Whole f → isMade f ≡ true
+  pub other : splitNumber (splitOf (f .bytes)) ≢ 2 → isMade f ≡ false
+
 -- the calls of a run: more needed and too long made none
 unfoldable pub stepsIn : List AnyCall → List Step
 stepsIn [] = []
 stepsIn (first f ∷ cs) = cond (isMade f) (stepIn f ∷ stepsIn cs) (stepsIn cs)
 stepsIn (later k ∷ cs) = k ∷ stepsIn cs
 
-unfoldable pub lastState : State → List AnyCall → State
-lastState state [] = state
-lastState state (first f ∷ cs) = lastState (f .gave .state) cs
-lastState state (later k ∷ cs) = lastState (k .gave .state) cs
+unfoldable pub anyEndState : State → List AnyCall → State
+anyEndState state [] = state
+anyEndState state (first f ∷ cs) = anyEndState (f .gave .state) cs
+anyEndState state (later k ∷ cs) = anyEndState (k .gave .state) cs
 
-unfoldable pub lastStore : List ℕ → List AnyCall → List ℕ
-lastStore store [] = store
-lastStore store (first f ∷ cs) = lastStore (f .gave .store) cs
-lastStore store (later k ∷ cs) = lastStore (k .gave .store) cs
+unfoldable pub anyEndStore : List ℕ → List AnyCall → List ℕ
+anyEndStore store [] = store
+anyEndStore store (first f ∷ cs) = anyEndStore (f .gave .store) cs
+anyEndStore store (later k ∷ cs) = anyEndStore (k .gave .store) cs
 
 -- ## The promises
 
@@ -180,19 +184,22 @@ module _ (Met : State → List ℕ → FirstStep → Type 0) where
       → FirstRefusalsInOrder state store f
 
   abbrev pub FirstRefusedRule : Type 0
-  FirstRefusedRule = (state : State) (store : List ℕ) (f : FirstStep) (n : ℕ) → Met state store f → Told (2 ∷ n ∷ []) f → FirstRefused state store f n
+  FirstRefusedRule = (state : State) (store : List ℕ) (f : FirstStep) (n : ℕ) → Met state store f → FirstEnded (2 ∷ n ∷ []) f → FirstRefused state store f n
 
   abbrev pub FirstUses : Type 0
-  FirstUses = (state : State) (store : List ℕ) (f : FirstStep) (used : ℕ) (ended : List ℕ) → Met state store f → Told (3 ∷ used ∷ ended) f → Uses f used
+  FirstUses = (state : State) (store : List ℕ) (f : FirstStep) (used : ℕ) (ended : List ℕ) → Met state store f → FirstEnded (3 ∷ used ∷ ended) f → Uses f used
 
   abbrev pub FirstUsesFrame : Type 0
   FirstUsesFrame =
       (state : State) (store : List ℕ) (f : FirstStep) (payload rest : List ℕ) (used : ℕ) (ended : List ℕ) → Met state store f
-      → length payload ≤ payloadLimit → f .bytes ≡ string payload ++ rest → Told (3 ∷ used ∷ ended) f → UsesFrame f payload rest used
+      → length payload ≤ payloadLimit → f .bytes ≡ string payload ++ rest → FirstEnded (3 ∷ used ∷ ended) f → UsesFrame f payload rest used
 
   abbrev pub FirstAsks : Type 0
   FirstAsks =
       (state : State) (store : List ℕ) (f : FirstStep) → Sound state store → Met state store f → Whole f → replyRoom ≤ length (f .buffer) → GateOrFailure f
+
+  abbrev pub FirstMade : Type 0
+  FirstMade = (state : State) (store : List ℕ) (f : FirstStep) → Met state store f → MadeOfWhole f
 
   -- ### Runs, in which the other calls are of this kind
 
@@ -203,12 +210,14 @@ module _ (Met : State → List ℕ → FirstStep → Type 0) where
     AnyRun state store (first f ∷ cs) = Met state store f × AnyRun (f .gave .state) (f .gave .store) cs
     AnyRun state store (later k ∷ cs) = MetLater state store k × AnyRun (k .gave .state) (k .gave .store) cs
 
-    -- a step that a first call made
+    -- a step that a first call made: the same request's call on the payload, with nothing lent
     pub record MadeFirst (state : State) (store : List ℕ) (k : Step) : Type 0 where
       pub first : FirstStep
       pub met : Met state store first
       pub made : isMade first ≡ true
       pub step-is : k ≡ stepIn first
+      pub same-request : k .request ≡ first .request
+      pub on-payload : OnPayload first k
 
     abbrev pub ByEither : State → List ℕ → Step → Type 0
     ByEither state store k = MadeFirst state store k ⊎ MetLater state store k
@@ -216,8 +225,8 @@ module _ (Met : State → List ℕ → FirstStep → Type 0) where
     -- the run is one of calls, and those that made none left nothing
     pub record IsARunOfCalls (state : State) (store : List ℕ) (cs : List AnyCall) : Type 0 where
       pub run : CodeRun ByEither state store (stepsIn cs)
-      pub end-state : endState state (stepsIn cs) ≡ lastState state cs
-      pub end-store : endStore store (stepsIn cs) ≡ lastStore store cs
+      pub end-state : endState state (stepsIn cs) ≡ anyEndState state cs
+      pub end-store : endStore store (stepsIn cs) ≡ anyEndStore store cs
 
     abbrev pub FirstRuns : Type 0
     FirstRuns = (state : State) (store : List ℕ) (cs : List AnyCall) → AnyRun state store cs → IsARunOfCalls state store cs
@@ -230,5 +239,6 @@ module _ (Met : State → List ℕ → FirstStep → Type 0) where
       pub uses : FirstUses
       pub uses-frame : FirstUsesFrame
       pub asks : FirstAsks
+      pub made : FirstMade
       pub runs : FirstRuns
       pub as-calls : CodePromises ByEither

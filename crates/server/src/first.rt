@@ -51,7 +51,7 @@ fn first_in(used: usize, outcome: Outcome) -> First
     }
 }
 
-// What the first bytes of a connection come to; state, store and reply buffer as `firstOf` says.
+// What the bytes that no request has used come to; state, store and reply buffer as `firstOf` says.
 pub fn first_call(
     state: State,
     store: &mut [u8],

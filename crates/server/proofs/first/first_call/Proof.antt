@@ -1,10 +1,11 @@
 -- By the splitter's answer; of a whole frame, by the call on its payload, with nothing lent. Assumes nothing.
-use mathlib.Core.Path.{sym, _∙_}
-use Rattle.wire.proofs.Reading.{cut-none}
 use Rattle.server.proofs.FirstSteps.{more-needed, too-long, begins}
 use borrow.Author.Needs.{needs}
 use Rattle.server.proofs.first.first_call.Statement.{statement}
 use Rattle.server.proofs.first.first_call.Tie as tie
+
+first-in-requires : tie.Need-first-in-requires
+first-in-requires c κs = search needs
 
 returns : tie.Need-returns
 returns c =
@@ -25,7 +26,7 @@ returns-3 c =
     let frame : tie.After-to = search in
     let told : tie.After-read-frame = search in
     begins _ _ _ _ _ _ (told .read-frame .ensures) _ _ _ _ _ _ _ _ _ (frame .to .given .1) (payload .frame-payload .ensures .bytes)
-    (unlent .nothing-lent .ensures) (none .cut .ensures .bytes ∙ sym (cut-none _)) (called .call .ensures) (c .first-in .ensures)
+    (unlent .nothing-lent .ensures) (none .cut .ensures .bytes) (called .call .ensures) (c .first-in .ensures)
 
 pub first-call-spec : {M : Type 1} → statement M
 first-call-spec =
@@ -39,7 +40,7 @@ first-call-spec =
     (λ c κs. search needs)
     (λ c κs. search needs)
     (λ c κs. search needs)
-    (λ c κs. search needs)
+    first-in-requires
     returns
     returns-2
     (λ c. search needs)
