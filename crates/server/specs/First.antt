@@ -32,7 +32,7 @@ firstValues (Began used o) = 3 ∷ used ∷ outcomeValues o
 abbrev pub nothingLent : Answers
 nothingLent = record { gate = said.Missing; check = said.Missing; confirmation = confirmed.Missing; signature = signed.Missing }
 
--- "with refusal 1, 2 or 3 only the number is answered", any other outcome with the bytes used
+-- of a refusal only the number is told, of any other outcome the bytes used too
 unfoldable pub firstIn : ℕ → Outcome → First
 firstIn used (outcome.Refused n) = Refused n
 firstIn used (Gate class) = Began used (Gate class)
@@ -50,7 +50,7 @@ pub record FirstDone : Type 0 where
   pub reply : List ℕ
 
 module _ (state : State) (store bytes : List ℕ) (reading : Millis) (buffer : List ℕ) where
-  -- "with more needed or too long nothing changes, the clock neither"
+  -- more needed and too long change nothing, the clock neither
   abbrev unchanged : First → FirstDone
   unchanged first = record { first = first; state = state; store = store; reply = buffer }
 

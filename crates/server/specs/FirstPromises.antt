@@ -55,7 +55,7 @@ Whole f = splitNumber (splitOf (f .bytes)) ≡ 2
 abbrev pub payloadIn : FirstStep → List ℕ
 payloadIn f = framePayload (f .bytes)
 
--- "nothing changes, the clock neither"
+-- nothing changed, the clock neither
 pub record FirstUnchanged (state : State) (store : List ℕ) (f : FirstStep) : Type 0 where
   pub state-stays : f .gave .state ≡ state
   pub store-stays : f .gave .store ≡ store
