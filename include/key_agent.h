@@ -1,16 +1,16 @@
 /* The key agent for C: what the archive of the crate gateway exports. rust/archive makes it, for x86-64 Linux and
  * aarch64 Linux.
  *
- * The agent decides and keeps; sockets, clock, panel, key check and signer stay on this side. The first call of a request is handed the bytes
- * of its connection, each later one the payload and the answers so far; it hands back a question, a reply, or a close. What it promises is proved of the code in the archive; it holds while
- * this side keeps what is said below, which nothing tests:
+ * The agent decides and keeps; sockets, clock, panel, key check and signer stay on this side. The first call of a request is handed the bytes of
+ * its connection, each later one the request's payload and the answers so far; a call hands back a question, a reply, or a close. What it promises
+ * is proved of the code in the archive; it holds while this side keeps what is said below, which nothing tests:
  *
  *   - no pointer is null, also where the length beside it is 0;
  *   - a pointer to bytes has as many bytes behind it as the length says, and no length is above PTRDIFF_MAX;
  *   - store, reply and state are written: they overlap neither each other nor payload, bytes, signature or the result, and nobody else reads
  *     or writes them while a call runs. So: one call at a time on one state. Payload, bytes and signature are only read, and may overlap;
  *   - state and store belong together: keep, copy and restore them as a pair;
- *   - the stack has room: a call takes up to 29 KB of it (measured on x86-64), a state by value 3.5 KB more.
+ *   - the stack has room: a call takes up to 36 KB of it, a first call up to 40 KB (measured on x86-64), a state by value 3.5 KB more.
  *
  * Of what state and store hold nothing is asked: every bit pattern of both is covered by the proof, and one that is not sound is refused (3).
  * The padding of a state is not defined and not read, so states are not to be compared by memcmp.
@@ -126,11 +126,12 @@ enum {
     KEY_AGENT_FIRST_TOO_LONG = 1,     /* a frame that is never to be read: close the connection. Nothing was altered, the clock neither */
     KEY_AGENT_FIRST_REFUSED = 2,      /* outcome.number: 1 reply buffer too short; 2 store of another length; 3 state not sound; no other. A frame
                                          is whole, no byte of it is used, and nothing was altered, the clock neither */
-    KEY_AGENT_FIRST_BEGUN = 3         /* used, outcome: a request has begun */
+    KEY_AGENT_FIRST_BEGAN = 3         /* used, outcome: a request has begun */
 };
 
-/* The request's frame is bytes[0 .. used), its payload bytes[4 .. used), and the next frame begins at bytes[used]. The outcome's part, as at every
- * call, is a part of the payload: payload[from .. to) is bytes[4 + from .. 4 + to), and 4 + to <= used <= bytes_len. */
+/* Look at kind first: of all but a request that has begun the outcome says nothing beyond what stands above. A request's frame is
+ * bytes[0 .. used), its payload bytes[4 .. used), and the next frame begins at bytes[used]; used <= bytes_len. What a question of a later call
+ * names as a part of the payload, payload[from .. to), is bytes[4 + from .. 4 + to), and 4 + to <= used. */
 typedef struct {
     uint8_t kind;
     size_t used;
@@ -181,7 +182,7 @@ bool key_agent_is_sound(key_agent_state state, const uint8_t *store, size_t stor
  * key_agent_call gives on its payload, with nothing answered; in one, so that the length in front of the payload is not handed along with it.
  *
  *   bytes          what the connection has sent and no request has used. Only the first frame counts; more may stand behind it.
- *   state, store, reading, reply   as in key_agent_call, and read only where a frame is whole.
+ *   state, store, reading, reply   as in key_agent_call; tested and altered only where a frame is whole.
  *
  * The outcome is KEY_AGENT_ASK_GATE, or KEY_AGENT_REPLY with a failure of five bytes. Later calls of the request are key_agent_call's, with the
  * payload bytes[4 .. used): keep the bytes until it ends, and let go of `used` of them then.

@@ -2,7 +2,7 @@
 //! instructions from outside. Sides: core (the proved library), table (the same fixed table in Rust), russh (the unchanged `respond`).
 mod table;
 use agent_oracle::keys::agent::server::probe::Probe;
-use key_agent::{split, Answers, First, Gateway, Numbered, Outcome, Payload, Question, Reply, Split};
+use key_agent::{split, Answers, First, Gateway, Numbered, Outcome, Payload, Question, Reply};
 use std::hint::black_box;
 use std::time::Instant;
 
@@ -45,10 +45,7 @@ fn work(name: &str) -> Vec<Vec<u8>> {
     payloads.iter().map(|p| s(p)).collect()
 }
 fn payload(frame: &[u8]) -> Payload<'_> {
-    match split(frame) {
-        Split::Frame { payload, .. } => payload,
-        other => panic!("{other:?}"),
-    }
+    split(frame).payload().expect("a whole frame")
 }
 const WORKS: [&str; 5] = ["list", "sign", "add", "lock+unlock", "empty"];
 /// `core` and `table`: one call on the payload with all answers lent. `..-asked`: the calls of the loop, each question answered as it comes; the
@@ -132,7 +129,7 @@ impl Side {
                         Outcome::Reply => break,
                         Outcome::Asks(Question::Gate(_)) => gate = Some(true),
                         Outcome::Asks(Question::Check(_)) => check = Some(true),
-                        Outcome::Asks(Question::Signature { number, data, .. }) => made = Some((number, signature(&p[data]))),
+                        Outcome::Asks(Question::Signature { number, data, .. }) => made = Some((number, signature(p.part(&data)))),
                         o => panic!("{o:?}"),
                     }
                     let signature_lent = made.as_ref().map(|(number, sig)| Numbered { number: *number, answer: Some(&sig[..]) });
@@ -141,13 +138,13 @@ impl Side {
             }
             Side::Table { t, reply, asked: false, lent, number } => {
                 let a = table::Answers { gate: Some(true), check: Some(true), confirmation: None, signature: Some((*number, Some(lent))) };
-                assert!(matches!(t.call(&p, 5, a, reply), table::Outcome::Reply(_)));
+                assert!(matches!(t.call(p.bytes(), 5, a, reply), table::Outcome::Reply(_)));
             }
             Side::Table { t, reply, .. } => {
                 let (mut gate, mut check, mut made) = (None, None, None::<(u64, Vec<u8>)>);
                 loop {
                     let signature_lent = made.as_ref().map(|(number, sig)| (*number, Some(&sig[..])));
-                    match t.call(&p, 5, table::Answers { gate, check, confirmation: None, signature: signature_lent }, reply) {
+                    match t.call(p.bytes(), 5, table::Answers { gate, check, confirmation: None, signature: signature_lent }, reply) {
                         table::Outcome::Reply(_) => break,
                         table::Outcome::Gate(_) => gate = Some(true),
                         table::Outcome::Check(..) => check = Some(true),
@@ -157,9 +154,9 @@ impl Side {
                 }
             }
             Side::Russh { p: probe, reply } => {
-                assert!(probe.call(&p, reply));
+                assert!(probe.call(p.bytes(), reply));
                 // what the scripted signer keeps for `siglog`
-                if p.first() == Some(&13) {
+                if p.bytes().first() == Some(&13) {
                     agent_oracle::scripted::LOG.lock().unwrap().clear();
                 }
             }

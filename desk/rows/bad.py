@@ -91,11 +91,15 @@ def _():
         must(receive_all(r.conn, 2) == [SUCCESS, FAILURE], 'a frame of 0 bytes')
         r.send(longest + string(LIST) + longest[:200000])
         must(receive_all(r.conn, 2) == [EMPTY_LIST, EMPTY_LIST], 'the longest, and one behind it')
-        r.send(longest[200000:] + struct.pack('>I', 262145) + LIST)
-        must(receive_all(r.conn, 1) == [EMPTY_LIST], 'the longest in two')
-        must(r.is_closed(), 'too long a frame')
+        r.send(longest[200000:] + string(LIST))
+        must(receive_all(r.conn, 2) == [EMPTY_LIST, EMPTY_LIST], 'the longest in two, and one behind it')
+        try:
+            r.send(string(LIST + bytes(262144)))  # closed before all of it is taken
+        except OSError:
+            pass
+        must(r.is_closed(), 'a frame of 262,145 bytes')
         must(Raw(a).ask(LIST) == EMPTY_LIST, 'others suffer')
-        must(len(re.findall('landed', a.log())) == 12, 'each frame lands once')
+        must(len(re.findall('landed', a.log())) == 13, 'each frame lands once')
     with Desk('--gate', 'ask') as a:
         r = Raw(a)
         r.send(string(LIST) + lock)

@@ -2,7 +2,7 @@
 //! check that ssh-key makes and the signer that the oracle `scripted` has.
 use crate::stale::addition;
 use crate::{ed25519, hex, items, sorted, string, strings, unhex};
-use key_agent::{split, Answers, First, Gateway, Hash, Numbered, Outcome, Payload, Question, Reply, Split};
+use key_agent::{split, Answers, First, Gateway, Hash, Numbered, Outcome, Payload, Question, Reply};
 use std::collections::{HashMap, VecDeque};
 
 /// Does the library take these key fields, which 01 has parsed? The Rust's check is what its key decoder does beyond 01: an Ed25519 seed must
@@ -48,10 +48,7 @@ pub struct Request {
 }
 impl Request {
     pub fn payload(&self) -> Payload<'_> {
-        match split(&self.frame) {
-            Split::Frame { payload, .. } => payload,
-            other => panic!("{other:?}"),
-        }
+        split(&self.frame).payload().expect("a whole frame")
     }
 
     pub fn answers(&self) -> Answers<'_> {
@@ -215,8 +212,8 @@ impl World {
             Question::Gate(_) => r.gate = Some(yes),
             Question::Confirmation { number } => r.confirmation = Some(Numbered { number, answer: yes }),
             // held questions are answered by library and signer, whatever `ans` says
-            Question::Check(part) => r.check = Some(self.standin || library_accepts(&r.payload()[part], &mut self.known)),
-            Question::Signature { number, data, hash } => r.signature = Some((number, self.sign(number, &r.payload()[data], hash))),
+            Question::Check(part) => r.check = Some(self.standin || library_accepts(r.payload().part(&part), &mut self.known)),
+            Question::Signature { number, data, hash } => r.signature = Some((number, self.sign(number, r.payload().part(&data), hash))),
         }
         self.step(name, r, None)
     }
@@ -247,7 +244,7 @@ impl World {
         }
     }
 
-    /// Calls until the request lands or a question stays open; what its first call found and came to, where that is made.
+    /// Calls until the request lands or a question stays open. `first`: what its first call found and came to, where only that was made.
     fn step(&mut self, name: &str, mut r: Request, mut first: Option<(Found, Outcome)>) -> String {
         loop {
             let (found, outcome) = first.take().unwrap_or_else(|| {
@@ -268,7 +265,7 @@ impl World {
                         format!("reply {}", hex(&reply))
                     };
                     if outcome == Outcome::Reply {
-                        self.compare_comments(&r.payload(), &reply);
+                        self.compare_comments(r.payload().bytes(), &reply);
                     }
                     let clock = self.gateway.clock();
                     self.landings.push(Landing { conn: name.to_string(), request: r, clock, was_locked, full, outcome, reply });
@@ -298,8 +295,8 @@ impl World {
             match r.open.take().unwrap() {
                 Question::Gate(_) => r.gate = Some(said == 'y'),
                 Question::Confirmation { number } => r.confirmation = Some(Numbered { number, answer: said == 'y' }),
-                Question::Check(part) => r.check = Some(self.standin || library_accepts(&r.payload()[part], &mut self.known)),
-                Question::Signature { number, data, hash } => r.signature = Some((number, self.sign(number, &r.payload()[data], hash))),
+                Question::Check(part) => r.check = Some(self.standin || library_accepts(r.payload().part(&part), &mut self.known)),
+                Question::Signature { number, data, hash } => r.signature = Some((number, self.sign(number, r.payload().part(&data), hash))),
             }
         }
     }

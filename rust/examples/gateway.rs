@@ -5,7 +5,7 @@
 //!     cargo run --example gateway             plays two crossing requests on a socket of its own, and ends
 //!
 //! The signer here is a stand-in: it writes the key's type and the data. A true one takes the key fields and signs.
-use key_agent::{split, Answers, Class, First, Gateway, Hash, Numbered, Outcome, Payload, Question, Reply, Split};
+use key_agent::{split, Answers, Class, First, Gateway, Hash, Numbered, Outcome, Question, Reply};
 use std::fs::{self, DirBuilder, Permissions};
 use std::io::{self, Read, Write};
 use std::os::unix::fs::{DirBuilderExt, PermissionsExt};
@@ -88,17 +88,9 @@ impl<A: Agent> Connection<A> {
         }
     }
 
-    /// The payload of the request that has begun.
-    fn payload(&self) -> Payload<'_> {
-        match split(&self.buf) {
-            Split::Frame { payload, .. } => payload,
-            Split::MoreNeeded | Split::TooLong => unreachable!("a request's frame is whole"),
-        }
-    }
-
     /// Calls until the request lands: true with a reply, false to close.
     fn respond(&self, first: Outcome, reply: &mut Reply) -> bool {
-        let payload = self.payload();
+        let payload = split(&self.buf).payload().expect("a request's frame is whole");
         let mut outcome = first;
         let (mut gate, mut check, mut confirmation) = (None, None, None);
         let mut signature: Option<(u64, Option<Vec<u8>>)> = None;
@@ -110,12 +102,12 @@ impl<A: Agent> Connection<A> {
                 // `sign` gives no longer signature
                 Outcome::Refused(why) => panic!("{why}"),
                 Outcome::Asks(Question::Gate(class)) => gate = Some(self.agent.confirm_request(class)),
-                Outcome::Asks(Question::Check(fields)) => check = Some(self.agent.check(&payload[fields])),
+                Outcome::Asks(Question::Check(fields)) => check = Some(self.agent.check(payload.part(&fields))),
                 Outcome::Asks(Question::Confirmation { number }) => {
                     confirmation = Some(Numbered { number, answer: self.agent.confirm(&about) });
                 }
                 Outcome::Asks(Question::Signature { number, data, hash }) => {
-                    let s = self.agent.sign(&about, &payload[data], hash).filter(|s| s.len() <= key_agent::MAX_SIGNATURE);
+                    let s = self.agent.sign(&about, payload.part(&data), hash).filter(|s| s.len() <= key_agent::MAX_SIGNATURE);
                     signature = Some((number, s));
                 }
             }

@@ -1,7 +1,7 @@
 //! The proved key agent core for Rust programs: the rules of an SSH agent with eight places for keys, a lock, lifetimes and confirmations, and
 //! none of the rest. Sockets, signing, key mathematics and the clock stay with the caller.
 //!
-//! A request is one frame of a connection's bytes. [`Gateway::first`] takes it off their front; that call, and [`Gateway::call`] on its
+//! A request is one frame of a connection's bytes. [`Gateway::first`] finds it at their front; that call, and [`Gateway::call`] on its
 //! [`Payload`], work on the present state and either land ([`Outcome::Reply`], [`Outcome::Close`]) or ask a [`Question`]. The caller finds the
 //! answer, puts it into [`Answers`] and calls again with the same payload; other requests may land between the two calls, and each call looks at
 //! lock and table afresh. That is what the core is for: the request that lands first holds.
@@ -24,7 +24,7 @@
 //!
 //! A [`Payload`] is only ever cut out of a whole frame, so the length in front of it cannot be handed along with it:
 //!
-//! ```compile_fail
+//! ```compile_fail,E0308
 //! let (mut gateway, mut reply) = (key_agent::Gateway::new(), key_agent::Reply::new());
 //! gateway.call(&[0, 0, 0, 1, 11], 0, &key_agent::Answers::default(), &mut reply);
 //! ```
@@ -118,13 +118,21 @@ impl<'a> Payload<'a> {
     pub fn bytes(self) -> &'a [u8] {
         self.0
     }
+
+    /// What a question of this request is about.
+    pub fn part(self, part: &Part) -> &'a [u8] {
+        &self.0[part.0.clone()]
+    }
 }
 
-impl Deref for Payload<'_> {
-    type Target = [u8];
+/// A part of a payload, and of nothing else: [`Payload::part`] hands it out.
+#[derive(Clone, Debug, PartialEq, Eq, Hash)]
+pub struct Part(Range<usize>);
 
-    fn deref(&self) -> &[u8] {
-        self.0
+impl Part {
+    /// From where to where in the payload.
+    pub fn range(&self) -> Range<usize> {
+        self.0.clone()
     }
 }
 
@@ -141,7 +149,7 @@ pub enum Question {
     /// May a request of this class go on? Answered in [`Answers::gate`].
     Gate(Class),
     /// Are the key fields that stand in this part of the payload a key? Answered in [`Answers::check`].
-    Check(Range<usize>),
+    Check(Part),
     /// May the key with this insertion number sign? Answered in [`Answers::confirmation`].
     Confirmation {
         /// The key's insertion number.
@@ -152,7 +160,7 @@ pub enum Question {
         /// The key's insertion number; [`Gateway::key`] has its fields.
         number: u64,
         /// What is signed, as a part of the payload.
-        data: Range<usize>,
+        data: Part,
         /// The hash that the flags choose.
         hash: Hash,
     },
@@ -206,11 +214,11 @@ impl Outcome {
                 n => unreachable!("refusal {n}: store, reply and payload have their lengths, and the state is the core's"),
             }),
             1 => Outcome::Asks(Question::Gate(Class::of(o.number))),
-            2 => Outcome::Asks(Question::Check(o.from..o.to)),
+            2 => Outcome::Asks(Question::Check(Part(o.from..o.to))),
             3 => Outcome::Asks(Question::Confirmation { number: o.number }),
             4 => Outcome::Asks(Question::Signature {
                 number: o.number,
-                data: o.from..o.to,
+                data: Part(o.from..o.to),
                 hash: match o.hash {
                     0 => Hash::None,
                     256 => Hash::Sha256,
@@ -226,11 +234,11 @@ impl Outcome {
 }
 
 /// What a connection's bytes come to.
-#[derive(Clone, Debug, PartialEq, Eq)]
+#[derive(Clone, PartialEq, Eq)]
 pub enum First<'a> {
-    /// No whole frame yet. Nothing has changed, the clock neither.
+    /// No whole frame yet, so no call was made: nothing has changed, the clock neither.
     MoreNeeded,
-    /// The announced length is above [`MAX_PAYLOAD`]: close the connection. Nothing has changed, the clock neither.
+    /// The announced length is above [`MAX_PAYLOAD`]: close the connection. No call was made, and nothing has changed.
     TooLong,
     /// A request has begun.
     Began {
@@ -241,6 +249,17 @@ pub enum First<'a> {
         /// What its first call comes to.
         outcome: Outcome,
     },
+}
+
+impl fmt::Debug for First<'_> {
+    // of a passphrase not even the length is told
+    fn fmt(&self, f: &mut fmt::Formatter<'_>) -> fmt::Result {
+        match self {
+            First::MoreNeeded => f.write_str("MoreNeeded"),
+            First::TooLong => f.write_str("TooLong"),
+            First::Began { outcome, .. } => f.debug_struct("Began").field("outcome", outcome).finish_non_exhaustive(),
+        }
+    }
 }
 
 /// An answer that counts for one insertion number alone. If the key is replaced meanwhile, the core asks again for the new number.
@@ -302,7 +321,7 @@ impl Reply {
         Reply { buffer: Box::new([0; REPLY_LEN]), len: 0 }
     }
 
-    /// The frame of the last call that replied, its length prefix included; empty before one, and after a call, a first one too, that did not reply.
+    /// The frame of the last call that replied, its length prefix included; empty before one, and after a call that did not reply.
     pub fn bytes(&self) -> &[u8] {
         &self.buffer[..self.len]
     }
@@ -417,7 +436,7 @@ impl Gateway {
     /// The first call of a request, from its connection's bytes: looks for one frame at their front, and calls with no answers once it is whole.
     /// What stands behind that frame is not looked at.
     ///
-    /// Keep the bytes until the request ends, and let go of `used` of them then; meanwhile [`split`] cuts the same payload out of them again.
+    /// Keep the bytes until the request ends, and let go of `used` of them then; meanwhile [`Split::payload`] cuts the same payload out of them again.
     pub fn first<'a>(&mut self, bytes: &'a [u8], reading: u64, reply: &mut Reply) -> First<'a> {
         // SAFETY: as in `call`.
         let f = unsafe {
@@ -432,7 +451,6 @@ impl Gateway {
                 reply.buffer.len(),
             )
         };
-        reply.len = 0;
         match f.kind {
             0 => First::MoreNeeded,
             1 => First::TooLong,
@@ -454,8 +472,8 @@ impl Gateway {
                 &mut *self.state,
                 self.store.as_mut_ptr(),
                 self.store.len(),
-                payload.as_ptr(),
-                payload.len(),
+                payload.0.as_ptr(),
+                payload.0.len(),
                 reading,
                 flat,
                 signature.as_ptr(),
@@ -556,7 +574,7 @@ impl Drop for Gateway {
 }
 
 /// What stands at the front of a connection's bytes.
-#[derive(Clone, Debug, PartialEq, Eq)]
+#[derive(Clone, PartialEq, Eq)]
 pub enum Split<'a> {
     /// No whole frame yet.
     MoreNeeded,
@@ -569,6 +587,27 @@ pub enum Split<'a> {
         /// How many of the bytes it takes: the next one begins there.
         used: usize,
     },
+}
+
+impl<'a> Split<'a> {
+    /// The payload of a whole frame: that of a request which has begun and waits.
+    pub fn payload(self) -> Option<Payload<'a>> {
+        match self {
+            Split::Frame { payload, .. } => Some(payload),
+            Split::MoreNeeded | Split::TooLong => None,
+        }
+    }
+}
+
+impl fmt::Debug for Split<'_> {
+    // of a passphrase not even the length is told
+    fn fmt(&self, f: &mut fmt::Formatter<'_>) -> fmt::Result {
+        f.write_str(match self {
+            Split::MoreNeeded => "MoreNeeded",
+            Split::TooLong => "TooLong",
+            Split::Frame { .. } => "Frame { .. }",
+        })
+    }
 }
 
 /// Looks for one frame at the front of a connection's bytes; nothing is copied, and no call is made.
@@ -614,7 +653,7 @@ fn self_test() {
     assert_eq!((first(g.first(&[0; 5], 0, &mut reply)), reply.bytes()), ((4, Outcome::Reply), &[0, 0, 0, 1, 5][..]), "first: reply");
     let add = Payload(&add);
     assert_eq!(g.call(add, 77, &Answers::default(), &mut reply), Outcome::Asks(Question::Gate(Class::AddKeys)), "gate");
-    assert_eq!(g.call(add, 77, &a, &mut reply), Outcome::Asks(Question::Check(1..1 + fields.len())), "check");
+    assert_eq!(g.call(add, 77, &a, &mut reply), Outcome::Asks(Question::Check(Part(1..1 + fields.len()))), "check");
     a.check = Some(true);
     assert_eq!(g.call(add, 78, &a, &mut reply), Outcome::Reply, "add");
     assert_eq!(reply.bytes(), [0, 0, 0, 1, 6], "reply");
@@ -642,7 +681,7 @@ fn self_test() {
     a = Answers { gate: Some(true), ..Answers::default() };
     assert_eq!(g.call(sign, 0, &a, &mut reply), Outcome::Asks(Question::Confirmation { number: 1 }), "confirmation");
     a.confirmation = Some(Numbered { number: 1, answer: true });
-    let asks = Outcome::Asks(Question::Signature { number: 1, data: data..data + 4, hash: Hash::Sha512 });
+    let asks = Outcome::Asks(Question::Signature { number: 1, data: Part(data..data + 4), hash: Hash::Sha512 });
     assert_eq!(g.call(sign, 0, &a, &mut reply), asks, "signature");
     a.signature = Some(Numbered { number: 2, answer: Some(b"other") });
     assert_eq!(g.call(sign, 0, &a, &mut reply), asks, "an answer for another number");

@@ -1,5 +1,5 @@
-//! The first call from a connection's bytes beside the two steps, `key_agent_split` and then `key_agent_call` on the payload with nothing answered: on
-//! whole and cut frames, several in a row, any state and store, short buffers; and through the safe interface.
+//! The first call from a connection's bytes beside the two steps, `key_agent_split` and then `key_agent_call` on the payload with nothing answered:
+//! on whole and cut frames, several in a row, fresh, held, locked and damaged states, short buffers; and through the safe interface.
 mod framed;
 
 use framed::{call, string};
@@ -165,7 +165,7 @@ fn two_frames_in_one_read_and_one_in_single_bytes() {
     let frame = string(&[11]);
     for n in 0..frame.len() {
         assert_eq!(g.first(&frame[..n], 99, &mut r), First::MoreNeeded);
-        assert_eq!((g.clock(), r.bytes().len()), (0, 0));
+        assert_eq!((g.clock(), r.bytes()), (0, &[0, 0, 0, 1, 6][..]), "as it was");
     }
     assert!(matches!(g.first(&frame, 99, &mut r), First::Began { used: 5, outcome: Outcome::Asks(Question::Gate(Class::RequestKeys)), .. }));
     assert_eq!(g.clock(), 99);

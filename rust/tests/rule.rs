@@ -59,7 +59,7 @@ fn flags() {
         match call(&mut g, &signing(1, flags), 0, &yes(), &mut Reply::new()) {
             Outcome::Asks(Question::Signature { number: 1, data, hash }) => {
                 assert_eq!(hash, want);
-                assert_eq!(signing(1, flags)[data], *b"data");
+                assert_eq!(signing(1, flags)[data.range()], *b"data");
             }
             other => panic!("{other:?}"),
         }
@@ -186,7 +186,7 @@ fn frames() {
     let found = |bytes: &[u8]| match split(bytes) {
         Split::MoreNeeded => Err(0),
         Split::TooLong => Err(1),
-        Split::Frame { payload, used } => Ok((payload.to_vec(), used)),
+        Split::Frame { payload, used } => Ok((payload.bytes().to_vec(), used)),
     };
     assert_eq!(found(&[]), Err(0));
     assert_eq!(found(&[0, 0, 0]), Err(0));

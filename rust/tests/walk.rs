@@ -8,7 +8,7 @@ mod raw;
 
 const CALLS: usize = 100_000;
 /// What the walk comes to on x86-64.
-const FOLDED: u64 = 0xad89_c89f_5504_3bf3;
+const FOLDED: u64 = 0x43ee_f2c8_205d_1d20;
 
 struct Random(u64); // SplitMix64
 impl Random {
@@ -146,7 +146,7 @@ fn request(r: &mut Random) -> Vec<u8> {
 
 #[test]
 fn one_walk() {
-    let (mut r, mut f, mut kinds, mut sound, mut made) = (Random(1), Fold(0), [0; 12], [0; 2], 0);
+    let (mut r, mut f, mut kinds, mut sound, mut firsts, mut made) = (Random(1), Fold(0), [0; 12], [0; 2], [0; 4], 0);
     let (mut state, mut store) = (unsafe { raw::key_agent_fresh() }, vec![0; 32_768]);
     let mut reply = vec![0; 11_000];
     let (long, mut reading) = (vec![11; 262_145], 0u64);
@@ -247,8 +247,22 @@ fn one_walk() {
         // SAFETY: a vector's own length.
         let s = unsafe { raw::key_agent_split(front.as_ptr(), front.len()) };
         f.words([s.kind.into(), s.from as u64, s.to as u64]);
+        // SAFETY: as above.
+        let first = unsafe {
+            let (b, r) = (store.as_mut_ptr(), reply.as_mut_ptr());
+            raw::key_agent_first(&mut state, b, store.len(), front.as_ptr(), front.len(), reading, r, 10_305)
+        };
+        f.words([first.kind.into(), first.used as u64]);
+        f.outcome(&first.outcome);
+        f.state(&state);
+        firsts[first.kind as usize] += 1;
     }
-    println!("{made} calls: kinds 1 to 6 {:?}, refusals 1 to 5 {:?}; sound no, yes {sound:?}; {:#x}", &kinds[1..7], &kinds[7..], f.0);
-    assert!(kinds[1..].iter().chain(&sound).all(|n| *n > 100), "each outcome occurs");
+    println!(
+        "{made} calls: kinds 1 to 6 {:?}, refusals 1 to 5 {:?}; sound no, yes {sound:?}; first calls 0 to 3 {firsts:?}; {:#x}",
+        &kinds[1..7],
+        &kinds[7..],
+        f.0
+    );
+    assert!(kinds[1..].iter().chain(&sound).chain([&firsts[0], &firsts[1], &firsts[3]]).all(|n| *n > 100), "each outcome occurs");
     assert_eq!(f.0, FOLDED);
 }

@@ -472,7 +472,12 @@ fn judge_crossing(s: &Segment, ours: &[String], rust: &[String], predicted: &[St
         } else if p[0] == 13 && asked && l.request.confirmations > 0 && l.request.confirmations < 2 && l.request.signature.is_none() && mine[i] == FAILURE && l.request.confirmation.is_some_and(|c| c.answer) {
             let blob = strings(&p[1..], 1).0[0];
             let removed = landings[..at].iter().any(|x| {
-                x.reply == [0, 0, 0, 1, 6] && (x.request.payload()[0] == 19 || x.request.payload()[0] == 18 && strings(&x.request.payload()[1..], 1).0[0] == blob)
+                x.reply == [0, 0, 0, 1, 6]
+                    && match x.request.payload().bytes() {
+                        [19, ..] => true,
+                        [18, rest @ ..] => strings(rest, 1).0[0] == blob,
+                        _ => false,
+                    }
             });
             Some(format!("sign with a key that {} while its confirmation was open", if removed { "was removed" } else { "expired" }))
         } else if p[0] == 13 && asked && l.request.confirmation.zip(l.request.signature.as_ref()).is_some_and(|(c, s)| c.number != s.0) {

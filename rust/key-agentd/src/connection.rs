@@ -3,7 +3,7 @@ use crate::core::Lent;
 use crate::names::is_telling;
 use crate::secret::Secret;
 use crate::sockets::Peer;
-use key_agent::{split, Payload, Split};
+use key_agent::{split, Payload};
 use std::io::{ErrorKind, Read, Write};
 use std::os::unix::net::UnixStream;
 
@@ -104,10 +104,7 @@ impl Connection {
 
     /// The payload of the frame at the front, the request's that has not landed; empty where none is whole.
     pub fn payload(&self) -> Payload<'_> {
-        match split(self.bytes()) {
-            Split::Frame { payload, .. } => payload,
-            Split::MoreNeeded | Split::TooLong => Payload::default(),
-        }
+        split(self.bytes()).payload().unwrap_or_default()
     }
 
     /// The length that the frame at the front announces; 0 where not all of it has come.

@@ -79,7 +79,7 @@ impl Core {
         outcome
     }
 
-    /// Keys come and go by a success or on time, and in no other way.
+    /// Settles where keys may have come or gone: that is by a success or on time, and in no other way.
     fn called(&mut self, reading: u64) {
         if self.reply.bytes() == SUCCESS || self.due.map_or(false, |due| due <= reading) {
             self.settle();

@@ -1,15 +1,12 @@
 //! A payload for the tests: it comes out of a frame alone.
-use key_agent::{split, Answers, Gateway, Outcome, Payload, Reply, Split};
+use key_agent::{split, Answers, Gateway, Outcome, Payload, Reply};
 
 pub fn string(b: &[u8]) -> Vec<u8> {
     [&(b.len() as u32).to_be_bytes()[..], b].concat()
 }
 
 pub fn payload(frame: &[u8]) -> Payload<'_> {
-    match split(frame) {
-        Split::Frame { payload, used } if used == frame.len() => payload,
-        other => panic!("{other:?}"),
-    }
+    split(frame).payload().expect("a whole frame")
 }
 
 /// One call on a payload of these bytes.

@@ -57,7 +57,7 @@ impl Loop {
             about => request.lent.confirmation = Some(Numbered { number: about, answer: yes }),
         }
         let text = format!("{}? question {number}: {}{why}", request.what, yes_or_no(yes));
-        self.set.log.write(Level::Info, &c.name, &names::message(&c.payload()), &text);
+        self.set.log.write(Level::Info, &c.name, &names::message(c.payload().bytes()), &text);
         self.go_on(token, c)?;
         self.take_turn(token, c)
     }

@@ -57,8 +57,9 @@ impl Loop {
             if c.request.is_some() || c.is_sending() {
                 return Ok(());
             }
-            // of no bytes there is nothing to ask
-            match if c.bytes().is_empty() { First::MoreNeeded } else { self.core.first(c.bytes()) } {
+            // while nothing has come no call is made
+            let first = if c.bytes().is_empty() { First::MoreNeeded } else { self.core.first(c.bytes()) };
+            match first {
                 First::Began { used, outcome, .. } => self.begin(token, c, used, outcome)?,
                 First::TooLong => return Err(End::Fault(format!("closed: too long a frame: {} bytes announced", c.announced()))),
                 First::MoreNeeded if c.has_ended => return Err(End::Closed(c.cut().map_or("closed".to_string(), |cut| format!("closed: {cut}")))),
@@ -76,37 +77,37 @@ impl Loop {
     fn begin(&mut self, token: u64, c: &mut Connection, used: usize, first: Outcome) -> Result<(), End> {
         if self.set.log.has(Level::Info) {
             let payload = c.payload();
-            let size = if names::is_telling(&payload) { String::new() } else { format!(", {} bytes", payload.len()) };
-            self.set.log.write(Level::Info, &c.name, &names::message(&payload), &format!("request{size}"));
+            let size = if names::is_telling(payload.bytes()) { String::new() } else { format!(", {} bytes", payload.bytes().len()) };
+            self.set.log.write(Level::Info, &c.name, &names::message(payload.bytes()), &format!("request{size}"));
         }
         c.has_more = false;
         let request = Request { used, lent: Lent::default(), waiting: None, about: 0, what: String::new() };
-        self.until_landed(token, c, request, Some(first))
+        self.call_on(token, c, request, Some(first))
     }
 
     /// Goes on with the request that waited, if one did.
     pub(super) fn go_on(&mut self, token: u64, c: &mut Connection) -> Result<(), End> {
         match c.request.take() {
-            Some(request) => self.until_landed(token, c, request, None),
+            Some(request) => self.call_on(token, c, request, None),
             None => Ok(()),
         }
     }
 
-    /// Calls until the request lands or waits; what its first call came to is not asked again.
-    fn until_landed(&mut self, token: u64, c: &mut Connection, mut request: Request, first: Option<Outcome>) -> Result<(), End> {
+    /// Calls until the request lands or waits; its first call is made.
+    fn call_on(&mut self, token: u64, c: &mut Connection, mut request: Request, first: Option<Outcome>) -> Result<(), End> {
         match self.step(token, c, &mut request, first)? {
             Step::Wait(waiting, about, what) => {
                 c.request = Some(Request { waiting: Some(waiting), about, what, ..request });
                 Ok(())
             }
             Step::Close => {
-                self.set.log.write(Level::Info, &c.name, &names::message(&c.payload()), "landed: close");
+                self.set.log.write(Level::Info, &c.name, &names::message(c.payload().bytes()), "landed: close");
                 Err(End::Fault("closed".to_string()))
             }
             Step::Reply => {
                 if self.set.log.has(Level::Info) {
                     let text = format!("landed: {}", names::reply(self.core.reply()));
-                    self.set.log.write(Level::Info, &c.name, &names::message(&c.payload()), &text);
+                    self.set.log.write(Level::Info, &c.name, &names::message(c.payload().bytes()), &text);
                 }
                 c.drop_front(request.used);
                 c.active = self.set.clock.reading();
@@ -123,7 +124,7 @@ impl Loop {
                 None => self.core.call(payload, &request.lent),
             };
             if self.set.log.has(Level::Debug) {
-                self.set.log.write(Level::Debug, &c.name, &names::message(&payload), &format!("call: {}", outcome_words(&outcome)));
+                self.set.log.write(Level::Debug, &c.name, &names::message(payload.bytes()), &format!("call: {}", outcome_words(&outcome)));
             }
             match outcome {
                 Outcome::Reply => return Ok(Step::Reply),
@@ -144,24 +145,24 @@ impl Loop {
             Question::Gate(class) => {
                 let what = format!("gate {}", names::class(class));
                 match self.standing(c, self.set.options.gate) {
-                    Some(yes) => lent.gate = Some(self.stands(c, &payload, &what, yes)),
-                    None => return Ok(Some(Step::Wait(self.ask(token, c, &payload, &what, None), 0, what))),
+                    Some(yes) => lent.gate = Some(self.stands(c, payload.bytes(), &what, yes)),
+                    None => return Ok(Some(Step::Wait(self.ask(token, c, payload.bytes(), &what, None), 0, what))),
                 }
             }
             Question::Confirmation { number } => {
                 let what = format!("confirm key {number}");
                 match self.standing(c, self.set.options.confirm) {
-                    Some(yes) => lent.confirmation = Some(Numbered { number, answer: self.stands(c, &payload, &what, yes) }),
-                    None => return Ok(Some(Step::Wait(self.ask(token, c, &payload, &what, Some(number)), number, what))),
+                    Some(yes) => lent.confirmation = Some(Numbered { number, answer: self.stands(c, payload.bytes(), &what, yes) }),
+                    None => return Ok(Some(Step::Wait(self.ask(token, c, payload.bytes(), &what, Some(number)), number, what))),
                 }
             }
             Question::Check(part) => {
-                let work = Work::Check { fields: Secret::of(&payload[part])? };
+                let work = Work::Check { fields: Secret::of(payload.part(&part))? };
                 return Ok(Some(Step::Wait(self.start(token, work), 0, "key check".to_string())));
             }
             Question::Signature { number, data, hash } => {
-                let what = format!("signature by key {number}, {} bytes of data, hash {}", data.len(), names::hash(hash));
-                if let Some(work) = self.signing(number, &payload[data], hash)? {
+                let what = format!("signature by key {number}, {} bytes of data, hash {}", data.range().len(), names::hash(hash));
+                if let Some(work) = self.signing(number, payload.part(&data), hash)? {
                     return Ok(Some(Step::Wait(self.start(token, work), number, what)));
                 }
                 self.set.log.write(Level::Info, &c.name, "SIGN", &format!("{what}? none given"));
@@ -240,7 +241,7 @@ impl Loop {
             }
         };
         let text = format!("{}? {result}", request.what);
-        self.set.log.write(Level::Info, &c.name, &names::message(&c.payload()), &text);
+        self.set.log.write(Level::Info, &c.name, &names::message(c.payload().bytes()), &text);
         self.go_on(token, c)?;
         self.take_turn(token, c)
     }
