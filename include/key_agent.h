@@ -10,7 +10,7 @@
  *   - store, reply and state are written: they overlap neither each other nor payload, bytes, signature or the result, and nobody else reads
  *     or writes them while a call runs. So: one call at a time on one state. Payload, bytes and signature are only read, and may overlap;
  *   - state and store belong together: keep, copy and restore them as a pair;
- *   - the stack has room: a call takes up to 36 KB of it, a first call up to 40 KB (measured on both), a state by value 3.5 KB more.
+ *   - the stack has room: a call takes up to 36 KB of it, a first call up to 40 KB (measured on both machines), a state by value 3.5 KB more.
  *
  * Of what state and store hold nothing is asked: every bit pattern of both is covered by the proof, and one that is not sound is refused (3).
  * The padding of a state is not defined and not read, so states are not to be compared by memcmp.

@@ -148,7 +148,7 @@ impl Side {
                         table::Outcome::Reply(_) => break,
                         table::Outcome::Gate(_) => gate = Some(true),
                         table::Outcome::Check(..) => check = Some(true),
-                        table::Outcome::Sign(number, from, to, _) => made = Some((number, signature(&p[from..to]))),
+                        table::Outcome::Sign(number, from, to, _) => made = Some((number, signature(&p.bytes()[from..to]))),
                         o => panic!("{o:?}"),
                     }
                 }

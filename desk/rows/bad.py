@@ -98,6 +98,7 @@ def _():
         except OSError:
             pass
         must(r.is_closed(), 'a frame of 262,145 bytes')
+        a.logged('too long a frame: 262145 bytes announced')
         must(Raw(a).ask(LIST) == EMPTY_LIST, 'others suffer')
         must(len(re.findall('landed', a.log())) == 13, 'each frame lands once')
     with Desk('--gate', 'ask') as a:

@@ -228,6 +228,14 @@ def _():
                 r.send(bytes([b]))
                 time.sleep(0.001)
             must(receive(r.conn) == SUCCESS, 'not landed')
+            if frame is lock:
+                # a call on each of these alone, and none behind it
+                for part in (string(LIST), string(LIST)[:4], b'\0\4\0\1'):
+                    other = Raw(a)
+                    other.send(part)
+                    time.sleep(0.1)
+                    holds_once(a, words(WORD), f'locked, then {part!r}')
+                    other.conn.close()
         is_clean(a, words(WORD), 'in pieces')
         for kind in FIVE:
             add = string(ADD + fields_of(kind) + string(b'comment'))
@@ -243,4 +251,4 @@ def _():
             time.sleep(0.5)
             works(a, 'ssh-add', '-D')
             is_clean(a, private(kind), f'{kind}, a client that does not wait')
-    return 'nothing afterwards'
+    return 'found at one place while locked, whatever others send; nothing afterwards'

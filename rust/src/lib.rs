@@ -29,6 +29,14 @@
 //! gateway.call(&[0, 0, 0, 1, 11], 0, &key_agent::Answers::default(), &mut reply);
 //! ```
 //!
+//! Nor is a [`Part`] of it, which a question names, looked for among the connection's bytes:
+//!
+//! ```compile_fail,E0277
+//! fn fields(bytes: &[u8], part: key_agent::Part) -> &[u8] {
+//!     &bytes[part]
+//! }
+//! ```
+//!
 //! What each call does with state, store and reply is proved in the repository's `crates/`; this crate adds the types and keeps the two promises
 //! that the archive asks of whoever links it: every part that crosses is there for its whole length, and no two of them overlap.
 #![deny(missing_docs, unsafe_op_in_unsafe_fn)]
@@ -119,20 +127,25 @@ impl<'a> Payload<'a> {
         self.0
     }
 
-    /// What a question of this request is about.
+    /// The bytes that a question of this request is about.
+    ///
+    /// # Panics
+    ///
+    /// Where the part is another payload's and this one is too short for it. Of one that is long enough it gives what stands there.
     pub fn part(self, part: &Part) -> &'a [u8] {
         &self.0[part.0.clone()]
     }
 }
 
-/// A part of a payload, and of nothing else: [`Payload::part`] hands it out.
+/// A part of the payload of the call that asked. [`Payload::part`] has its bytes; nothing else can be indexed by it.
 #[derive(Clone, Debug, PartialEq, Eq, Hash)]
 pub struct Part(Range<usize>);
 
 impl Part {
-    /// From where to where in the payload.
-    pub fn range(&self) -> Range<usize> {
-        self.0.clone()
+    /// How many bytes it has.
+    #[allow(clippy::len_without_is_empty)]
+    pub fn len(&self) -> usize {
+        self.0.len()
     }
 }
 

@@ -93,7 +93,7 @@ fn refused(g: &mut Gateway, payload: &[u8]) {
 /// The key check is asked; with its yes the key is added.
 fn taken(g: &mut Gateway, key: &Key, payload: &[u8]) {
     match call(g, payload, 0, &gate(), &mut Reply::new()) {
-        Outcome::Asks(Question::Check(fields)) => assert_eq!(fields.range(), 1..1 + key.0.len()),
+        Outcome::Asks(Question::Check(fields)) => assert_eq!(framed::payload(&string(payload)).part(&fields), key.0),
         other => panic!("{other:?}"),
     }
     assert_eq!(reply(g, payload), SUCCESS);

@@ -1,7 +1,7 @@
 //! 01's examples and the edges of the interface, through the linked archive.
 mod framed;
 
-use framed::{call, string};
+use framed::{call, payload, string};
 use key_agent::*;
 
 /// A P-256 key whose point and number are made up: fields, blob.
@@ -59,7 +59,7 @@ fn flags() {
         match call(&mut g, &signing(1, flags), 0, &yes(), &mut Reply::new()) {
             Outcome::Asks(Question::Signature { number: 1, data, hash }) => {
                 assert_eq!(hash, want);
-                assert_eq!(signing(1, flags)[data.range()], *b"data");
+                assert_eq!(payload(&string(&signing(1, flags))).part(&data), b"data");
             }
             other => panic!("{other:?}"),
         }

@@ -8,7 +8,7 @@ mod raw;
 
 const CALLS: usize = 100_000;
 /// What the walk comes to on x86-64.
-const FOLDED: u64 = 0x43ee_f2c8_205d_1d20;
+const FOLDED: u64 = 0x1b8c_971c_15d9_a5cc;
 
 struct Random(u64); // SplitMix64
 impl Random {
@@ -144,6 +144,11 @@ fn request(r: &mut Random) -> Vec<u8> {
     p
 }
 
+/// Of store and reply buffer.
+fn lengths(r: &mut Random) -> (usize, usize) {
+    (r.mostly(32_768, &[32_768, 32_768, 32_767, 0]), r.mostly(10_305, &[11_000, 11_000, 10_304, 0]))
+}
+
 #[test]
 fn one_walk() {
     let (mut r, mut f, mut kinds, mut sound, mut firsts, mut made) = (Random(1), Fold(0), [0; 12], [0; 2], [0; 4], 0);
@@ -164,7 +169,7 @@ fn one_walk() {
         // as a host does: call, find out, call again
         for _ in 0..6 {
             reading = reading.wrapping_add(r.mostly(100, &[0, 5_000, u64::MAX]));
-            let (store_len, reply_len) = (r.mostly(32_768, &[32_768, 32_768, 32_767, 0]), r.mostly(10_305, &[11_000, 11_000, 10_304, 0]));
+            let (store_len, reply_len) = lengths(&mut r);
             // SAFETY: lengths up to those of the vectors, which do not overlap.
             let o = unsafe {
                 let (p, s) = (payload.as_ptr(), signature.as_ptr());
@@ -247,14 +252,16 @@ fn one_walk() {
         // SAFETY: a vector's own length.
         let s = unsafe { raw::key_agent_split(front.as_ptr(), front.len()) };
         f.words([s.kind.into(), s.from as u64, s.to as u64]);
+        let (store_len, reply_len) = lengths(&mut r);
         // SAFETY: as above.
         let first = unsafe {
             let (b, r) = (store.as_mut_ptr(), reply.as_mut_ptr());
-            raw::key_agent_first(&mut state, b, store.len(), front.as_ptr(), front.len(), reading, r, 10_305)
+            raw::key_agent_first(&mut state, b, store_len, front.as_ptr(), front.len(), reading, r, reply_len)
         };
         f.words([first.kind.into(), first.used as u64]);
         f.outcome(&first.outcome);
         f.state(&state);
+        f.bytes(&reply[..5]);
         firsts[first.kind as usize] += 1;
     }
     println!(
@@ -263,6 +270,6 @@ fn one_walk() {
         &kinds[7..],
         f.0
     );
-    assert!(kinds[1..].iter().chain(&sound).chain([&firsts[0], &firsts[1], &firsts[3]]).all(|n| *n > 100), "each outcome occurs");
+    assert!(kinds[1..].iter().chain(&sound).chain(&firsts).all(|n| *n > 100), "each outcome occurs");
     assert_eq!(f.0, FOLDED);
 }

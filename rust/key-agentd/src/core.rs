@@ -50,6 +50,11 @@ pub struct Core {
 
 const SUCCESS: [u8; 5] = [0, 0, 0, 1, 6];
 
+/// Is it an add, LOCK or UNLOCK?
+fn has_secrets(payload: Payload<'_>) -> bool {
+    matches!(payload.bytes().first(), Some(17 | 22 | 23 | 25))
+}
+
 impl Core {
     pub fn new(clock: Clock) -> Core {
         let gateway = Gateway::new();
@@ -62,25 +67,29 @@ impl Core {
 
     /// The first call of the request at the front of a connection's bytes, once it is whole.
     pub fn first<'a>(&mut self, bytes: &'a [u8]) -> First<'a> {
-        let reading = self.clock.reading();
+        let (reading, was_locked) = (self.clock.reading(), self.is_locked());
         let first = self.gateway.first(bytes, reading, &mut self.reply);
-        secret::wipe_stack();
-        if matches!(first, First::Began { .. }) {
-            self.called(reading);
+        match &first {
+            First::Began { payload, .. } => self.called(*payload, reading, was_locked),
+            First::MoreNeeded | First::TooLong if was_locked => secret::wipe_stack(),
+            First::MoreNeeded | First::TooLong => {}
         }
         first
     }
 
     pub fn call(&mut self, payload: Payload<'_>, lent: &Lent) -> Outcome {
-        let reading = self.clock.reading();
+        let (reading, was_locked) = (self.clock.reading(), self.is_locked());
         let outcome = self.gateway.call(payload, reading, &lent.answers(), &mut self.reply);
-        secret::wipe_stack();
-        self.called(reading);
+        self.called(payload, reading, was_locked);
         outcome
     }
 
-    /// Settles where keys may have come or gone: that is by a success or on time, and in no other way.
-    fn called(&mut self, reading: u64) {
+    /// Overwrites the stack where the call may have left a passphrase or key fields on it: the state goes by value, with the passphrase while locked.
+    /// Then settles where keys may have come or gone: that is by a success or on time, and in no other way.
+    fn called(&mut self, payload: Payload<'_>, reading: u64, was_locked: bool) {
+        if was_locked || self.is_locked() || has_secrets(payload) {
+            secret::wipe_stack();
+        }
         if self.reply.bytes() == SUCCESS || self.due.map_or(false, |due| due <= reading) {
             self.settle();
         }

@@ -2,7 +2,7 @@
 use super::*;
 
 impl Loop {
-    pub(super) fn ask(&mut self, token: u64, c: &Connection, payload: &[u8], what: &str, key: Option<u64>) -> Waiting {
+    pub(super) fn ask(&mut self, token: u64, c: &Connection, payload: &[u8], what: String, key: Option<u64>) -> Step {
         let message = names::message(payload);
         let text = Text { front: format!("{} {message} {what}", c.name), key: self.key_words(payload, key), who: c.peer.words() };
         let is_locked = self.core.is_locked();
@@ -11,7 +11,7 @@ impl Loop {
         let number = self.panel.ask(text, token, deadline, is_locked);
         self.set.log.say(format!("question {number}: {words}   ({number} y or {number} n)"));
         self.set.log.write(Level::Info, &c.name, &message, &format!("{what}? waits as question {number}"));
-        Waiting::Question(number)
+        Step::Wait(Waiting::Question(number), key.unwrap_or(0), what)
     }
 
     /// The key that a question is about: the confirmation's, or the one that the request names.

@@ -143,17 +143,17 @@ impl Loop {
     fn meet(&mut self, token: u64, c: &Connection, payload: Payload<'_>, lent: &mut Lent, question: Question) -> Result<Option<Step>, End> {
         match question {
             Question::Gate(class) => {
-                let what = format!("gate {}", names::class(class));
+                let what = || format!("gate {}", names::class(class));
                 match self.standing(c, self.set.options.gate) {
-                    Some(yes) => lent.gate = Some(self.stands(c, payload.bytes(), &what, yes)),
-                    None => return Ok(Some(Step::Wait(self.ask(token, c, payload.bytes(), &what, None), 0, what))),
+                    Some(yes) => lent.gate = Some(self.stands(c, payload.bytes(), what, yes)),
+                    None => return Ok(Some(self.ask(token, c, payload.bytes(), what(), None))),
                 }
             }
             Question::Confirmation { number } => {
-                let what = format!("confirm key {number}");
+                let what = || format!("confirm key {number}");
                 match self.standing(c, self.set.options.confirm) {
-                    Some(yes) => lent.confirmation = Some(Numbered { number, answer: self.stands(c, payload.bytes(), &what, yes) }),
-                    None => return Ok(Some(Step::Wait(self.ask(token, c, payload.bytes(), &what, Some(number)), number, what))),
+                    Some(yes) => lent.confirmation = Some(Numbered { number, answer: self.stands(c, payload.bytes(), what, yes) }),
+                    None => return Ok(Some(self.ask(token, c, payload.bytes(), what(), Some(number)))),
                 }
             }
             Question::Check(part) => {
@@ -161,7 +161,7 @@ impl Loop {
                 return Ok(Some(Step::Wait(self.start(token, work), 0, "key check".to_string())));
             }
             Question::Signature { number, data, hash } => {
-                let what = format!("signature by key {number}, {} bytes of data, hash {}", data.range().len(), names::hash(hash));
+                let what = format!("signature by key {number}, {} bytes of data, hash {}", data.len(), names::hash(hash));
                 if let Some(work) = self.signing(number, payload.part(&data), hash)? {
                     return Ok(Some(Step::Wait(self.start(token, work), number, what)));
                 }
@@ -181,9 +181,9 @@ impl Loop {
         say.standing()
     }
 
-    fn stands(&self, c: &Connection, payload: &[u8], text: &str, yes: bool) -> bool {
+    fn stands(&self, c: &Connection, payload: &[u8], what: impl Fn() -> String, yes: bool) -> bool {
         if self.set.log.has(Level::Info) {
-            self.set.log.write(Level::Info, &c.name, &names::message(payload), &format!("{text}? {}", yes_or_no(yes)));
+            self.set.log.write(Level::Info, &c.name, &names::message(payload), &format!("{}? {}", what(), yes_or_no(yes)));
         }
         yes
     }
