@@ -141,4 +141,5 @@ firsts-tell state store bytes reading buffer x after storeAfter reply eight long
 pub call-parts-lie : CallPartsLie
 call-parts-lie state store bytes reading answers signature buffer outcome after storeAfter reply eight long whole m other =
     let names = calls-name-within state store (framePayload bytes) reading answers signature buffer outcome after storeAfter reply eight long m .0 in
-    frame-parts bytes (outcome .from) (outcome .to) whole (names .ordered) (names .of-payload other)
+    let inside = names .of-payload other in
+    (frame-parts bytes (outcome .from) (outcome .to) whole (names .ordered) inside, omega (arith, inside))

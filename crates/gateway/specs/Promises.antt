@@ -225,7 +225,8 @@ pub record ByFirstExport (state : State) (store : List ℕ) (f : FirstStep) : Ty
 abbrev pub FirstExportPromises : Type 0
 FirstExportPromises = FirstPromises ByFirstExport ByExport
 
--- field by field: the kind goes by what the splitter says; where a request has begun, its frame is used; the outcome names parts of the payload
+-- field by field, for who reads them from C: the kind goes by what the splitter says; where a request has begun, its frame is used; what the outcome
+-- names lies in the payload or, of a reply, in the reply buffer
 pub record FirstFields (bytes buffer : List ℕ) (x : FlatFirst) : Type 0 where
   pub more-needed : splitNumber (splitOf bytes) ≡ 0 → x .kind ≡ 0
   pub too-long : splitNumber (splitOf bytes) ≡ 1 → x .kind ≡ 1
@@ -241,11 +242,11 @@ FirstsTell =
     → length (state .entries) ≡ 8 → length (state .lock .bytes) ≡ passphraseLimit
     → FlatFirstMeets state store bytes reading buffer x after storeAfter reply → FirstFields bytes buffer x
 
--- and where a part that a call on the payload names lies in the connection's bytes
+-- and where a part that a call on the payload names lies in the connection's bytes: not behind the frame's end
 abbrev pub CallPartsLie : Type 0
 CallPartsLie =
     (state : State) (store bytes : List ℕ) (reading : Millis) (answers : FlatAnswers) (signature buffer : List ℕ) (outcome : FlatOutcome) (after : State)
     (storeAfter reply : List ℕ)
     → length (state .entries) ≡ 8 → length (state .lock .bytes) ≡ passphraseLimit → splitNumber (splitOf bytes) ≡ 2
     → FlatMeets state store (framePayload bytes) reading answers signature buffer outcome after storeAfter reply → outcome .kind ≢ 5
-    → LiesIn bytes (outcome .from) (outcome .to)
+    → LiesIn bytes (outcome .from) (outcome .to) × (4 + outcome .to ≤ 4 + length (framePayload bytes))

@@ -7,7 +7,7 @@ use mathlib.Core.Bool.{Bool, true, false, not, cond}
 use mathlib.Core.Option.{Option, none, some}
 use mathlib.Core.List.{List, [], _∷_}
 use native.Mathlib.Omega.{arith}
-use borrow.Author.Tests.{le-ltb}
+use borrow.Author.Tests.{le-ltb, ltb-true, ltb-false, eqb-true, eqb-false}
 use lib.Dec.{eqb, ltb}
 use lib.ListN.{length, getD, drop}
 use lib.Seq.{drop-at}
@@ -28,6 +28,7 @@ use Rattle.rule.proofs.RowLaws.{rows-cases}
 use Rattle.table.specs.declared.State.{State}
 use Rattle.table.specs.Meaning.{gatewayOf}
 use Rattle.table.specs.Soundness.{soundState}
+use Rattle.table.proofs.TestLaws.{sound-state-rule}
 use Rattle.requests.specs.declared.Signed.the-variants.{Missing, Given}
 use Rattle.requests.specs.declared.Answers.{Answers}
 use Rattle.requests.specs.declared.Outcome.{Outcome}
@@ -40,10 +41,10 @@ use Rattle.server.specs.declared.first.First.{First}
 use Rattle.server.specs.declared.first.First.the-variants.{MoreNeeded, TooLong, Refused, Began}
 use Rattle.server.specs.Calls.{callOf}
 use Rattle.server.specs.First.{firstValues, nothingLent, firstIn, FirstDone, firstBy, firstOf}
-use Rattle.server.specs.Runs.{Gave, Step, ByCall, EndedWith, Unchanged, EndsAs, asCall}
+use Rattle.server.specs.Runs.{Gave, Step, ByCall, EndedWith, Unchanged, EndsAs, asCall, giving}
 use Rattle.server.specs.FirstPromises.{FirstsApart, FirstStep, firstGiving, ByFirst, FirstEnded, Whole, payloadIn, FirstUnchanged, OnPayload, AsCalled}
-use Rattle.server.specs.FirstPromises.{GateOrFailure, endedIn, stepIn, isMade}
-use Rattle.server.specs.FirstPromises.{FirstNoSecondAnswer, FirstIsTwoSteps, FirstRefusals, FirstRefusedRule, FirstUses, FirstUsesFrame, FirstAsks, FirstMade}
+use Rattle.server.specs.FirstPromises.{GateOrFailure, AnyCall, endedIn, stepIn, isMade, stepsIn}
+use Rattle.server.specs.FirstPromises.{FirstNoSecondAnswer, FirstIsTwoSteps, FirstRefusals, FirstRefusedRule, FirstUses, FirstUsesFrame, FirstAsks, FirstBegun, FirstMade}
 use Rattle.server.proofs.Leavings.{gaveOf, call-gives, refused-first, code-refusals, code-refusal-leaves, step-ends}
 
 -- ## Its number and values
@@ -197,15 +198,7 @@ module _ (state : State) (store : List ℕ) (f : FirstStep) (m : ByFirst state s
 
   -- the call that was made, as a step
   abbrev made : Step
-  made = record {
-    request = f .request;
-    payload = payloadIn f;
-    reading = f .reading;
-    answers = nothingLent;
-    signature = [];
-    buffer = f .buffer;
-    gave = record { ended = outcomeValues (onPayload .called .outcome); state = onPayload .called .state; store = onPayload .store; reply = onPayload .reply };
-  }
+  made = giving (stepIn f) (gaveOf onPayload)
 
   made-by-call : ByCall state store made
   made-by-call = record { outcome = onPayload .called .outcome; ended-is = refl; meets = record { outcome-is = refl; state-is = refl; store-is = refl; reply-is = refl } }
@@ -239,7 +232,7 @@ module _ (state : State) (store : List ℕ) (f : FirstStep) (m : ByFirst state s
   made-called : Whole f → AsCalled f made
   made-called whole = as-called whole made made-by-call (record { payload-is = refl; reading-is = refl; nothing-lent = nothing-is-lent; buffer-is = refl })
 
-pub first-is-two-steps : FirstIsTwoSteps ByFirst
+pub first-is-two-steps : FirstIsTwoSteps ByFirst ByCall
 first-is-two-steps state store f m = record {
   more-needed = λ few. let o = when-more state store f m few in (o .told, o .untouched);
   too-long = λ long. let o = when-long state store f m long in (o .told, o .untouched);
@@ -369,14 +362,39 @@ first-asks state store f S m whole room =
           wrote ∙ ends .bytes ∙ ap (λ (o : rule.Outcome). written o (f .buffer)) is,
         )
 
+pub first-begun : FirstBegun ByFirst
+first-begun state store f used ended eight long m e = by-room (ltb (length (f .buffer)) replyRoom) refl
+  where
+    never : (n : ℕ) → FirstEnded (2 ∷ n ∷ []) f → ⊥
+    never n is = omega (arith, ap (λ (vs : List ℕ). getD vs 0 0) (sym is ∙ e))
+
+    whole : Whole f
+    whole = whole-told state store f m 3 (used ∷ ended) (omega arith) e
+
+    by-sound : replyRoom ≤ length (f .buffer) → length store ≡ storeSize → (b : Bool) → soundState state store ≡ b → GateOrFailure f
+    by-sound room size true is = first-asks state store f (sound-state-rule state store eight long .0 is) m whole room
+    by-sound room size false is =
+        absurd (never 3 (first-refusals state store f eight long m .third whole room size (λ S. true-not-false (sym (sound-state-rule state store eight long .1 S) ∙ is))))
+
+    by-size : replyRoom ≤ length (f .buffer) → (b : Bool) → eqb (length store) storeSize ≡ b → GateOrFailure f
+    by-size room true is = by-sound room (eqb-true (length store) storeSize is) (soundState state store) refl
+    by-size room false is = absurd (never 2 (first-refusals state store f eight long m .second whole room (eqb-false (length store) storeSize is)))
+
+    by-room : (b : Bool) → ltb (length (f .buffer)) replyRoom ≡ b → GateOrFailure f
+    by-room true is = absurd (never 1 (first-refusals state store f eight long m .first whole (ltb-true (length (f .buffer)) replyRoom is)))
+    by-room false is = by-size (ltb-false (length (f .buffer)) replyRoom is) (eqb (length store) storeSize) refl
+
 -- ## In a run
 
 pub first-made : FirstMade ByFirst
-first-made state store f m = record {
-  whole = λ whole. made-said state store f m whole .made;
+unfolding stepsIn
+first-made state store f cs m = record {
+  whole = λ whole. ap (λ (b : Bool). cond b (stepIn f ∷ stepsIn cs) (stepsIn cs)) (made-said state store f m whole .made);
   other = λ other.
-      by-split state store f m (λ o. ap (λ (vs : List ℕ). ltb 1 (getD vs 0 0)) (o .told)) (λ o. ap (λ (vs : List ℕ). ltb 1 (getD vs 0 0)) (o .told))
-      (λ whole. absurd (other whole));
+      ap (λ (b : Bool). cond b (stepIn f ∷ stepsIn cs) (stepsIn cs))
+      (by-split state store f m (λ o. ap (λ (vs : List ℕ). ltb 1 (getD vs 0 0)) (o .told)) (λ o. ap (λ (vs : List ℕ). ltb 1 (getD vs 0 0)) (o .told))
+      (λ whole. absurd (other whole)));
+  later-too = λ k. refl;
 }
 
 -- a first call that made a call is that call; one that made none left all as it was

@@ -8,9 +8,9 @@ use mathlib.Core.List.{List, [], _∷_}
 use Rattle.table.specs.declared.State.{State}
 use Rattle.server.specs.Runs.{Step, ByCall, endState, endStore}
 use Rattle.server.specs.FirstPromises.{FirstStep, ByFirst, FirstUnchanged, first, later, isMade, stepsIn, anyEndState, anyEndStore}
-use Rattle.server.specs.FirstPromises.{ByEither, IsARunOfCalls, FirstRuns, FirstPromises}
+use Rattle.server.specs.FirstPromises.{ByEither, IsARunOfCalls, FirstIsTwoSteps, FirstRuns, FirstPromises}
 use Rattle.server.proofs.Lift.{code-promises}
-use Rattle.server.proofs.FirstLaws.{nothing-is-lent, by-made, no-second-first, first-is-two-steps, first-refusals, first-refused, first-uses, first-uses-frame, first-asks, first-made}
+use Rattle.server.proofs.FirstLaws.{nothing-is-lent, by-made, no-second-first, first-is-two-steps, first-refusals, first-refused, first-uses, first-uses-frame, first-asks, first-begun, first-made}
 
 module _ (Met : State → List ℕ → FirstStep → Type 0) (by-first : (state : State) (store : List ℕ) (f : FirstStep) → Met state store f → ByFirst state store f)
     (MetLater : State → List ℕ → Step → Type 0) (by-call : (state : State) (store : List ℕ) (k : Step) → MetLater state store k → ByCall state store k) where
@@ -43,16 +43,22 @@ module _ (Met : State → List ℕ → FirstStep → Type 0) (by-first : (state 
             end-store = rw (unmade, stays .store-stays) (rest .end-store);
           }
 
+  two-steps : FirstIsTwoSteps Met MetLater
+  two-steps state store f m =
+      let steps = first-is-two-steps state store f (by-first state store f m) in
+      record { more-needed = steps .more-needed; too-long = steps .too-long; whole = λ whole k met. steps .whole whole k (by-call state store k met) }
+
   pub first-promises : FirstPromises Met MetLater
   first-promises = record {
     no-second-answer = λ state store f other m n. no-second-first state store f other (by-first _ _ _ m) (by-first _ _ _ n);
-    two-steps = λ state store f m. first-is-two-steps state store f (by-first _ _ _ m);
+    two-steps = two-steps;
     refusals = λ state store f eight long m. first-refusals state store f eight long (by-first _ _ _ m);
     refused = λ state store f n m. first-refused state store f n (by-first _ _ _ m);
     uses = λ state store f used ended m. first-uses state store f used ended (by-first _ _ _ m);
     uses-frame = λ state store f payload rest used ended m. first-uses-frame state store f payload rest used ended (by-first _ _ _ m);
     asks = λ state store f S m. first-asks state store f S (by-first _ _ _ m);
-    made = λ state store f m. first-made state store f (by-first _ _ _ m);
+    begun = λ state store f used ended eight long m. first-begun state store f used ended eight long (by-first _ _ _ m);
+    made = λ state store f cs m. first-made state store f cs (by-first _ _ _ m);
     runs = runs;
     as-calls = code-promises (ByEither Met MetLater) either-by-call;
   }

@@ -78,10 +78,10 @@ pub record AsCalled (f : FirstStep) (k : Step) : Type 0 where
   pub store-is : f .gave .store ≡ k .gave .store
   pub reply-is : f .gave .reply ≡ k .gave .reply
 
-pub record TwoSteps (state : State) (store : List ℕ) (f : FirstStep) : Type 0 where
+pub record TwoSteps (Calls : State → List ℕ → Step → Type 0) (state : State) (store : List ℕ) (f : FirstStep) : Type 0 where
   pub more-needed : splitNumber (splitOf (f .bytes)) ≡ 0 → FirstEnded (0 ∷ []) f × FirstUnchanged state store f
   pub too-long : splitNumber (splitOf (f .bytes)) ≡ 1 → FirstEnded (1 ∷ []) f × FirstUnchanged state store f
-  pub whole : Whole f → (k : Step) → ByCall state store k → OnPayload f k → AsCalled f k
+  pub whole : Whole f → (k : Step) → Calls state store k → OnPayload f k → AsCalled f k
 
 -- ## Refusals
 
@@ -146,16 +146,17 @@ stepIn f = record {
 abbrev pub isMade : FirstStep → Bool
 isMade f = ltb 1 (getD (f .gave .ended) 0 0)
 
--- it is made exactly where a frame is whole
-pub record MadeOfWhole (f : FirstStep) : Type 0 where
-  pub whole : Whole f → isMade f ≡ true
-  pub other : splitNumber (splitOf (f .bytes)) ≢ 2 → isMade f ≡ false
-
 -- the calls of a run: more needed and too long made none
 unfoldable pub stepsIn : List AnyCall → List Step
 stepsIn [] = []
 stepsIn (first f ∷ cs) = cond (isMade f) (stepIn f ∷ stepsIn cs) (stepsIn cs)
 stepsIn (later k ∷ cs) = k ∷ stepsIn cs
+
+-- it is among them exactly where a frame is whole, and every later call is
+pub record MadeOfWhole (f : FirstStep) (cs : List AnyCall) : Type 0 where
+  pub whole : Whole f → stepsIn (first f ∷ cs) ≡ stepIn f ∷ stepsIn cs
+  pub other : splitNumber (splitOf (f .bytes)) ≢ 2 → stepsIn (first f ∷ cs) ≡ stepsIn cs
+  pub later-too : (k : Step) → stepsIn (later k ∷ cs) ≡ k ∷ stepsIn cs
 
 unfoldable pub anyEndState : State → List AnyCall → State
 anyEndState state [] = state
@@ -173,9 +174,6 @@ module _ (Met : State → List ℕ → FirstStep → Type 0) where
   abbrev pub FirstNoSecondAnswer : Type 0
   FirstNoSecondAnswer =
       (state : State) (store : List ℕ) (f : FirstStep) (other : Gave) → Met state store f → Met state store (firstGiving f other) → f .gave ≡ other
-
-  abbrev pub FirstIsTwoSteps : Type 0
-  FirstIsTwoSteps = (state : State) (store : List ℕ) (f : FirstStep) → Met state store f → TwoSteps state store f
 
   -- the two lengths are the arrays'
   abbrev pub FirstRefusals : Type 0
@@ -198,12 +196,22 @@ module _ (Met : State → List ℕ → FirstStep → Type 0) where
   FirstAsks =
       (state : State) (store : List ℕ) (f : FirstStep) → Sound state store → Met state store f → Whole f → replyRoom ≤ length (f .buffer) → GateOrFailure f
 
+  -- and of whatever has begun, on any state and store
+  abbrev pub FirstBegun : Type 0
+  FirstBegun =
+      (state : State) (store : List ℕ) (f : FirstStep) (used : ℕ) (ended : List ℕ) → length (state .entries) ≡ 8 → length (state .lock .bytes) ≡ passphraseLimit
+      → Met state store f → FirstEnded (3 ∷ used ∷ ended) f → GateOrFailure f
+
   abbrev pub FirstMade : Type 0
-  FirstMade = (state : State) (store : List ℕ) (f : FirstStep) → Met state store f → MadeOfWhole f
+  FirstMade = (state : State) (store : List ℕ) (f : FirstStep) (cs : List AnyCall) → Met state store f → MadeOfWhole f cs
 
   -- ### Runs, in which the other calls are of this kind
 
   module _ (MetLater : State → List ℕ → Step → Type 0) where
+    -- the second step is such a call
+    abbrev pub FirstIsTwoSteps : Type 0
+    FirstIsTwoSteps = (state : State) (store : List ℕ) (f : FirstStep) → Met state store f → TwoSteps MetLater state store f
+
     -- each call gets the state and store that the call before it returned
     abbrev pub AnyRun : State → List ℕ → List AnyCall → Type 0
     AnyRun state store [] = Unit {0}
@@ -239,6 +247,7 @@ module _ (Met : State → List ℕ → FirstStep → Type 0) where
       pub uses : FirstUses
       pub uses-frame : FirstUsesFrame
       pub asks : FirstAsks
+      pub begun : FirstBegun
       pub made : FirstMade
       pub runs : FirstRuns
       pub as-calls : CodePromises ByEither
