@@ -50,7 +50,7 @@ pub struct Core {
 
 const SUCCESS: [u8; 5] = [0, 0, 0, 1, 6];
 
-/// Is it an add, LOCK or UNLOCK?
+/// May a call on it leave key fields or a passphrase on the stack? An add, LOCK or UNLOCK; any other may while locked, as the state goes by value.
 fn has_secrets(payload: Payload<'_>) -> bool {
     matches!(payload.bytes().first(), Some(17 | 22 | 23 | 25))
 }
@@ -69,10 +69,15 @@ impl Core {
     pub fn first<'a>(&mut self, bytes: &'a [u8]) -> First<'a> {
         let (reading, was_locked) = (self.clock.reading(), self.is_locked());
         let first = self.gateway.first(bytes, reading, &mut self.reply);
-        match &first {
-            First::Began { payload, .. } => self.called(*payload, reading, was_locked),
-            First::MoreNeeded | First::TooLong if was_locked => secret::wipe_stack(),
-            First::MoreNeeded | First::TooLong => {}
+        let began = match &first {
+            First::Began { payload, .. } => Some(*payload),
+            First::MoreNeeded | First::TooLong => None,
+        };
+        if was_locked || self.is_locked() || began.map_or(false, has_secrets) {
+            secret::wipe_stack();
+        }
+        if began.is_some() {
+            self.called(reading);
         }
         first
     }
@@ -80,16 +85,15 @@ impl Core {
     pub fn call(&mut self, payload: Payload<'_>, lent: &Lent) -> Outcome {
         let (reading, was_locked) = (self.clock.reading(), self.is_locked());
         let outcome = self.gateway.call(payload, reading, &lent.answers(), &mut self.reply);
-        self.called(payload, reading, was_locked);
-        outcome
-    }
-
-    /// Overwrites the stack where the call may have left a passphrase or key fields on it: the state goes by value, with the passphrase while locked.
-    /// Then settles where keys may have come or gone: that is by a success or on time, and in no other way.
-    fn called(&mut self, payload: Payload<'_>, reading: u64, was_locked: bool) {
         if was_locked || self.is_locked() || has_secrets(payload) {
             secret::wipe_stack();
         }
+        self.called(reading);
+        outcome
+    }
+
+    /// Settles where keys may have come or gone: that is by a success or on time, and in no other way.
+    fn called(&mut self, reading: u64) {
         if self.reply.bytes() == SUCCESS || self.due.map_or(false, |due| due <= reading) {
             self.settle();
         }
