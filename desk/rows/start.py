@@ -6,7 +6,6 @@ import signal
 import socket
 import stat
 import subprocess
-import tempfile
 import time
 
 from . import base
@@ -51,7 +50,8 @@ def _():
         if runtime:
             env['XDG_RUNTIME_DIR'] = runtime
         for umask in (0, 0o177):
-            with tempfile.TemporaryFile('w+') as out:
+            with open(at('said'), 'a+') as out:  # the agent writes at its end, wherever we have read
+                out.truncate(0)
                 p = subprocess.Popen([AGENT, '--panel', at('run/panel')], stdin=subprocess.DEVNULL, stdout=out, env=env,
                                      preexec_fn=lambda: os.umask(umask))
                 try:
