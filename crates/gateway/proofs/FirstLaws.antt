@@ -8,7 +8,6 @@ use native.Mathlib.Omega.{arith}
 use lib.ListN.{length}
 use Rattle.wire.specs.declared.frame.Split.{Split}
 use Rattle.wire.specs.declared.frame.Split.the-variants as split
-use Rattle.wire.specs.Limits.{passphraseLimit}
 use Rattle.wire.specs.Frames.{splitOf, splitNumber, framePayload}
 use Rattle.wire.proofs.FrameLaws.{whole-frame, frame-parts}
 use Rattle.rule.specs.declared.Millis.{Millis}
@@ -102,7 +101,7 @@ module _ (bytes buffer : List ℕ) where
     called-fields (Reply n) names unused = begun-fields (Reply n) names unused
     called-fields Close names unused = begun-fields Close names unused
 
-module _ (state : State) (store bytes : List ℕ) (reading : Millis) (buffer : List ℕ) (eight : length (state .entries) ≡ 8) (long : length (state .lock .bytes) ≡ passphraseLimit) where
+module _ (state : State) (store bytes : List ℕ) (reading : Millis) (buffer : List ℕ) where
   fields-by : (x : Split) → splitOf bytes ≡ x → FirstFields bytes buffer (flatFirst (firstBy state store bytes reading buffer x .first))
   unfolding firstBy flatFirst
   fields-by split.MoreNeeded e = record {
@@ -128,18 +127,18 @@ module _ (state : State) (store bytes : List ℕ) (reading : Millis) (buffer : L
       let end : to ≡ 4 + length (framePayload bytes) = same-end (sym e ∙ whole-frame bytes whole .is) in
       let o = callOf state store (framePayload bytes) reading nothingLent [] buffer .called .outcome in
       rw end
-      (called-fields bytes buffer whole o (call-names-within state store (framePayload bytes) reading nothingLent [] buffer eight long) (flat-first-unused (firstIn (frameEnd bytes buffer whole) o)))
+      (called-fields bytes buffer whole o (call-names-within state store (framePayload bytes) reading nothingLent [] buffer) (flat-first-unused (firstIn (frameEnd bytes buffer whole) o)))
     where
       same-end : {f g s t : ℕ} → split.Frame f s ≡ split.Frame g t → s ≡ t
       same-end is = cc
 
 pub firsts-tell : FirstsTell
 unfolding firstOf
-firsts-tell state store bytes reading buffer x after storeAfter reply eight long m =
-    subst (FirstFields bytes buffer) (sym (m .first-is)) (fields-by state store bytes reading buffer eight long (splitOf bytes) refl)
+firsts-tell state store bytes reading buffer x after storeAfter reply m =
+    subst (FirstFields bytes buffer) (sym (m .first-is)) (fields-by state store bytes reading buffer (splitOf bytes) refl)
 
 pub call-parts-lie : CallPartsLie
-call-parts-lie state store bytes reading answers signature buffer outcome after storeAfter reply eight long whole m other =
-    let names = calls-name-within state store (framePayload bytes) reading answers signature buffer outcome after storeAfter reply eight long m .0 in
+call-parts-lie state store bytes reading answers signature buffer outcome after storeAfter reply whole m other =
+    let names = calls-name-within state store (framePayload bytes) reading answers signature buffer outcome after storeAfter reply m .0 in
     let inside = names .of-payload other in
     (frame-parts bytes (outcome .from) (outcome .to) whole (names .ordered) inside, omega (arith, inside))

@@ -3,5 +3,6 @@ pub mod FlatSteps
 pub mod FlatLaws
 pub mod WithinLaws
 pub mod ExportLaws
+pub mod Lending
 pub mod AskedLaws
 pub mod FirstLaws

@@ -179,7 +179,7 @@ passed buffer store isSound payload lentBytes =
     some-refusal n never = absurd (some-not-none never)
 
 -- a reply of a call that was not refused fits the buffer
-module _ (s : State) (x payload : List ℕ) (reading : Millis) (answers : rule.Answers) (buffer : ℕ) (eight : length (s .entries) ≡ 8) (long : length (s .lock .bytes) ≡ passphraseLimit) where
+module _ (s : State) (x payload : List ℕ) (reading : Millis) (answers : rule.Answers) (buffer : ℕ) where
   abbrev made : Call
   made = record { request = 0; frame = record { payload = payload }; reading = reading; answers = answers; buffer = buffer; store = length x }
 
@@ -188,7 +188,7 @@ module _ (s : State) (x payload : List ℕ) (reading : Millis) (answers : rule.A
   unfolding call refusal
   reply-fits ok bytes e =
       let p = passed buffer (length x) (soundState s x) (length payload) (lentLength (answers .signature)) ok in
-      let S = sound-meaning s x (sound-state-rule s x eight long .0 (p .sound-found)) in
+      let S = sound-meaning s x (sound-state-rule s x .0 (p .sound-found)) in
       let same-test : sound (gatewayOf s x) ≡ soundState s x = sound-rule (gatewayOf s x) .1 S ∙ sym (p .sound-found) in
       let none-of : refusal (gatewayOf s x) made ≡ none = ap (λ (b : Bool). refusalOf buffer (length x) b (length payload) (lentLength (answers .signature))) same-test ∙ ok in
       let r = replies-fit (gatewayOf s x) made bytes S (rw none-of e) in
@@ -213,10 +213,9 @@ coded payload buffer (lands (reply bytes)) f g = record { ordered = omega arith;
 coded payload buffer (lands close) f g = record { ordered = omega arith; of-payload = λ _. omega arith; of-reply = λ _. omega arith }
 
 pub call-names-within : (state : State) (store payload : List ℕ) (reading : Millis) (answers : Answers) (bytes buffer : List ℕ)
-    → length (state .entries) ≡ 8 → length (state .lock .bytes) ≡ passphraseLimit
     → NamesWithin payload buffer (flatOf (callOf state store payload reading answers bytes buffer .called .outcome))
 unfolding callOf served flatOf
-call-names-within state store payload reading answers bytes buffer eight long =
+call-names-within state store payload reading answers bytes buffer =
     given-cases (λ (d : Done). NamesWithin payload buffer (flatOf (d .called .outcome)))
     (refusalOf (length buffer) (length store) (soundState state store) (length payload) (lentLength (lentOf answers bytes .signature)))
     {z = laidOut buffer (served (advance reading (gatewayOf state store)) (record { payload = payload }) (lentOf answers bytes))}
@@ -224,11 +223,11 @@ call-names-within state store payload reading answers bytes buffer eight long =
     (λ ok.
     coded payload buffer (served (advance reading (gatewayOf state store)) (record { payload = payload }) (lentOf answers bytes) .outcome)
     (rule-inside payload (lent (lentOf answers bytes)) (advance reading (gatewayOf state store)) .inside)
-    (reply-fits state store payload reading (lentOf answers bytes) (length buffer) eight long ok))
+    (reply-fits state store payload reading (lentOf answers bytes) (length buffer) ok))
     (λ n _. record { ordered = omega arith; of-payload = λ _. omega arith; of-reply = λ _. omega arith })
 
 pub calls-name-within : CallsNameWithin
-calls-name-within state store payload reading answers bytes buffer outcome after storeAfter out eight long m = (
-  subst (NamesWithin payload buffer) (sym (m .outcome-is)) (call-names-within state store payload reading (answersOf answers) bytes buffer eight long),
+calls-name-within state store payload reading answers bytes buffer outcome after storeAfter out m = (
+  subst (NamesWithin payload buffer) (sym (m .outcome-is)) (call-names-within state store payload reading (answersOf answers) bytes buffer),
   subst UnusedZero (sym (m .outcome-is)) (flat-unused (callOf state store payload reading (answersOf answers) bytes buffer .called .outcome)),
 )

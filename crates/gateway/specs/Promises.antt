@@ -7,7 +7,7 @@ use mathlib.Core.Bool.{Bool, true, false, cond}
 use mathlib.Core.List.{List, [], _∷_}
 use lib.ListN.{length}
 use lib.Dec.{eqb}
-use Rattle.wire.specs.Limits.{passphraseLimit, replyRoom}
+use Rattle.wire.specs.Limits.{replyRoom}
 use Rattle.wire.specs.Numbers.{Bytes}
 use Rattle.wire.specs.Read.{cutOf}
 use Rattle.wire.specs.Frames.{splitOf, splitNumber, framePayload}
@@ -126,7 +126,6 @@ abbrev pub CallsNameWithin : Type 0
 CallsNameWithin =
     (state : State) (store payload : List ℕ) (reading : Millis) (answers : FlatAnswers) (signature buffer : List ℕ) (outcome : FlatOutcome) (after : State)
     (storeAfter reply : List ℕ)
-    → length (state .entries) ≡ 8 → length (state .lock .bytes) ≡ passphraseLimit
     → FlatMeets state store payload reading answers signature buffer outcome after storeAfter reply
     → NamesWithin payload buffer outcome × UnusedZero outcome
 
@@ -239,7 +238,6 @@ pub record FirstFields (bytes buffer : List ℕ) (x : FlatFirst) : Type 0 where
 abbrev pub FirstsTell : Type 0
 FirstsTell =
     (state : State) (store bytes : List ℕ) (reading : Millis) (buffer : List ℕ) (x : FlatFirst) (after : State) (storeAfter reply : List ℕ)
-    → length (state .entries) ≡ 8 → length (state .lock .bytes) ≡ passphraseLimit
     → FlatFirstMeets state store bytes reading buffer x after storeAfter reply → FirstFields bytes buffer x
 
 -- and where a part that a call on the payload names lies in the connection's bytes: not behind the frame's end
@@ -247,6 +245,6 @@ abbrev pub CallPartsLie : Type 0
 CallPartsLie =
     (state : State) (store bytes : List ℕ) (reading : Millis) (answers : FlatAnswers) (signature buffer : List ℕ) (outcome : FlatOutcome) (after : State)
     (storeAfter reply : List ℕ)
-    → length (state .entries) ≡ 8 → length (state .lock .bytes) ≡ passphraseLimit → splitNumber (splitOf bytes) ≡ 2
+    → splitNumber (splitOf bytes) ≡ 2
     → FlatMeets state store (framePayload bytes) reading answers signature buffer outcome after storeAfter reply → outcome .kind ≢ 5
     → LiesIn bytes (outcome .from) (outcome .to) × (4 + outcome .to ≤ 4 + length (framePayload bytes))

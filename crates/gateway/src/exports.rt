@@ -7,15 +7,15 @@ use crate::flat::answers_of;
 use crate::flat::first_of;
 use crate::flat::flat_of;
 use crate::flat::split;
-use crate::lent::serve;
 use crate::lent::serve_first;
+use crate::lent::serve_lent;
 use lookups::HeldKey;
 use lookups::held::key_of;
 use lookups::order::next_of;
 use rule::Millis;
 use table::State;
 use table::fresh;
-use table::soundness::is_sound;
+use table::soundness::is_state_sound;
 ghost use mathlib.Core.Path.{_≡_};
 ghost use Rattle.rule.specs.Gateway.{fresh as freshGateway};
 ghost use Rattle.table.specs.Meaning.{stateOf};
@@ -35,7 +35,7 @@ pub extern "C" fn key_agent_fresh() -> State
 pub extern "C" fn key_agent_is_sound(state: State, store: &[u8]) -> bool
     ensures { λ r. ⌜ r ≡ soundState state (now (store .entry)) ⌝ }
 {
-    is_sound(state, store)
+    is_state_sound(state, store)
 }
 
 #[no_mangle]
@@ -51,7 +51,7 @@ pub extern "C" fn key_agent_call(
     ensures { λ r. ⌜ FlatMeets (now (state .entry)) (now (store .entry)) (now (payload .entry)) reading answers (now (signature .entry)) (now (reply .entry)) r (now (state .exit)) (now (store .exit)) (now (reply .exit)) ⌝ }
 {
     let lent = answers_of(answers);
-    let outcome = serve(state, store, payload, reading, lent, signature, reply);
+    let outcome = serve_lent(state, store, payload, reading, lent, signature, reply);
     flat_of(outcome)
 }
 

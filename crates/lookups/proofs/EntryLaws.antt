@@ -5,7 +5,7 @@ use mathlib.Core.Path.{_≡_, refl, sym, ap, _∙_}
 use mathlib.Core.Option.{some}
 use mathlib.Core.List.{List}
 use native.Mathlib.Omega.{arith}
-use lib.ListN.{getD}
+use lib.ListN.{length}
 use Rattle.wire.specs.Limits.{blobLimit, fieldsLimit}
 use Rattle.keys.specs.declared.constraints.Lifetime.{Lifetime}
 use Rattle.keys.specs.declared.constraints.Lifetime.the-variants.{Forever, For}
@@ -13,14 +13,15 @@ use Rattle.rule.specs.declared.Millis.{Millis}
 use Rattle.rule.specs.Gateway.{Entry as Key}
 use Rattle.rule.specs.Words.{HeldAt}
 use Rattle.rule.proofs.PlaceLaws.{some-not-none, same-entry}
-use Rattle.table.specs.declared.Entry.{Entry}
 use Rattle.table.specs.declared.State.{State}
-use Rattle.table.specs.Meaning.{isSet, lifetimeOf, placeOf, gatewayOf, noEntry, startOf, fieldsStart, partAt, limitedFlag, keptSeconds, entryFor}
+use Rattle.table.specs.declared.Figures.{Figures}
+use Rattle.table.specs.Entries.{Entry, entryAt, entryBy}
+use Rattle.table.specs.Meaning.{isSet, limitedLifetime, lifetimeOf, placeOf, entriesOf, gatewayOf, startOf, fieldsStart, partAt, limitedFlag, keptSeconds, keptComment, entryFor}
 use Rattle.table.specs.Soundness.{SoundPlace, free, held, Sound}
-use Rattle.table.proofs.SizeLaws.{in-store}
 use Rattle.table.proofs.WritingLaws.{Seen, seen-free, seen-held, seen}
-use Rattle.table.proofs.ReadLaws.{view-at, state-sound-at}
-use Rattle.lookups.specs.Told.{leftAt, toldOf}
+use Rattle.table.proofs.ReadLaws.{state-place, state-sound-at, state-whole}
+use Rattle.lookups.specs.declared.Comment.{Comment}
+use Rattle.lookups.specs.Told.{leftAt, kept as keptText, toldOf}
 
 -- an entry's lengths and reading
 pub record Kept (clock : Millis) (e : Entry) : Type 0 where
@@ -37,21 +38,20 @@ kept clock next e p (free f _) =
 kept clock next e p (held s) = record { blob-fits = s .blob-fits; fields-fit = s .fields-fit; reading-past = s .reading-past }
 
 module _ (s : State) (x : List ℕ) (S : Sound s x) (i : ℕ) (h : i < 8) where
-  pub entry-kept : Kept (s .clock) (getD (s .entries) i noEntry)
+  pub entry-kept : Kept (s .clock) (entryAt (s .columns) (s .comments) i)
   entry-kept = kept _ _ _ _ (state-sound-at s x S i h)
 
   -- it is written as the key is
-  pub entry-is : (k : Key) → HeldAt (gatewayOf s x) i k → getD (s .entries) i noEntry ≡ entryFor (some k)
-  unfolding gatewayOf
-  entry-is k there = by-seen (seen _ _ _ _ (in-store (s .entries) x (S .eight-entries) (S .store-size) i h .whole) (state-sound-at s x S i h))
+  pub entry-is : (k : Key) → HeldAt (gatewayOf s x) i k → entryAt (s .columns) (s .comments) i ≡ entryFor (some k)
+  entry-is k there = by-seen (seen _ _ _ _ (state-whole s x S i h) (state-sound-at s x S i h))
     where
       e : Entry
-      e = getD (s .entries) i noEntry
+      e = entryAt (s .columns) (s .comments) i
 
-      place : placeOf e (partAt (s .entries) x i) ≡ some k
-      place = sym (view-at (s .entries) x (S .eight-entries) i h) ∙ there
+      place : placeOf e (partAt (entriesOf s) x i) ≡ some k
+      place = sym (state-place s x i h) ∙ there
 
-      by-seen : Seen (s .clock) (s .next) e (partAt (s .entries) x i) → e ≡ entryFor (some k)
+      by-seen : Seen (s .clock) (s .next) e (partAt (entriesOf s) x i) → e ≡ entryFor (some k)
       by-seen (seen-free is _ _) = absurd (some-not-none (sym place ∙ is))
       by-seen (seen-held is entry _ _) = entry ∙ ap (λ (k : Key). entryFor (some k)) (same-entry (sym is ∙ place))
 
@@ -62,17 +62,31 @@ lifetime-is : (l : Lifetime) → cond (isSet (limitedFlag l)) (For (keptSeconds 
 lifetime-is Forever = refl
 lifetime-is (For seconds) = refl
 
-pub told-is : (s : State) (i : ℕ) (left : Millis) (blob fields : ℕ) (e : Entry) (k : Key) → e ≡ entryFor (some k) → left ≡ leftAt (s .clock) (e .reading) (lifetimeOf e)
-    → blob ≡ startOf (s .entries) i → fields ≡ fieldsStart (s .entries) i → record {
-      number = e .number;
-      confirm = e .confirm;
-      limited = e .limited;
+-- figures and comment that are written as a key is, and starts of places, tell that key
+pub told-is : (s : State) (i : ℕ) (left : Millis) (blob fields : ℕ) (f : Figures) (c : Comment) (k : Key) → c .len ≡ f .«comment_len» → entryBy f (c .bytes) ≡ entryFor (some k)
+    → left ≡ leftAt (s .clock) (f .reading) (limitedLifetime (f .limited) (f .seconds)) → blob ≡ startOf (entriesOf s) i → fields ≡ fieldsStart (entriesOf s) i → record {
+      number = f .number;
+      confirm = f .confirm;
+      limited = f .limited;
       left = left;
       «blob_from» = blob;
-      «blob_to» = blob + e .«blob_len»;
+      «blob_to» = blob + f .«blob_len»;
       «fields_from» = fields;
-      «fields_to» = fields + e .«fields_len»;
-      comment = e .comment;
+      «fields_to» = fields + f .«fields_len»;
+      comment = c;
     } ≡ toldOf s i k
-unfolding toldOf entryFor
-told-is s i left blob fields e k entry left-is blob-is fields-is = rw (left-is, entry, blob-is, fields-is, lifetime-is (k .lifetime))
+unfolding toldOf entryFor keptComment keptText
+told-is s i left blob fields f c k long entry left-is blob-is fields-is =
+    let left-told = left-is ∙ ap (λ (e : Entry). leftAt (s .clock) (e .reading) (lifetimeOf e)) entry ∙ ap (leftAt (s .clock) (k .reading)) (lifetime-is (k .lifetime)) in
+    let length-told : c .len ≡ length (k .comment) = long ∙ ap (λ (e : Entry). e .comment .len) entry in
+    λ j. record {
+      number = entry j .number;
+      confirm = entry j .confirm;
+      limited = entry j .limited;
+      left = left-told j;
+      «blob_from» = blob-is j;
+      «blob_to» = blob-is j + entry j .«blob_len»;
+      «fields_from» = fields-is j;
+      «fields_to» = fields-is j + entry j .«fields_len»;
+      comment = record { bytes = entry j .comment .bytes; len = length-told j };
+    }

@@ -25,19 +25,20 @@ use Rattle.rule.specs.Words.{HeldAt, Held}
 use Rattle.rule.proofs.Cases.{true-not-false}
 use Rattle.rule.proofs.Clock.{same-count}
 use Rattle.rule.proofs.PlaceLaws.{some-not-none, same-entry, Holds, every-at, distinct-at, getD-map, freed-fewer, lasting-frees, seek-first, seek-none}
-use Rattle.table.specs.declared.Entry.{Entry}
 use Rattle.table.specs.declared.State.{State}
 use Rattle.table.specs.Bytes.{padded}
-use Rattle.table.specs.Meaning.{gatewayOf, keyOf, noEntry, startOf, fieldsStart, partAt, keptComment, flagOf, limitedFlag, entryFor}
+use Rattle.table.specs.Entries.{Entry}
+use Rattle.table.specs.Meaning.{entriesOf, gatewayOf, keyOf, noEntry, startOf, fieldsStart, partAt, flagOf, limitedFlag, entryFor}
 use Rattle.table.specs.Soundness.{soundState, Sound}
 use Rattle.table.proofs.ByteLaws.{padded-size, padded-front, padded-rest}
+use Rattle.table.proofs.EntryLaws.{entries-at}
 use Rattle.table.proofs.SizeLaws.{InStore, in-store}
 use Rattle.table.proofs.TestLaws.{sound-state-rule}
 use Rattle.table.proofs.WritingLaws.{sound-meaning}
-use Rattle.table.proofs.ReadLaws.{view-at, place-held, blob-lies, blob-ends, fields-lie, fields-end}
+use Rattle.table.proofs.ReadLaws.{long, view-at, place-held, blob-lies, blob-ends, fields-lie, fields-end}
 use Rattle.lookups.specs.declared.HeldKey.{HeldKey}
-use Rattle.lookups.specs.Told.{hasNumber, leftAt, nothing, toldOf, keyTold}
-use Rattle.lookups.specs.Promises.{HeldUnder, Arrays, Says, Tells, KeyRule, LeftSays, LeftRule, AllZero, NothingRule, ToldRule, PartsWithin, PartsRule}
+use Rattle.lookups.specs.Told.{hasNumber, leftAt, kept, nothing, toldOf, keyTold}
+use Rattle.lookups.specs.Promises.{HeldUnder, Says, Tells, KeyRule, LeftSays, LeftRule, AllZero, NothingRule, ToldRule, PartsWithin, PartsRule}
 use Rattle.lookups.proofs.EntryLaws.{entry-is}
 use Rattle.lookups.proofs.ToldLaws.{Numbered, number-there, key-unsound, key-absent, key-found, numbered-at}
 
@@ -77,7 +78,7 @@ module _ (ps : List Place) (d : Distinct ps) (i : ℕ) (k : Key) (there : Holds 
 -- ## What is told of a held key
 
 pub is-sound : (s : State) (x : List ℕ) → Sound s x → soundState s x ≡ true
-is-sound s x S = sound-state-rule s x (S .eight-entries) (S .lock .record-size) .1 S
+is-sound s x S = sound-state-rule s x .1 S
 
 module _ (s : State) (x : List ℕ) (i : ℕ) (k : Key) (S : Sound s x) (there : HeldAt (gatewayOf s x) i k) where
   abbrev g : Gateway
@@ -95,28 +96,28 @@ module _ (s : State) (x : List ℕ) (i : ℕ) (k : Key) (S : Sound s x) (there :
   inside : i < 8
   inside = let h = holds-inside (g .places) i k there in let eight = meant .eight-places in omega arith
 
-  entry : getD (s .entries) i noEntry ≡ entryFor (some k)
-  entry = entry-is s x S i inside k there
+  entry : getD (entriesOf s) i noEntry ≡ entryFor (some k)
+  entry = entries-at (s .columns) (s .comments) i noEntry inside ∙ entry-is s x S i inside k there
 
   -- its bytes are those of its place
-  key-is : k ≡ keyOf (getD (s .entries) i noEntry) (partAt (s .entries) x i)
+  key-is : k ≡ keyOf (getD (entriesOf s) i noEntry) (partAt (entriesOf s) x i)
   unfolding gatewayOf entryFor
   key-is =
-      let e = getD (s .entries) i noEntry in
+      let e = getD (entriesOf s) i noEntry in
       let same-number : e .number ≡ k .number = ap (λ (e : Entry). e .number) entry in
       let first = key-sound .number-first in
-      same-entry (sym there ∙ view-at (s .entries) x (S .eight-entries) i inside ∙ place-held e (partAt (s .entries) x i) (λ never. omega arith))
+      same-entry (sym there ∙ view-at (entriesOf s) x (long s x) i inside ∙ place-held e (partAt (entriesOf s) x i) (λ never. omega arith))
 
-kept-says : (c : List ℕ) → length c ≤ commentLimit → Says (keptComment c) c
-unfolding keptComment
+kept-says : (c : List ℕ) → length c ≤ commentLimit → Says (kept c) c
+unfolding kept
 kept-says c h = record { long = refl; text-is = padded-front commentLimit c; rest = padded-rest commentLimit c; whole = padded-size commentLimit c h }
 
 module _ (s : State) (x : List ℕ) (i : ℕ) (k : Key) (S : Sound s x) (there : HeldAt (gatewayOf s x) i k) where
   abbrev e : Entry
-  e = getD (s .entries) i noEntry
+  e = getD (entriesOf s) i noEntry
 
-  stored : InStore (s .entries) x i
-  stored = in-store (s .entries) x (S .eight-entries) (S .store-size) i (inside s x i k S there)
+  stored : InStore (entriesOf s) x i
+  stored = in-store (entriesOf s) x (long s x) (S .store-size) i (inside s x i k S there)
 
   lengths : Fits (k .blob) (k .fields) (k .comment)
   lengths = key-sound s x i k S there .lengths
@@ -143,22 +144,22 @@ module _ (s : State) (x : List ℕ) (i : ℕ) (k : Key) (S : Sound s x) (there :
     no-confirm = λ no. ap flagOf no;
     limited = λ seconds l. ap limitedFlag l;
     unlimited = λ l. ap limitedFlag l;
-    blob = ap (λ (n : ℕ). cutOf x (startOf (s .entries) i) (startOf (s .entries) i + n)) (sym blob-long)
-        ∙ blob-lies (s .entries) x i stored blob-fits
+    blob = ap (λ (n : ℕ). cutOf x (startOf (entriesOf s) i) (startOf (entriesOf s) i + n)) (sym blob-long)
+        ∙ blob-lies (entriesOf s) x i stored blob-fits
         ∙ ap (λ (k : Key). k .blob) (sym (key-is s x i k S there));
-    fields = ap (λ (n : ℕ). cutOf x (fieldsStart (s .entries) i) (fieldsStart (s .entries) i + n)) (sym fields-long)
-        ∙ fields-lie (s .entries) x i stored fields-fit
+    fields = ap (λ (n : ℕ). cutOf x (fieldsStart (entriesOf s) i) (fieldsStart (entriesOf s) i + n)) (sym fields-long)
+        ∙ fields-lie (entriesOf s) x i stored fields-fit
         ∙ ap (λ (k : Key). k .fields) (sym (key-is s x i k S there));
     comment = kept-says (k .comment) (lengths .comment-fits);
   }
 
   told-within : PartsWithin x (toldOf s i k)
-  unfolding toldOf keptComment
+  unfolding toldOf kept
   told-within = record {
     blob-ordered = omega arith;
-    blob-within = rw blob-long at (blob-ends (s .entries) x i stored blob-fits);
+    blob-within = rw blob-long at (blob-ends (entriesOf s) x i stored blob-fits);
     fields-ordered = omega arith;
-    fields-within = rw fields-long at (fields-end (s .entries) x i stored fields-fit);
+    fields-within = rw fields-long at (fields-end (entriesOf s) x i stored fields-fit);
     comment-within = lengths .comment-fits;
   }
 
@@ -254,7 +255,7 @@ left-rule s x k S (i, there) =
 -- ## Nothing told
 
 nothing-zero : AllZero nothing
-unfolding nothing keptComment padded
+unfolding nothing kept padded
 nothing-zero = record { number = refl; confirm = refl; limited = refl; left = refl; blob = (refl, refl); fields = (refl, refl); comment = (refl, refl) }
 
 -- a lookup ends so: with nothing, or with a held key of a sound pair
@@ -262,7 +263,7 @@ data Ended (s : State) (x : List ℕ) (n : ℕ) : Type 0 where
   untold : keyTold s x n ≡ nothing → (Sound s x → HeldUnder (gatewayOf s x) n → ⊥) → Ended s x n
   told : (S : Sound s x) (h : HeldUnder (gatewayOf s x) n) → keyTold s x n ≡ toldOf s (h .held .0) (h .key) → Ended s x n
 
-module _ (s : State) (x : List ℕ) (n : ℕ) (a : Arrays s) where
+module _ (s : State) (x : List ℕ) (n : ℕ) where
   held-told : (S : Sound s x) (h : HeldUnder (gatewayOf s x) n) → keyTold s x n ≡ toldOf s (h .held .0) (h .key)
   held-told S h = ap (keyTold s x) (sym (h .number)) ∙ told-held s x (h .held .0) (h .key) S (h .held .1)
 
@@ -276,7 +277,7 @@ module _ (s : State) (x : List ℕ) (n : ℕ) (a : Arrays s) where
           at-not-nothing (sym (subst (λ (m : ℕ). seek (hasNumber m) 0 (gatewayOf s x .places) ≡ At i) (h .number) found-there) ∙ e))
       by-search t (At i) e =
           let k = numbered-at s x n i e in
-          let S = sound-state-rule s x (a .entries) (a .lock) .0 t in
+          let S = sound-state-rule s x .0 t in
           let h : HeldUnder (gatewayOf s x) n = record { key = k .key; held = (i, k .there); number = k .is } in
           told S h (held-told S h)
 
@@ -285,7 +286,7 @@ module _ (s : State) (x : List ℕ) (n : ℕ) (a : Arrays s) where
       by-test true e = by-search e (seek (hasNumber n) 0 (gatewayOf s x .places)) refl
 
 pub nothing-rule : NothingRule
-nothing-rule s x n a never = by-end (ended s x n a)
+nothing-rule s x n never = by-end (ended s x n)
   where
     by-end : Ended s x n → AllZero (keyTold s x n)
     by-end (untold e _) = subst AllZero (sym e) nothing-zero
@@ -293,7 +294,7 @@ nothing-rule s x n a never = by-end (ended s x n a)
 
 pub told-rule : ToldRule
 unfolding toldOf
-told-rule s x n a = (by-end (ended s x n a), some-number)
+told-rule s x n = (by-end (ended s x n), some-number)
   where
     by-end : Ended s x n → keyTold s x n .number ≢ 0 → Sound s x × HeldUnder (gatewayOf s x) n
     by-end (untold e _) is = absurd (is (ap (λ (r : HeldKey). r .number) e ∙ nothing-zero .number))
@@ -301,13 +302,13 @@ told-rule s x n a = (by-end (ended s x n a), some-number)
 
     some-number : Sound s x × HeldUnder (gatewayOf s x) n → keyTold s x n .number ≢ 0
     some-number (S, h) never =
-        let same-number : keyTold s x n .number ≡ h .key .number = ap (λ (r : HeldKey). r .number) (held-told s x n a S h) in
+        let same-number : keyTold s x n .number ≡ h .key .number = ap (λ (r : HeldKey). r .number) (held-told s x n S h) in
         let first = key-sound s x (h .held .0) (h .key) S (h .held .1) .number-first in
         omega arith
 
 pub parts-rule : PartsRule
-unfolding nothing keptComment
-parts-rule s x n a = by-end (ended s x n a)
+unfolding nothing kept
+parts-rule s x n = by-end (ended s x n)
   where
     by-end : Ended s x n → PartsWithin x (keyTold s x n)
     by-end (untold e _) = subst (PartsWithin x) (sym e) (record { blob-ordered = omega arith; blob-within = omega arith; fields-ordered = omega arith; fields-within = omega arith; comment-within = omega arith })

@@ -17,7 +17,7 @@ use Rattle.table.specs.Meaning.{numberIn, gatewayOf}
 use Rattle.table.specs.Soundness.{soundState, Sound}
 use Rattle.table.proofs.TestLaws.{sound-state-rule}
 use Rattle.lookups.specs.Told.{nearer, leastAbove, nextTold}
-use Rattle.lookups.specs.Promises.{HeldUnder, Arrays, Next, NextRule, NoNextRule, Reached, start, on, EveryReached}
+use Rattle.lookups.specs.Promises.{HeldUnder, Next, NextRule, NoNextRule, Reached, start, on, EveryReached}
 use Rattle.lookups.proofs.ToldLaws.{next-unsound, next-sound}
 use Rattle.lookups.proofs.HeldLaws.{is-sound}
 
@@ -162,26 +162,26 @@ module _ (s : State) (x : List ℕ) (after : ℕ) where
   told-least S = subst (Least after (gatewayOf s x .places)) (next-sound s x after (is-sound s x S)) (least-above after (gatewayOf s x .places))
 
   -- a number is told of a sound pair only
-  told-sound : Arrays s → nextTold s x after ≢ 0 → Sound s x
-  told-sound a is = by-test (soundState s x) refl
+  told-sound : nextTold s x after ≢ 0 → Sound s x
+  told-sound is = by-test (soundState s x) refl
     where
       by-test : (b : Bool) → soundState s x ≡ b → Sound s x
-      by-test true e = sound-state-rule s x (a .entries) (a .lock) .0 e
+      by-test true e = sound-state-rule s x .0 e
       by-test false e = absurd (is (sym (next-unsound s x after e)))
 
 pub next-rule : NextRule
-next-rule s x after m a is = (to, from)
+next-rule s x after m is = (to, from)
   where
     to : nextTold s x after ≡ m → Sound s x × Next (gatewayOf s x) after m
     to e =
-        let S = told-sound s x after a (λ z. is (sym e ∙ z)) in
+        let S = told-sound s x after (λ z. is (sym e ∙ z)) in
         (S, least-next (gatewayOf s x) after m (subst (Least after (gatewayOf s x .places)) e (told-least s x after S)) is)
 
     from : Sound s x × Next (gatewayOf s x) after m → nextTold s x after ≡ m
     from (S, next) = next-least (gatewayOf s x) after (nextTold s x after) (told-least s x after S) m next
 
 pub no-next-rule : NoNextRule
-no-next-rule s x after a = (to, from)
+no-next-rule s x after = (to, from)
   where
     to : nextTold s x after ≡ 0 → Sound s x → (n : ℕ) → HeldUnder (gatewayOf s x) n → n ≤ after
     to e S = least-none (gatewayOf s x) after (nextTold s x after) (told-least s x after S) e
@@ -192,7 +192,7 @@ no-next-rule s x after a = (to, from)
         by-number : (m : ℕ) → nextTold s x after ≡ m → nextTold s x after ≡ 0
         by-number zero e = e
         by-number (suc m) e =
-            let S = told-sound s x after a (λ z. omega arith) in
+            let S = told-sound s x after (λ z. omega arith) in
             none-least (gatewayOf s x) after (nextTold s x after) (told-least s x after S) (all S)
 
 -- ## All are met

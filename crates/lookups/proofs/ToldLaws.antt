@@ -6,8 +6,7 @@ use mathlib.Core.Option.{none, some}
 use mathlib.Core.List.{List}
 use native.Mathlib.Omega.{arith}
 use borrow.Author.Tests.{eqb-true, not-false}
-use lib.ListN.{length, getD}
-use Rattle.wire.specs.Limits.{passphraseLimit}
+use lib.ListN.{getD}
 use Rattle.rule.specs.declared.Found.the-variants.{At, Nothing}
 use Rattle.rule.specs.Gateway.{Entry as Key, Place, seek, found}
 use Rattle.rule.specs.Words.{HeldAt}
@@ -17,12 +16,12 @@ use Rattle.table.specs.declared.State.{State}
 use Rattle.table.specs.Meaning.{gatewayOf}
 use Rattle.table.specs.Soundness.{soundState, Sound}
 use Rattle.table.proofs.TestLaws.{sound-state-rule}
-use Rattle.table.proofs.ReadLaws.{view-length}
+use Rattle.table.proofs.SeekLaws.{places-length}
 use Rattle.lookups.specs.Told.{hasNumber, nothing, toldOf, keyTold, leastAbove, nextTold}
 
 -- the code asks whether the test failed
-pub sound-told : (s : State) (x : List ℕ) (b : Bool) → length (s .entries) ≡ 8 → length (s .lock .bytes) ≡ passphraseLimit → not b ≡ false → b ≡ soundState s x → Sound s x
-sound-told s x b eight long e f = sound-state-rule s x eight long .0 (sym f ∙ not-false b e)
+pub sound-told : (s : State) (x : List ℕ) (b : Bool) → not b ≡ false → b ≡ soundState s x → Sound s x
+sound-told s x b e f = sound-state-rule s x .0 (sym f ∙ not-false b e)
 
 -- ## A place with the number
 
@@ -54,11 +53,10 @@ module _ (s : State) (x : List ℕ) (n : ℕ) where
   pub numbered-at : (i : ℕ) → seek (hasNumber n) 0 (gatewayOf s x .places) ≡ At i → Numbered n (getD (gatewayOf s x .places) i none)
   numbered-at i e = number-there n _ (seek-first (hasNumber n) (gatewayOf s x .places) i e .passes)
 
-  pub place-within : (i : ℕ) → length (s .entries) ≡ 8 → seek (hasNumber n) 0 (gatewayOf s x .places) ≡ At i → i < 8
-  unfolding gatewayOf
-  place-within i eight e =
+  pub place-within : (i : ℕ) → seek (hasNumber n) 0 (gatewayOf s x .places) ≡ At i → i < 8
+  place-within i e =
       let inside = seek-first (hasNumber n) (gatewayOf s x .places) i e .inside in
-      let long = view-length (s .entries) x eight in
+      let long = places-length s x in
       omega arith
 
 -- ## The next number

@@ -6,16 +6,16 @@ use mathlib.Core.Bool.{true, false}
 use mathlib.Core.List.{List}
 use lib.ListN.{length, take, drop, replicate}
 use Rattle.wire.specs.declared.Seconds.{Seconds}
-use Rattle.wire.specs.Limits.{commentLimit, passphraseLimit}
+use Rattle.wire.specs.Limits.{commentLimit}
 use Rattle.wire.specs.Read.{cutOf}
 use Rattle.keys.specs.declared.constraints.Lifetime.the-variants.{Forever, For}
 use Rattle.rule.specs.declared.Millis.{Millis}
 use Rattle.rule.specs.Gateway.{Entry as Key, Gateway, zeroMillis, advance}
 use Rattle.rule.specs.Words.{Held}
-use Rattle.table.specs.declared.Comment.{Comment}
 use Rattle.table.specs.declared.State.{State}
 use Rattle.table.specs.Meaning.{gatewayOf}
 use Rattle.table.specs.Soundness.{Sound}
+use Rattle.lookups.specs.declared.Comment.{Comment}
 use Rattle.lookups.specs.declared.HeldKey.{HeldKey}
 use Rattle.lookups.specs.Told.{keyTold, nextTold}
 
@@ -26,11 +26,6 @@ pub record HeldUnder (g : Gateway) (n : ℕ) : Type 0 where
   pub key : Key
   pub held : Held g key
   pub number : key .number ≡ n
-
--- a state's arrays have the lengths of their types
-pub record Arrays (s : State) : Type 0 where
-  pub entries : length (s .entries) ≡ 8
-  pub lock : length (s .lock .bytes) ≡ passphraseLimit
 
 -- ## One key
 
@@ -79,11 +74,11 @@ pub record AllZero (r : HeldKey) : Type 0 where
 
 -- nothing is told where no key has the number, for the number 0, and where state and store are not sound
 abbrev pub NothingRule : Type 0
-NothingRule = (s : State) (x : List ℕ) (n : ℕ) → Arrays s → (Sound s x → HeldUnder (gatewayOf s x) n → ⊥) → AllZero (keyTold s x n)
+NothingRule = (s : State) (x : List ℕ) (n : ℕ) → (Sound s x → HeldUnder (gatewayOf s x) n → ⊥) → AllZero (keyTold s x n)
 
 -- and only there
 abbrev pub ToldRule : Type 0
-ToldRule = (s : State) (x : List ℕ) (n : ℕ) → Arrays s → (keyTold s x n .number ≢ 0) ↔ (Sound s x × HeldUnder (gatewayOf s x) n)
+ToldRule = (s : State) (x : List ℕ) (n : ℕ) → (keyTold s x n .number ≢ 0) ↔ (Sound s x × HeldUnder (gatewayOf s x) n)
 
 -- whatever state and store are, the parts lie in the store
 pub record PartsWithin (x : List ℕ) (r : HeldKey) : Type 0 where
@@ -94,7 +89,7 @@ pub record PartsWithin (x : List ℕ) (r : HeldKey) : Type 0 where
   pub comment-within : r .comment .len ≤ commentLimit
 
 abbrev pub PartsRule : Type 0
-PartsRule = (s : State) (x : List ℕ) (n : ℕ) → Arrays s → PartsWithin x (keyTold s x n)
+PartsRule = (s : State) (x : List ℕ) (n : ℕ) → PartsWithin x (keyTold s x n)
 
 -- ## The next number
 
@@ -105,11 +100,11 @@ pub record Next (g : Gateway) (after m : ℕ) : Type 0 where
   pub least : (n : ℕ) → HeldUnder g n → after < n → m ≤ n
 
 abbrev pub NextRule : Type 0
-NextRule = (s : State) (x : List ℕ) (after m : ℕ) → Arrays s → m ≢ 0 → (nextTold s x after ≡ m) ↔ (Sound s x × Next (gatewayOf s x) after m)
+NextRule = (s : State) (x : List ℕ) (after m : ℕ) → m ≢ 0 → (nextTold s x after ≡ m) ↔ (Sound s x × Next (gatewayOf s x) after m)
 
 -- none is told exactly where none is held above `after`, or state and store are not sound
 abbrev pub NoNextRule : Type 0
-NoNextRule = (s : State) (x : List ℕ) (after : ℕ) → Arrays s → (nextTold s x after ≡ 0) ↔ (Sound s x → (n : ℕ) → HeldUnder (gatewayOf s x) n → n ≤ after)
+NoNextRule = (s : State) (x : List ℕ) (after : ℕ) → (nextTold s x after ≡ 0) ↔ (Sound s x → (n : ℕ) → HeldUnder (gatewayOf s x) n → n ≤ after)
 
 -- the numbers that are met when one asks for the next, from 0 on
 pub data Reached (s : State) (x : List ℕ) : ℕ → Type 0 where

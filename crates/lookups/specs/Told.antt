@@ -5,13 +5,16 @@ use mathlib.Core.Option.{none, some}
 use mathlib.Core.List.{List, [], _∷_}
 use lib.ListN.{length, getD}
 use lib.Dec.{leb, ltb, eqb}
+use Rattle.wire.specs.Limits.{commentLimit}
 use Rattle.keys.specs.declared.constraints.Lifetime.{Lifetime}
 use Rattle.keys.specs.declared.constraints.Lifetime.the-variants.{Forever, For}
 use Rattle.rule.specs.declared.Millis.{Millis}
 use Rattle.rule.specs.Gateway.{Entry as Key, Place, zeroMillis, millisOf, seek, found}
 use Rattle.table.specs.declared.State.{State}
-use Rattle.table.specs.Meaning.{numberIn, gatewayOf, startOf, fieldsStart, flagOf, limitedFlag, keptComment}
+use Rattle.table.specs.Bytes.{padded}
+use Rattle.table.specs.Meaning.{numberIn, entriesOf, gatewayOf, startOf, fieldsStart, flagOf, limitedFlag}
 use Rattle.table.specs.Soundness.{soundState}
+use Rattle.lookups.specs.declared.Comment.{Comment}
 use Rattle.lookups.specs.declared.HeldKey.{HeldKey}
 
 -- ## One key
@@ -26,6 +29,10 @@ unfoldable pub leftAt : Millis → Millis → Lifetime → Millis
 leftAt clock reading Forever = zeroMillis
 leftAt clock reading (For seconds) = record { count = millisOf seconds .count - (clock .count - reading .count) }
 
+-- "up to 255 bytes", the rest zero
+unfoldable pub kept : List ℕ → Comment
+kept c = record { bytes = padded commentLimit c; len = length c }
+
 unfoldable pub nothing : HeldKey
 nothing = record {
   number = 0;
@@ -36,7 +43,7 @@ nothing = record {
   «blob_to» = 0;
   «fields_from» = 0;
   «fields_to» = 0;
-  comment = keptComment [];
+  comment = kept [];
 }
 
 -- of the key in place i; its blob begins where the place does
@@ -46,11 +53,11 @@ toldOf s i k = record {
   confirm = flagOf (k .confirm);
   limited = limitedFlag (k .lifetime);
   left = leftAt (s .clock) (k .reading) (k .lifetime);
-  «blob_from» = startOf (s .entries) i;
-  «blob_to» = startOf (s .entries) i + length (k .blob);
-  «fields_from» = fieldsStart (s .entries) i;
-  «fields_to» = fieldsStart (s .entries) i + length (k .fields);
-  comment = keptComment (k .comment);
+  «blob_from» = startOf (entriesOf s) i;
+  «blob_to» = startOf (entriesOf s) i + length (k .blob);
+  «fields_from» = fieldsStart (entriesOf s) i;
+  «fields_to» = fieldsStart (entriesOf s) i + length (k .fields);
+  comment = kept (k .comment);
 }
 
 abbrev pub toldIn : State → ℕ → Place → HeldKey

@@ -1,10 +1,12 @@
 // The held numbers in order of insertion. What is told is tested first: any state, any store.
 use table::State;
 use table::places::number_at;
-use table::soundness::is_sound;
+use table::soundness::is_state_sound;
 ghost use mathlib.Core.Path.{_≡_};
 ghost use mathlib.Core.List.{List};
 ghost use Prim.Native.Nat.{ℕ};
+ghost use lib.ListN.{length};
+ghost use Rattle.table.specs.declared.State.{State};
 ghost use Rattle.table.specs.Meaning.{gatewayOf};
 ghost use Rattle.lookups.specs.Told.{nearer, leastAbove, nextTold};
 
@@ -25,14 +27,15 @@ fn nearer(after: u64, number: u64, best: u64) -> u64
 }
 
 // The least held number above `after`, 0 where there is none.
-fn least_above(state: State, after: u64) -> u64
-    ensures { λ r. ⌜ ((x : List ℕ) → r ≡ leastAbove after (gatewayOf state x .places)) ⌝ }
+fn least_above(numbers: &[u64], after: u64) -> u64
+    requires { ⌜ length (now numbers) ≡ 8 ⌝ }
+    ensures { λ r. ⌜ ((s : State) (x : List ℕ) → s .columns .numbers ≡ now (numbers .entry) → r ≡ leastAbove after (gatewayOf s x .places)) ⌝ }
 {
     let mut best: u64 = 0;
     let mut i = 8;
     while 0 < i {
         i -= 1;
-        best = nearer(after, number_at(state, i), best);
+        best = nearer(after, number_at(numbers, i), best);
     }
     best
 }
@@ -40,8 +43,10 @@ fn least_above(state: State, after: u64) -> u64
 pub fn next_of(state: State, store: &[u8], after: u64) -> u64
     ensures { λ r. ⌜ r ≡ nextTold state (now (store .entry)) after ⌝ }
 {
-    if !is_sound(state, store) {
+    if !is_state_sound(state, store) {
         return 0;
     }
-    least_above(state, after)
+    let t = state.columns;
+    let numbers = t.numbers;
+    least_above(&numbers[..8], after)
 }

@@ -8,7 +8,7 @@ use mathlib.Core.List.{List, [], _∷_}
 use native.Mathlib.Omega.{arith}
 use borrow.Author.Needs.{needs}
 use borrow.Author.Tests.{le-leb}
-use lib.ListN.{length, length-take}
+use lib.ListN.{length, take, length-take}
 use Rattle.wire.specs.declared.read.Cursor.{Cursor}
 use Rattle.wire.specs.declared.read.Number.{Number}
 use Rattle.wire.specs.declared.read.Part.{Part}
@@ -22,16 +22,18 @@ use Rattle.wire.proofs.Writing.{write-behind}
 use Rattle.wire.proofs.Steps.{leb-yes, leb-no, plain, string-order}
 use Rattle.keys.specs.declared.addition.Carried.{Carried}
 use Rattle.keys.specs.declared.addition.Addition.{Addition}
+use Rattle.rule.specs.declared.Millis.{Millis}
 use Rattle.rule.specs.declared.Found.{Found}
 use Rattle.rule.specs.declared.Found.the-variants.{At, Nothing}
-use Rattle.rule.specs.Gateway.{Place, Gateway, seek, holds, found, withLock}
+use Rattle.rule.specs.Gateway.{Place, Gateway, seek, holds, found}
 use Rattle.rule.specs.Rule.{Question, Answer, Landing, reply, close, Plan, land, ask, added}
 use Rattle.rule.specs.Calls.{asks, lands, follow}
 use Rattle.rule.proofs.PlaceLaws.{seek-first}
 use Rattle.table.specs.declared.State.{State}
-use Rattle.table.specs.Meaning.{size, placeOf, gatewayOf}
+use Rattle.table.specs.Meaning.{size, placeOf, entriesOf, gatewayOf}
 use Rattle.table.specs.Soundness.{Sound, Means}
 use Rattle.table.proofs.EachLaws.{each-length}
+use Rattle.table.proofs.EntryLaws.{entries-length}
 use Rattle.requests.specs.declared.Called.{Called}
 use Rattle.requests.specs.declared.Outcome.{Outcome}
 use Rattle.requests.specs.declared.Outcome.the-variants.{Reply, Close}
@@ -103,15 +105,15 @@ pub replied : (buffer : List ℕ) (r : Called) (store out bytes : List ℕ) (s :
 unfolding code written
 replied buffer r store out bytes s n g e l w m = rw (e, l) (record { outcome = refl; means = m; bytes = w })
 
-pub answering : {kind : ℕ} {s : State} {buffer out : List ℕ} {r : Called} → Answered kind s buffer r out → (store : List ℕ) (g : Gateway) → Means s store g
-    → Ends buffer r store out (record { outcome = lands (reply (string (kind ∷ []))); gateway = g })
-answering h store g m = replied _ _ _ _ _ _ _ _ (h .0) refl (h .1) m
+pub answering : {kind : ℕ} {buffer out : List ℕ} {r : Outcome} → Answered kind buffer r out → (s : State) (store : List ℕ) (g : Gateway) → Means s store g
+    → Ends buffer (record { outcome = r; state = s }) store out (record { outcome = lands (reply (string (kind ∷ []))); gateway = g })
+answering h s store g m = replied _ _ _ _ _ s _ _ (ap (λ (o : Outcome). record { outcome = o; state = s }) (h .0)) refl (h .1) m
 
 -- nothing is written, and the state stays
-pub closing : {s : State} {r : Called} → r ≡ record { outcome = Close; state = s } → (store buffer : List ℕ) (g : Gateway) → Means s store g
-    → Ends buffer r store buffer (record { outcome = lands close; gateway = g })
+pub closing : (s : State) (store buffer : List ℕ) (g : Gateway) → Means s store g
+    → Ends buffer (record { outcome = Close; state = s }) store buffer (record { outcome = lands close; gateway = g })
 unfolding code written
-closing e store buffer g m = rw e (record { outcome = refl; means = m; bytes = refl })
+closing s store buffer g m = record { outcome = refl; means = m; bytes = refl }
 
 -- a question as the outcome: nothing is written
 pub asked-ends : (buffer store : List ℕ) (o : Outcome) (s : State) (q : Question) → o ≡ code (asks q) → Sound s store
@@ -120,32 +122,38 @@ unfolding written
 asked-ends buffer store o s q e m = record { outcome = e; means = record { gateway = refl; sound = m }; bytes = refl }
 
 -- the length of one byte, and the byte
-pub five : (o m out : List ℕ) (s : State) (k at n : ℕ) → m ≡ write o 0 (be32 1) → at ≡ 0 + 4 → out ≡ write m at (k ∷ []) → n ≡ at + 1 → 5 ≤ length o
-    → (_≡_ {A = Called} (record { outcome = Reply n; state = s }) (record { outcome = Reply 5; state = s })) × (out ≡ write o 0 (string (k ∷ [])))
-five o m out s k at n e a f l h =
+pub five : (o m out : List ℕ) (k at n : ℕ) → m ≡ write o 0 (be32 1) → at ≡ 0 + 4 → out ≡ write m at (k ∷ []) → n ≡ at + 1 → 5 ≤ length o
+    → (Reply n ≡ Reply 5) × (out ≡ write o 0 (string (k ∷ [])))
+five o m out k at n e a f l h =
     let five : n ≡ 5 = omega arith in
-    (ap (λ (n : ℕ). record { outcome = Reply n; state = s }) five, write-behind o 0 (be32 1) m at (k ∷ []) out e f (omega arith) (omega arith))
+    (ap (λ (n : ℕ). Reply n) five, write-behind o 0 (be32 1) m at (k ∷ []) out e f (omega arith) (omega arith))
 
 -- ## What a request's function hands on
 
 pub means-itself : (s : State) (x : List ℕ) → Sound s x → Means s x (gatewayOf s x)
 means-itself s x h = record { gateway = refl; sound = h }
 
-pub lock-means : (s : State) (x p q : List ℕ) (g : Gateway) → p ≡ q → Means s x (withLock p g) → Means s x (withLock q g)
-lock-means s x p q g e m = rw (← e) m
+abbrev with-lock : List ℕ → List Place → Millis → ℕ → Gateway
+with-lock p ps clock next = record { places = ps; lock = p; clock = clock; next = next }
+
+-- the lock is bytes that a call gave
+pub lock-means : (s : State) (x p q : List ℕ) (ps : List Place) (clock : Millis) (next : ℕ) → p ≡ q → Means s x (with-lock p ps clock next) → Means s x (with-lock q ps clock next)
+lock-means s x p q ps clock next e m = rw (← e) m
 
 -- an empty part opens
-pub open-means : (s : State) (x p l : List ℕ) (g : Gateway) → p ≡ cutOf l 0 0 → Means s x (withLock p g) → Means s x (withLock [] g)
+pub open-means : (s : State) (x p l : List ℕ) (ps : List Place) (clock : Millis) (next : ℕ) → p ≡ cutOf l 0 0 → Means s x (with-lock p ps clock next)
+    → Means s x (with-lock [] ps clock next)
 unfolding cutOf
-open-means s x p l g e m = lock-means s x p [] g (rw (le-leb 0 (length l) (omega arith)) at e) m
+open-means s x p l ps clock next e m = lock-means s x p [] ps clock next (rw (le-leb 0 (length l) (omega arith)) at e) m
 
 -- a search for bytes that a call gave
 pub sought : (p q : List ℕ) (ps : List Place) (w : Found) → p ≡ q → w ≡ seek (holds p) 0 ps → w ≡ seek (holds q) 0 ps
 sought p q ps w e f = rw (← e) f
 
 -- the passphrase is tested with bytes that a call gave
-pub passphrase-of : (s : State) (x p q : List ℕ) (v b : Bool) → p ≡ q → b ≡ v → ((y : List ℕ) → b ≡ same (gatewayOf s y .lock) p) → v ≡ same (gatewayOf s x .lock) q
-passphrase-of s x p q v b e f h = sym f ∙ h x ∙ ap (same (gatewayOf s x .lock)) e
+pub passphrase-of : (s : State) (x p q : List ℕ) (v b : Bool) → p ≡ q → b ≡ v → b ≡ same (take (s .lock .len) (s .lock .bytes)) p → v ≡ same (gatewayOf s x .lock) q
+unfolding gatewayOf
+passphrase-of s x p q v b e f h = sym f ∙ h ∙ ap (same (gatewayOf s x .lock)) e
 
 pub cut-fits : (s p : List ℕ) (f t n : ℕ) → p ≡ cutOf s f t → t - f ≤ n → length p ≤ n
 cut-fits s p f t n e h = rw e (⊎-elim (λ a. ⊎-elim (there a) (past a) (le-or-lt t (length s))) back (le-or-lt f t))
@@ -161,15 +169,15 @@ cut-fits s p f t n e h = rw e (⊎-elim (λ a. ⊎-elim (there a) (past a) (le-o
 
 -- ## Places
 
-pub eight-places : (s : State) (x : List ℕ) → length (s .entries) ≡ 8 → length (gatewayOf s x .places) ≡ 8
+pub eight-places : (s : State) (x : List ℕ) → length (gatewayOf s x .places) ≡ 8
 unfolding gatewayOf
-eight-places s x e = each-length size placeOf (s .entries) x ∙ e
+eight-places s x = each-length size placeOf (entriesOf s) x ∙ entries-length (s .columns) (s .comments)
 
 -- a search over eight places ends at one of them
-pub place-within : (s : State) (x : List ℕ) (test : Place → Bool) (w : Found) (i : ℕ) → Sound s x → w ≡ At i → w ≡ seek test 0 (gatewayOf s x .places) → i < 8
-place-within s x test w i h e f =
+pub place-within : (s : State) (x : List ℕ) (test : Place → Bool) (w : Found) (i : ℕ) → w ≡ At i → w ≡ seek test 0 (gatewayOf s x .places) → i < 8
+place-within s x test w i e f =
     let inside = seek-first test (gatewayOf s x .places) i (sym f ∙ e) .inside in
-    let eight = eight-places s x (omega arith) in
+    let eight = eight-places s x in
     omega arith
 
-pub ruleset ends = (cond-yes, cond-no, part-fault, part-whole, number-fault, number-value, found-at, found-nothing, landed, means-itself, lock-means, open-means, sought, passphrase-of, cut-fits, place-within, leb-yes, leb-no, plain, string-order, needs)
+pub ruleset ends = (cond-yes, cond-no, part-fault, part-whole, number-fault, number-value, found-at, found-nothing, landed, means-itself, sought, passphrase-of, cut-fits, place-within, leb-yes, leb-no, plain, string-order, needs)

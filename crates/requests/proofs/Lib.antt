@@ -5,3 +5,4 @@ pub mod EndSteps
 pub mod ListSteps
 pub mod SignSteps
 pub mod AddSteps
+pub mod RemoveSteps

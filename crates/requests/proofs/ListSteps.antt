@@ -10,7 +10,7 @@ use native.Mathlib.Omega.{arith}
 use borrow.Author.Tests.{not-true, not-false}
 use lib.ListN.{length, getD, take, drop, length-append, take-append-drop}
 use lib.Seq.{length-take-le, take-all, drop-at}
-use Rattle.wire.specs.Limits.{blobLimit, commentLimit, replyRoom, itemRoom, itemsRoom}
+use Rattle.wire.specs.Limits.{storeSize, blobLimit, commentLimit, replyRoom, itemRoom, itemsRoom}
 use Rattle.wire.specs.Numbers.{be32}
 use Rattle.wire.specs.Write.{string, write}
 use Rattle.wire.proofs.Writing.{write-behind, length-write}
@@ -20,12 +20,40 @@ use Rattle.rule.specs.Soundness.{SoundEntry}
 use Rattle.rule.specs.Rule.{item, live, items, listed}
 use Rattle.rule.proofs.Cases.{true-not-false}
 use Rattle.rule.proofs.PlaceLaws.{every-at}
-use Rattle.table.specs.declared.Comment.{Comment}
 use Rattle.table.specs.declared.State.{State}
-use Rattle.table.specs.Meaning.{commentOf, gatewayOf, blobIn, commentIn, keptComment}
-use Rattle.table.proofs.WritingLaws.{comment-back}
+use Rattle.table.specs.Meaning.{gatewayOf, blobIn, commentIn}
+use Rattle.table.specs.Entries.{commentsSize}
+use Rattle.table.specs.Shown.{SoundOf, ShowsList}
+use Rattle.table.proofs.ReadLaws.{state-blob-fits, state-comment-fits}
 use Rattle.requests.specs.Lists.{itemIn, countIn}
 use Rattle.requests.proofs.EndSteps.{eight-places}
+
+-- ## Lent columns
+
+-- what a list's calls ask of the columns that it reads
+pub record ListFits (numbers blobs lens comments x : List ℕ) : Type 0 where
+  pub eight-numbers : length numbers ≡ 8
+  pub eight-blobs : length blobs ≡ 8
+  pub eight-lens : length lens ≡ 8
+  pub comments-size : length comments ≡ commentsSize
+  pub store-size : length x ≡ storeSize
+  pub blobs-fit : (i : ℕ) → i < 8 → getD blobs i 0 ≤ blobLimit
+  pub lens-fit : (i : ℕ) → i < 8 → getD lens i 0 ≤ commentLimit
+
+-- a sound state's columns have it
+pub list-fits : {numbers blobs lens comments x : List ℕ} → SoundOf (ShowsList numbers blobs lens comments) x → ListFits numbers blobs lens comments x
+list-fits {x = x} w =
+    let s = w .state in
+    let S = w .sound in
+    rw (← w .shows .numbers-are, ← w .shows .blobs-are, ← w .shows .lens-are, ← w .shows .comments-are) (record {
+      eight-numbers = S .eight .numbers;
+      eight-blobs = S .eight .blobs;
+      eight-lens = S .eight .comments;
+      comments-size = S .comments-size;
+      store-size = S .store-size;
+      blobs-fit = state-blob-fits s x S;
+      lens-fit = state-comment-fits s x S;
+    })
 
 -- ## One place
 
@@ -67,29 +95,25 @@ module _ (g : Gateway) (i : ℕ) where
     pub blob-room : (v : List ℕ) → v ≡ blobIn here → length v ≤ blobLimit
     blob-room v e = rw e blob-short
 
-    pub comment-room : (c : Comment) → c ≡ keptComment (commentIn here) → c .len ≤ commentLimit
-    unfolding keptComment
-    comment-room c e = rw e comment-short
-
-    pub comment-taken : (c : Comment) → c ≡ keptComment (commentIn here) → length (commentOf c) ≤ commentLimit
-    comment-taken c e = rw (ap commentOf e ∙ comment-back (commentIn here)) comment-short
+    pub comment-room : (v : List ℕ) → v ≡ commentIn here → length v ≤ commentLimit
+    comment-room v e = rw e comment-short
 
   -- what the test says that a place adds: nothing where it is free, else its blob and its comment
   module _ (b : Bool) (test : b ≡ not (isFree here)) where
     pub free-item : (at : ℕ) (o : List ℕ) → not b ≡ true → (at ≡ at + length (itemIn here)) × (o ≡ write o at (itemIn here))
     free-item at o e = rw (free-is here (sym test ∙ not-true b e)) (omega arith, write-nothing o at)
 
-    pub held-item : (at : ℕ) (v o m out : List ℕ) (c : Comment) (k r : ℕ) → not b ≡ false → v ≡ blobIn here → c ≡ keptComment (commentIn here)
-        → m ≡ write o at (string v) → k ≡ at + 4 + length v → out ≡ write m k (string (commentOf c)) → r ≡ k + length (string (commentOf c))
-        → at + 4 + length v + length (string (commentOf c)) ≤ length o → (r ≡ at + length (itemIn here)) × (out ≡ write o at (itemIn here))
-    held-item at v o m out c k r e f kept em ec eo er h = go here test f (ap commentOf kept ∙ comment-back (commentIn here))
+    pub held-item : (at : ℕ) (v w o m out : List ℕ) (k r : ℕ) → not b ≡ false → v ≡ blobIn here → w ≡ commentIn here
+        → m ≡ write o at (string v) → k ≡ at + 4 + length v → out ≡ write m k (string w) → r ≡ k + 4 + length w
+        → at + 4 + length v + 4 + length w ≤ length o → (r ≡ at + length (itemIn here)) × (out ≡ write o at (itemIn here))
+    held-item at v w o m out k r e f kept em ec eo er h = go here test f kept
       where
-        go : (p : Place) → b ≡ not (isFree p) → v ≡ blobIn p → commentOf c ≡ commentIn p → (r ≡ at + length (itemIn p)) × (out ≡ write o at (itemIn p))
+        go : (p : Place) → b ≡ not (isFree p) → v ≡ blobIn p → w ≡ commentIn p → (r ≡ at + length (itemIn p)) × (out ≡ write o at (itemIn p))
         go none t q l = absurd (true-not-false (sym (not-false b e) ∙ t))
         go (some x) t q l =
-            let w = write-behind o at (string v) m k (string (commentOf c)) out em eo (omega arith) (omega arith) in
-            let n : length (string v ++ string (commentOf c)) ≡ length (string v) + length (string (commentOf c)) = simp length-append in
-            rw (← q, ← l) (omega arith, w)
+            let written = write-behind o at (string v) m k (string w) out em eo (omega arith) (omega arith) in
+            let n : length (string v ++ string w) ≡ length (string v) + length (string w) = simp length-append in
+            rw (← q, ← l) (omega arith, written)
 
     pub held-counts : b ≡ true → 1 ≡ countIn here
     held-counts e = go here (sym test ∙ e)
@@ -158,28 +182,28 @@ module _ (g : Gateway) (s : rule.Sound g) (at : ℕ) (buffer : List ℕ) (i plac
       let q : take i (g .places) ≡ g .places = take-all i (g .places) (omega arith) in
       (rw q at (w .behind), rw q at (w .bytes), omega arith)
 
--- n of the first i places are live, whatever the store
-pub record Counted (s : State) (i n : ℕ) : Type 0 where
+-- n of the first i places are live, in every state with these numbers
+pub record Counted (numbers : List ℕ) (i n : ℕ) : Type 0 where
   pub up-to : i ≤ 8
-  pub count : (x : List ℕ) → n ≡ length (live (take i (gatewayOf s x .places)))
+  pub count : (s : State) (x : List ℕ) → s .columns .numbers ≡ numbers → n ≡ length (live (take i (gatewayOf s x .places)))
   pub few : n ≤ i
 
-module _ (s : State) where
-  pub none-counted : Counted s 0 0
+module _ (numbers : List ℕ) where
+  pub none-counted : Counted numbers 0 0
   unfolding live
-  none-counted = record { up-to = omega arith; count = λ x. refl; few = omega arith }
+  none-counted = record { up-to = omega arith; count = λ s x e. refl; few = omega arith }
 
-  module _ (eight : length (s .entries) ≡ 8) (i n : ℕ) (c : Counted s i n) where
-    pub one-counted : (k : ℕ) → i < 8 → ((x : List ℕ) → k ≡ countIn (getD (gatewayOf s x .places) i none)) → k ≤ 1 → Counted s (i + 1) (n + k)
+  module _ (i n : ℕ) (c : Counted numbers i n) where
+    pub one-counted : (k : ℕ) → i < 8 → ((s : State) (x : List ℕ) → s .columns .numbers ≡ numbers → k ≡ countIn (getD (gatewayOf s x .places) i none)) → k ≤ 1 → Counted numbers (i + 1) (n + k)
     one-counted k h e b = record { up-to = omega arith; count = count; few = omega arith }
       where
-        count : (x : List ℕ) → n + k ≡ length (live (take (i + 1) (gatewayOf s x .places)))
-        count x =
-            let inside = eight-places s x eight in
-            rw (add-one, count-suc (gatewayOf s x .places) i (omega arith)) (λ j. c .count x j + e x j)
+        count : (s : State) (x : List ℕ) → s .columns .numbers ≡ numbers → n + k ≡ length (live (take (i + 1) (gatewayOf s x .places)))
+        count s x is =
+            let inside = eight-places s x in
+            rw (add-one, count-suc (gatewayOf s x .places) i (omega arith)) (λ j. c .count s x is j + e s x is j)
 
-    pub all-counted : 8 ≤ i → ((x : List ℕ) → n ≡ length (live (gatewayOf s x .places))) × (n ≤ 8)
-    all-counted h = ((λ x. let inside = eight-places s x eight in c .count x ∙ ap (λ (ps : List Place). length (live ps)) (take-all i (gatewayOf s x .places) (omega arith))), omega arith)
+    pub all-counted : 8 ≤ i → ((s : State) (x : List ℕ) → s .columns .numbers ≡ numbers → n ≡ length (live (gatewayOf s x .places))) × (n ≤ 8)
+    all-counted h = ((λ s x is. let inside = eight-places s x in c .count s x is ∙ ap (λ (ps : List Place). length (live ps)) (take-all i (gatewayOf s x .places) (omega arith))), omega arith)
 
 -- ## In front of the items
 

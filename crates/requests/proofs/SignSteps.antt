@@ -19,7 +19,9 @@ use Rattle.rule.proofs.PlaceLaws.{found-at as found-entry, entry-found, entry-a
 use Rattle.rule.proofs.SignLaws.{own-number}
 use Rattle.table.specs.declared.State.{State}
 use Rattle.table.specs.Meaning.{numberIn, gatewayOf}
-use Rattle.table.specs.Soundness.{Sound}
+use Rattle.table.specs.Soundness.{Sound, Housed}
+use Rattle.table.specs.Shown.{SoundOf, ShowsKeys}
+use Rattle.table.proofs.ReadLaws.{state-housed}
 use Rattle.requests.specs.declared.Said.{Said}
 use Rattle.requests.specs.declared.Said.the-variants.{Missing, No, Yes}
 use Rattle.requests.specs.declared.Answers.{Answers}
@@ -137,6 +139,16 @@ module _ (answers : Answers) (bytes : List ℕ) (s : State) (x buffer : List ℕ
       by-confirm false free = rw (← own) (cond-no _ _ _ _ _ _ _ _ _ (sym free) h)
 
 -- ## The key
+
+module _ (ns cs bs x : List ℕ) (keys : SoundOf (ShowsKeys ns cs bs) x) where
+  -- eight numbers and eight flags are lent
+  pub keys-eight : (length ns ≡ 8) × (length cs ≡ 8)
+  keys-eight =
+      (sym (ap length (keys .shows .numbers-are)) ∙ keys .sound .eight .numbers, sym (ap length (keys .shows .confirm-is)) ∙ keys .sound .eight .confirm)
+
+  -- and the blobs of the places lie in the store
+  pub keys-housed : Housed ns bs x
+  keys-housed = rw (← keys .shows .numbers-are, ← keys .shows .blobs-are) (state-housed (keys .state) x (keys .sound))
 
 -- where the search for a blob ended says which entry the rule goes on with
 module _ (buffer : List ℕ) (r : Called) (store out : List ℕ) (answers : (q : Question) → Option (Answer q)) (g : Gateway) (payload : List ℕ) (at : ℕ) where

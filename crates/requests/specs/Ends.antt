@@ -4,9 +4,9 @@ use mathlib.Core.Path.{_≡_}
 use mathlib.Core.List.{List, [], _∷_}
 use Rattle.wire.specs.Write.{string, write}
 use Rattle.rule.specs.Calls as rule
-use Rattle.table.specs.declared.State.{State}
 use Rattle.table.specs.Meaning.{stateOf, layout}
 use Rattle.table.specs.Soundness.{Means}
+use Rattle.requests.specs.declared.Outcome.{Outcome}
 use Rattle.requests.specs.declared.Outcome.the-variants.{Reply}
 use Rattle.requests.specs.declared.Called.{Called}
 use Rattle.requests.specs.Outcomes.{code, written}
@@ -43,6 +43,6 @@ EndsDecides =
     (buffer : List ℕ) (result : rule.Result) (r s : Called) (x y out other : List ℕ) → Ends buffer r x out result → Ends buffer s y other result
     → (r ≡ s) × (x ≡ y) × (out ≡ other)
 
--- the state as it was, and at the buffer's front a reply of five bytes, whose payload is the one byte `kind`
-abbrev pub Answered : ℕ → State → List ℕ → Called → List ℕ → Type 0
-Answered kind state buffer r reply = (r ≡ record { outcome = Reply 5; state = state }) × (reply ≡ write buffer 0 (string (kind ∷ [])))
+-- at the buffer's front a reply of five bytes, whose payload is the one byte `kind`
+abbrev pub Answered : ℕ → List ℕ → Outcome → List ℕ → Type 0
+Answered kind buffer r reply = (r ≡ Reply 5) × (reply ≡ write buffer 0 (string (kind ∷ [])))

@@ -1,4 +1,4 @@
-// Each request once it is past the gate: an outcome and the new state come out, and store and reply buffer hold what the rule says.
+// Each request once it is past the gate, over the columns that it needs: an outcome comes out, and columns, store and reply buffer hold what the rule says.
 // Its functions require what a call's refusals 1, 2, 3 and 5 have tested: room for the reply, a sound state and store, a signature that is not too
 // long. Only the call, in crate server, comes here.
 pub mod add;
@@ -9,6 +9,7 @@ pub mod replies;
 pub mod sign;
 
 use rule::Hash;
+use table::Kept;
 use table::State;
 
 // An answer to a question that is yes or no.
@@ -69,4 +70,10 @@ pub enum Outcome {
 pub struct Called {
     pub outcome: Outcome,
     pub state: State,
+}
+
+// Where the rest of the state is lent.
+pub struct Landed {
+    pub outcome: Outcome,
+    pub kept: Kept,
 }

@@ -1,49 +1,83 @@
 // Derived from keys/agent/server.rs of russh 0.65.0 (Apache-2.0), and changed: see NOTICE.
 // The requests that set and clear the lock: 22, 23. What they require, the call has tested.
-use crate::Called;
+use crate::Landed;
 use crate::replies::failure;
 use crate::replies::success;
-use table::State;
+use table::Kept;
 use table::locks;
 use wire::limits;
 use wire::read::Cursor;
 use wire::read::Part;
 use wire::read::cut;
-ghost use Prim.Native.Nat.{_≤_};
+ghost use mathlib.Core.Path.{_≡_};
+ghost use mathlib.Core.List.{List};
+ghost use Prim.Native.Nat.{ℕ, _≤_};
 ghost use lib.ListN.{length};
+ghost use Rattle.wire.specs.Limits.{passphraseLimit};
+ghost use Rattle.rule.specs.Gateway.{withLock};
 ghost use Rattle.rule.specs.Rule.{locking, unlocking};
 ghost use Rattle.rule.specs.Calls as rule;
 ghost use Rattle.rule.specs.Calls.{lent, follow};
-ghost use Rattle.table.specs.Meaning.{gatewayOf};
-ghost use Rattle.table.specs.Soundness.{Sound};
-ghost use Rattle.requests.specs.Ends.{Ends};
+ghost use Rattle.table.specs.declared.Columns.{Columns};
+ghost use Rattle.table.specs.Meaning.{gatewayOf, held};
+ghost use Rattle.table.specs.Soundness.{Sound, Means};
+ghost use Rattle.requests.specs.Ends.{Ends, Answered};
+
+// The lock is this passphrase; an empty one opens.
+fn set_lock(passphrase: &mut [u8], kept: Kept, p: &[u8], reply: &mut [u8]) -> Landed
+    requires { ⌜ (5 ≤ length (now reply)) × (length (now passphrase) ≡ passphraseLimit) × (length (now p) ≤ passphraseLimit) ⌝ }
+    ensures { λ r. ⌜ Answered 6 (now (reply .entry)) (r .outcome) (now (reply .exit)) × ((t : Columns) (cs x : List ℕ) → Sound (held t cs (now (passphrase .entry)) kept) x → Means (held t cs (now (passphrase .exit)) (r .kept)) x (withLock (now (p .entry)) (gatewayOf (held t cs (now (passphrase .entry)) kept) x))) ⌝ }
+{
+    let clock = kept.clock;
+    let locked = locks::keep_passphrase(passphrase, p);
+    Landed {
+        outcome: success(reply),
+        kept: Kept {
+            clock,
+            next: kept.next,
+            locked,
+        },
+    }
+}
 
 // 22
-pub fn lock(state: State, store: &[u8], payload: &[u8], reply: &mut [u8]) -> Called
-    requires { ⌜ (5 ≤ length (now reply)) × Sound state (now store) ⌝ }
-    ensures { λ r. ⌜ ((a : rule.Answers) → Ends (now (reply .entry)) r (now (store .entry)) (now (reply .exit)) (follow (lent a) (gatewayOf state (now (store .entry))) (locking (gatewayOf state (now (store .entry))) (now (payload .entry))))) ⌝ }
+pub fn lock(passphrase: &mut [u8], kept: Kept, payload: &[u8], reply: &mut [u8]) -> Landed
+    requires { ⌜ (5 ≤ length (now reply)) × (length (now passphrase) ≡ passphraseLimit) ⌝ }
+    ensures { λ r. ⌜ ((t : Columns) (cs x : List ℕ) → Sound (held t cs (now (passphrase .entry)) kept) x → (a : rule.Answers) → Ends (now (reply .entry)) (record { outcome = r .outcome; state = held t cs (now (passphrase .exit)) (r .kept) }) x (now (reply .exit)) (follow (lent a) (gatewayOf (held t cs (now (passphrase .entry)) kept) x) (locking (gatewayOf (held t cs (now (passphrase .entry)) kept) x) (now (payload .entry))))) ⌝ }
 {
     let start = Cursor { at: 1 };
     let Part::Whole { from, to, next: _ } = start.string(payload) else {
-        return failure(state, reply);
+        return Landed {
+            outcome: failure(reply),
+            kept,
+        };
     };
     if limits::PASSPHRASE_LIMIT < to - from {
-        return failure(state, reply);
+        return Landed {
+            outcome: failure(reply),
+            kept,
+        };
     }
-    success(locks::with_lock(state, cut(payload, from, to)), reply)
+    set_lock(passphrase, kept, cut(payload, from, to), reply)
 }
 
 // 23
-pub fn unlock(state: State, store: &[u8], payload: &[u8], reply: &mut [u8]) -> Called
-    requires { ⌜ (5 ≤ length (now reply)) × Sound state (now store) ⌝ }
-    ensures { λ r. ⌜ ((a : rule.Answers) → Ends (now (reply .entry)) r (now (store .entry)) (now (reply .exit)) (follow (lent a) (gatewayOf state (now (store .entry))) (unlocking (gatewayOf state (now (store .entry))) (now (payload .entry))))) ⌝ }
+pub fn unlock(passphrase: &mut [u8], kept: Kept, payload: &[u8], reply: &mut [u8]) -> Landed
+    requires { ⌜ (5 ≤ length (now reply)) × (length (now passphrase) ≡ passphraseLimit) × (kept .locked ≤ passphraseLimit) ⌝ }
+    ensures { λ r. ⌜ ((t : Columns) (cs x : List ℕ) → Sound (held t cs (now (passphrase .entry)) kept) x → (a : rule.Answers) → Ends (now (reply .entry)) (record { outcome = r .outcome; state = held t cs (now (passphrase .exit)) (r .kept) }) x (now (reply .exit)) (follow (lent a) (gatewayOf (held t cs (now (passphrase .entry)) kept) x) (unlocking (gatewayOf (held t cs (now (passphrase .entry)) kept) x) (now (payload .entry))))) ⌝ }
 {
     let start = Cursor { at: 1 };
     let Part::Whole { from, to, next: _ } = start.string(payload) else {
-        return failure(state, reply);
+        return Landed {
+            outcome: failure(reply),
+            kept,
+        };
     };
-    if locks::is_passphrase(state, cut(payload, from, to)) {
-        return success(locks::with_lock(state, cut(payload, 0, 0)), reply);
+    if locks::is_passphrase(passphrase, kept.locked, cut(payload, from, to)) {
+        return set_lock(passphrase, kept, cut(payload, 0, 0), reply);
     }
-    failure(state, reply)
+    Landed {
+        outcome: failure(reply),
+        kept,
+    }
 }

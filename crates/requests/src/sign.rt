@@ -2,16 +2,13 @@
 // The sign request (13). An error in it closes the connection; an absent key or a no is FAILURE. What it requires, the call has
 // tested.
 use crate::Answers;
-use crate::Called;
 use crate::Confirmed;
 use crate::Outcome;
 use crate::Said;
 use crate::Signed;
-use crate::replies::closed;
 use crate::replies::failure;
 use rule::Found;
 use rule::Hash;
-use table::State;
 use table::places;
 use wire::msg;
 use wire::read::Cursor;
@@ -31,8 +28,10 @@ ghost use Rattle.wire.specs.Write.{write};
 ghost use Rattle.rule.specs.Gateway.{Entry as Key};
 ghost use Rattle.rule.specs.Rule.{hashOf, signatureReply, signingData, confirming, signing};
 ghost use Rattle.rule.specs.Calls.{lent, forNumber, lentLength, follow};
+ghost use Rattle.table.specs.declared.State.{State};
 ghost use Rattle.table.specs.Meaning.{gatewayOf};
 ghost use Rattle.table.specs.Soundness.{Sound};
+ghost use Rattle.table.specs.Shown.{SoundOf, ShowsKeys};
 ghost use Rattle.requests.specs.Outcomes.{confirmationOf, agreed, signatureOf, grantOf, handed, lentOf};
 ghost use Rattle.requests.specs.Ends.{Ends};
 
@@ -68,14 +67,14 @@ fn confirmed_for(c: Confirmed, number: u64) -> Said
 }
 
 // What is said of a signature with the key of place i: yes where it has no Confirm.
-fn consent(state: State, i: usize, c: Confirmed) -> Said
-    requires { ⌜ i < 8 ⌝ }
-    ensures { λ r. ⌜ ((x : List ℕ) → Sound state x → agreed (getD (gatewayOf state x .places) i none) (confirmationOf c) ≡ grantOf r) ⌝ }
+fn consent(numbers: &[u64], confirm: &[u8], i: usize, c: Confirmed) -> Said
+    requires { ⌜ (i < 8) × (length (now numbers) ≡ 8) × (length (now confirm) ≡ 8) ⌝ }
+    ensures { λ r. ⌜ ((s : State) (x : List ℕ) → s .columns .numbers ≡ now (numbers .entry) → s .columns .confirm ≡ now (confirm .entry) → Sound s x → agreed (getD (gatewayOf s x .places) i none) (confirmationOf c) ≡ grantOf r) ⌝ }
 {
-    if !places::confirm_at(state, i) {
+    if !places::confirm_at(confirm, i) {
         return Said::Yes;
     }
-    confirmed_for(c, places::number_at(state, i))
+    confirmed_for(c, places::number_at(numbers, i))
 }
 
 // The signer's answer that counts for this insertion number: none, nothing given, or the bytes beside it.
@@ -111,91 +110,91 @@ fn put_reply(blob: &[u8], reply: &mut [u8]) -> usize
 
 // Past the confirmation: data and flags, then the signer.
 fn sign_data(
-    state: State,
-    store: &[u8],
     payload: &[u8],
     at: Cursor,
     number: u64,
     answers: Answers,
     signature: &[u8],
     reply: &mut [u8],
-) -> Called
-    requires { ⌜ (replyRoom ≤ length (now reply)) × (lentLength (lentOf answers (now signature) .signature) ≤ signatureLimit) × Sound state (now store) ⌝ }
-    ensures { λ r. ⌜ Ends (now (reply .entry)) r (now (store .entry)) (now (reply .exit)) (follow (lent (lentOf answers (now (signature .entry)))) (gatewayOf state (now (store .entry))) (signingData (gatewayOf state (now (store .entry))) (now (payload .entry)) number (at .at))) ⌝ }
+) -> Outcome
+    requires { ⌜ (replyRoom ≤ length (now reply)) × (lentLength (lentOf answers (now signature) .signature) ≤ signatureLimit) ⌝ }
+    ensures { λ r. ⌜ ((s : State) (x : List ℕ) → Sound s x → Ends (now (reply .entry)) (record { outcome = r; state = s }) x (now (reply .exit)) (follow (lent (lentOf answers (now (signature .entry)))) (gatewayOf s x) (signingData (gatewayOf s x) (now (payload .entry)) number (at .at)))) ⌝ }
 {
     let Part::Whole { from, to, next } = at.string(payload) else {
-        return closed(state);
+        return Outcome::Close;
     };
     let Number::Value(flags, _) = next.number(payload) else {
-        return closed(state);
+        return Outcome::Close;
     };
     let hash = hash_of(flags);
     let given = answers.signature;
     match signed_for(given, number) {
-        Said::Missing => Called {
-            outcome: Outcome::Sign {
-                number,
-                from,
-                to,
-                hash,
-            },
-            state,
+        Said::Missing => Outcome::Sign {
+            number,
+            from,
+            to,
+            hash,
         },
-        Said::No => closed(state),
+        Said::No => Outcome::Close,
         Said::Yes => {
             let len = put_reply(signature, reply);
-            Called {
-                outcome: Outcome::Reply { len },
-                state,
-            }
+            Outcome::Reply { len }
         }
     }
 }
 
 // The key of place i was found: its Confirm, then the rest.
 fn sign_with(
-    state: State,
-    store: &[u8],
+    numbers: &[u64],
+    confirm: &[u8],
     payload: &[u8],
     at: Cursor,
     i: usize,
     answers: Answers,
     signature: &[u8],
     reply: &mut [u8],
-) -> Called
-    requires { ⌜ (i < 8) × (replyRoom ≤ length (now reply)) × (lentLength (lentOf answers (now signature) .signature) ≤ signatureLimit) × Sound state (now store) ⌝ }
-    ensures { λ r. ⌜ ((k : Key) → getD (gatewayOf state (now (store .entry)) .places) i none ≡ some k → Ends (now (reply .entry)) r (now (store .entry)) (now (reply .exit)) (follow (lent (lentOf answers (now (signature .entry)))) (gatewayOf state (now (store .entry))) (confirming (gatewayOf state (now (store .entry))) (now (payload .entry)) (some k) (at .at)))) ⌝ }
+) -> Outcome
+    requires { ⌜ (i < 8) × (length (now numbers) ≡ 8) × (length (now confirm) ≡ 8) × (replyRoom ≤ length (now reply)) × (lentLength (lentOf answers (now signature) .signature) ≤ signatureLimit) ⌝ }
+    ensures { λ r. ⌜ ((s : State) (x : List ℕ) → s .columns .numbers ≡ now (numbers .entry) → s .columns .confirm ≡ now (confirm .entry) → Sound s x → (k : Key) → getD (gatewayOf s x .places) i none ≡ some k → Ends (now (reply .entry)) (record { outcome = r; state = s }) x (now (reply .exit)) (follow (lent (lentOf answers (now (signature .entry)))) (gatewayOf s x) (confirming (gatewayOf s x) (now (payload .entry)) (some k) (at .at)))) ⌝ }
 {
-    let number = places::number_at(state, i);
+    let number = places::number_at(numbers, i);
     let given = answers.confirmation;
-    match consent(state, i, given) {
-        Said::Missing => Called {
-            outcome: Outcome::Confirm { number },
-            state,
-        },
-        Said::No => failure(state, reply),
-        Said::Yes => sign_data(state, store, payload, at, number, answers, signature, reply),
+    match consent(numbers, confirm, i, given) {
+        Said::Missing => Outcome::Confirm { number },
+        Said::No => failure(reply),
+        Said::Yes => sign_data(payload, at, number, answers, signature, reply),
     }
 }
 
 // 13
 pub fn try_sign(
-    state: State,
+    numbers: &[u64],
+    confirm: &[u8],
+    blob_lens: &[usize],
     store: &[u8],
     payload: &[u8],
     answers: Answers,
     signature: &[u8],
     reply: &mut [u8],
-) -> Called
-    requires { ⌜ (replyRoom ≤ length (now reply)) × (lentLength (lentOf answers (now signature) .signature) ≤ signatureLimit) × Sound state (now store) ⌝ }
-    ensures { λ r. ⌜ Ends (now (reply .entry)) r (now (store .entry)) (now (reply .exit)) (follow (lent (lentOf answers (now (signature .entry)))) (gatewayOf state (now (store .entry))) (signing (gatewayOf state (now (store .entry))) (now (payload .entry)))) ⌝ }
+) -> Outcome
+    requires { ⌜ (replyRoom ≤ length (now reply)) × (lentLength (lentOf answers (now signature) .signature) ≤ signatureLimit) × SoundOf (ShowsKeys (now numbers) (now confirm) (now «blob_lens»)) (now store) ⌝ }
+    ensures { λ r. ⌜ ((s : State) → ShowsKeys (now (numbers .entry)) (now (confirm .entry)) (now («blob_lens» .entry)) s → Sound s (now (store .entry)) → Ends (now (reply .entry)) (record { outcome = r; state = s }) (now (store .entry)) (now (reply .exit)) (follow (lent (lentOf answers (now (signature .entry)))) (gatewayOf s (now (store .entry))) (signing (gatewayOf s (now (store .entry))) (now (payload .entry))))) ⌝ }
 {
     let start = Cursor { at: 1 };
     let Part::Whole { from, to, next } = start.string(payload) else {
-        return closed(state);
+        return Outcome::Close;
     };
-    match places::find(state, store, cut(payload, from, to)) {
-        Found::Nothing => failure(state, reply),
-        Found::At(i) => sign_with(state, store, payload, next, i, answers, signature, reply),
+    match places::find(numbers, blob_lens, store, cut(payload, from, to)) {
+        Found::Nothing => failure(reply),
+        Found::At(i) => sign_with(
+            numbers,
+            confirm,
+            payload,
+            next,
+            i,
+            answers,
+            signature,
+            reply,
+        ),
     }
 }

@@ -6,16 +6,19 @@ use mathlib.Core.Option.{Option, none, some}
 use mathlib.Core.List.{List}
 use borrow.Author.Tests.{not-true, not-false, eq-eqb, ne-eqb, le-ltb, lt-ltb}
 use lib.ListN.{length}
-use Rattle.wire.specs.Limits.{payloadLimit, storeSize, passphraseLimit, signatureLimit, replyRoom}
+use Rattle.wire.specs.Limits.{payloadLimit, storeSize, signatureLimit, replyRoom}
 use Rattle.rule.specs.declared.Millis.{Millis}
 use Rattle.rule.specs.Gateway.{Gateway, advance}
 use Rattle.rule.specs.Calls.{lentLength, refusalOf, served}
+use Rattle.table.specs.declared.Columns.{Columns}
+use Rattle.table.specs.declared.Kept.{Kept}
 use Rattle.table.specs.declared.State.{State}
-use Rattle.table.specs.Meaning.{gatewayOf}
+use Rattle.table.specs.Meaning.{gatewayOf, held}
 use Rattle.table.specs.Soundness.{soundState, Sound, Means}
 use Rattle.table.proofs.TestLaws.{sound-state-rule}
 use Rattle.requests.specs.declared.Answers.{Answers}
 use Rattle.requests.specs.declared.Called.{Called}
+use Rattle.requests.specs.declared.Landed.{Landed}
 use Rattle.requests.specs.declared.Outcome.the-variants.{Refused}
 use Rattle.requests.specs.Outcomes.{signatureOf, lentOf}
 use Rattle.requests.specs.Ends.{Ends}
@@ -25,10 +28,10 @@ use Rattle.server.specs.Calls.{callOf, Meets}
 -- ## Soundness, as the test tells it
 
 pub sound-passed : (s : State) (x : List ℕ) → Sound s x → soundState s x ≡ true
-sound-passed s x S = sound-state-rule s x (S .eight-entries) (S .lock .record-size) .1 S
+sound-passed s x S = sound-state-rule s x .1 S
 
-pub sound-told : (s : State) (x : List ℕ) (b : Bool) → length (s .entries) ≡ 8 → length (s .lock .bytes) ≡ passphraseLimit → not b ≡ false → b ≡ soundState s x → Sound s x
-sound-told s x b eight long e f = sound-state-rule s x eight long .0 (sym f ∙ not-false b e)
+pub sound-told : (s : State) (x : List ℕ) (b : Bool) → not b ≡ false → b ≡ soundState s x → Sound s x
+sound-told s x b e f = sound-state-rule s x .0 (sym f ∙ not-false b e)
 
 module _ (s : State) (x p : List ℕ) (t : Millis) (answers : Answers) (bytes buffer : List ℕ) where
   abbrev pub refusalHere : Option ℕ
@@ -100,6 +103,11 @@ module _ (s : State) (x p : List ℕ) (t : Millis) (answers : Answers) (bytes bu
             store-is = rw ok (laid .1);
             reply-is = rw ok (laid .2);
           }
+
+-- a refusal of the core, as the state that its columns and what it keeps are
+pub refused-as : (t : Columns) (cs b : List ℕ) (k : Kept) (r : Landed) (n : ℕ) → r ≡ record { outcome = Refused n; kept = k }
+    → _≡_ {A = Called} (record { outcome = r .outcome; state = held t cs b (r .kept) }) (record { outcome = Refused n; state = held t cs b k })
+refused-as t cs b k r n e = ap (λ (l : Landed). record { outcome = l .outcome; state = held t cs b (l .kept) }) e
 
 -- a lent signature that the test lets through is short
 pub lent-short : (answers : Answers) (bytes : List ℕ) (n : ℕ) → n ≡ lentLength (signatureOf (answers .signature) bytes) → n ≤ signatureLimit → lentLength (lentOf answers bytes .signature) ≤ signatureLimit

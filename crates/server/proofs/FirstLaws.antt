@@ -293,9 +293,9 @@ first-refused state store f n m e =
     }
 
 pub first-refusals : FirstRefusals ByFirst
-first-refusals state store f eight long m =
+first-refusals state store f m =
     let k = made state store f m in
-    let calls = code-refusals state store k eight long (made-by-call state store f m) in
+    let calls = code-refusals state store k (made-by-call state store f m) in
     record {
       first = λ whole a. made-called state store f m whole .refused 1 (calls .first a);
       second = λ whole a b. made-called state store f m whole .refused 2 (calls .second a b);
@@ -343,7 +343,7 @@ first-asks state store f S m whole room =
     let k = made state store f m in
     let by = made-by-call state store f m in
     let alike = made-called state store f m whole in
-    let calls = code-refusals state store k (S .eight-entries) (S .lock .record-size) by in
+    let calls = code-refusals state store k by in
     let never = calls .accepted room S (whole-frame (f .bytes) whole .limit) (λ i never. absurd (missing-not-given i never)) in
     by-word (step-ends state store S k by) never (alike .begun never) (alike .reply-is) (first-word (gatewayOf state store) (asCall k) refl)
   where
@@ -363,7 +363,7 @@ first-asks state store f S m whole room =
         )
 
 pub first-begun : FirstBegun ByFirst
-first-begun state store f used ended eight long m e = by-room (ltb (length (f .buffer)) replyRoom) refl
+first-begun state store f used ended m e = by-room (ltb (length (f .buffer)) replyRoom) refl
   where
     never : (n : ℕ) → FirstEnded (2 ∷ n ∷ []) f → ⊥
     never n is = omega (arith, ap (λ (vs : List ℕ). getD vs 0 0) (sym is ∙ e))
@@ -372,16 +372,16 @@ first-begun state store f used ended eight long m e = by-room (ltb (length (f .b
     whole = whole-told state store f m 3 (used ∷ ended) (omega arith) e
 
     by-sound : replyRoom ≤ length (f .buffer) → length store ≡ storeSize → (b : Bool) → soundState state store ≡ b → GateOrFailure f
-    by-sound room size true is = first-asks state store f (sound-state-rule state store eight long .0 is) m whole room
+    by-sound room size true is = first-asks state store f (sound-state-rule state store .0 is) m whole room
     by-sound room size false is =
-        absurd (never 3 (first-refusals state store f eight long m .third whole room size (λ S. true-not-false (sym (sound-state-rule state store eight long .1 S) ∙ is))))
+        absurd (never 3 (first-refusals state store f m .third whole room size (λ S. true-not-false (sym (sound-state-rule state store .1 S) ∙ is))))
 
     by-size : replyRoom ≤ length (f .buffer) → (b : Bool) → eqb (length store) storeSize ≡ b → GateOrFailure f
     by-size room true is = by-sound room (eqb-true (length store) storeSize is) (soundState state store) refl
-    by-size room false is = absurd (never 2 (first-refusals state store f eight long m .second whole room (eqb-false (length store) storeSize is)))
+    by-size room false is = absurd (never 2 (first-refusals state store f m .second whole room (eqb-false (length store) storeSize is)))
 
     by-room : (b : Bool) → ltb (length (f .buffer)) replyRoom ≡ b → GateOrFailure f
-    by-room true is = absurd (never 1 (first-refusals state store f eight long m .first whole (ltb-true (length (f .buffer)) replyRoom is)))
+    by-room true is = absurd (never 1 (first-refusals state store f m .first whole (ltb-true (length (f .buffer)) replyRoom is)))
     by-room false is = by-size (ltb-false (length (f .buffer)) replyRoom is) (eqb (length store) storeSize) refl
 
 -- ## In a run

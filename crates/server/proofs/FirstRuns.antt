@@ -52,12 +52,12 @@ module _ (Met : State → List ℕ → FirstStep → Type 0) (by-first : (state 
   first-promises = record {
     no-second-answer = λ state store f other m n. no-second-first state store f other (by-first _ _ _ m) (by-first _ _ _ n);
     two-steps = two-steps;
-    refusals = λ state store f eight long m. first-refusals state store f eight long (by-first _ _ _ m);
+    refusals = λ state store f m. first-refusals state store f (by-first _ _ _ m);
     refused = λ state store f n m. first-refused state store f n (by-first _ _ _ m);
     uses = λ state store f used ended m. first-uses state store f used ended (by-first _ _ _ m);
     uses-frame = λ state store f payload rest used ended m. first-uses-frame state store f payload rest used ended (by-first _ _ _ m);
     asks = λ state store f S m. first-asks state store f S (by-first _ _ _ m);
-    begun = λ state store f used ended eight long m. first-begun state store f used ended eight long (by-first _ _ _ m);
+    begun = λ state store f used ended m. first-begun state store f used ended (by-first _ _ _ m);
     made = λ state store f cs m. first-made state store f cs (by-first _ _ _ m);
     runs = runs;
     as-calls = code-promises (ByEither Met MetLater) either-by-call;

@@ -10,7 +10,7 @@ use Rattle.wire.proofs.Reading.{cut-none}
 use Rattle.rule.specs.declared.Millis.{Millis}
 use Rattle.table.specs.declared.State.{State}
 use Rattle.requests.specs.declared.Answers.{Answers}
-use Rattle.requests.specs.declared.Called.{Called}
+use Rattle.requests.specs.declared.Outcome.{Outcome}
 use Rattle.server.specs.declared.first.First.{First}
 use Rattle.server.specs.declared.first.First.the-variants.{MoreNeeded, TooLong}
 use Rattle.server.specs.Calls.{Meets}
@@ -33,12 +33,12 @@ module _ (state : State) (store bytes : List ℕ) (reading : Millis) (buffer : L
   unfolding firstBy
   too-long is = gives _ (gives-by split.TooLong is)
 
-  pub begins : (from to : ℕ) (payload : List ℕ) (answers : Answers) (signature : List ℕ) (r : Called) (first : First) (y out : List ℕ)
+  pub begins : (from to : ℕ) (payload : List ℕ) (answers : Answers) (signature : List ℕ) (outcome : Outcome) (after : State) (first : First) (y out : List ℕ)
       → x ≡ split.Frame from to → payload ≡ framePayload bytes → answers ≡ nothingLent → signature ≡ cutOf bytes 0 0
-      → Meets state store payload reading answers signature buffer (r .outcome) (r .state) y out → first ≡ firstIn to (r .outcome)
-      → FirstMeets state store bytes reading buffer first (r .state) y out
+      → Meets state store payload reading answers signature buffer outcome after y out → first ≡ firstIn to outcome
+      → FirstMeets state store bytes reading buffer first after y out
   unfolding firstBy
-  begins from to payload answers signature r first y out is cut unlent empty m e =
+  begins from to payload answers signature outcome after first y out is cut unlent empty m e =
       let done = gives-by (split.Frame from to) is in
       let called = rw (cut, unlent, empty ∙ sym (cut-none bytes)) at m in
       record {

@@ -9,7 +9,7 @@ use mathlib.Core.List.{List, [], _∷_}
 use native.Mathlib.Omega.{arith}
 use lib.ListN.{length, getD, take, drop}
 use lib.Seq.{drop-at}
-use Rattle.wire.specs.Limits.{passphraseLimit, signatureLimit, replyRoom}
+use Rattle.wire.specs.Limits.{signatureLimit, replyRoom}
 use Rattle.wire.specs.Write.{write}
 use Rattle.wire.proofs.Writing.{length-write}
 use Rattle.rule.specs.Gateway.{Gateway, advance}
@@ -143,11 +143,11 @@ ended-is k r e = rw (e .ended, e .bytes) (outcomes-read (r .outcome) (k .buffer)
 
 -- ## The refusals in order
 
-not-sound : (s : State) (x : List ℕ) → length (s .entries) ≡ 8 → length (s .lock .bytes) ≡ passphraseLimit → (Sound s x → ⊥) → soundState s x ≡ false
-not-sound s x eight long never = go (soundState s x) refl
+not-sound : (s : State) (x : List ℕ) → (Sound s x → ⊥) → soundState s x ≡ false
+not-sound s x never = go (soundState s x) refl
   where
     go : (b : Bool) → soundState s x ≡ b → b ≡ false
-    go true e = absurd (never (sound-state-rule s x eight long .0 e))
+    go true e = absurd (never (sound-state-rule s x .0 e))
     go false e = refl
 
 lent-fits : (s : Signed) (bytes : List ℕ) → ((n : ℕ) → s ≡ Given n → length bytes ≤ signatureLimit) → lentLength (signatureOf s bytes) ≤ signatureLimit
@@ -166,10 +166,10 @@ module _ (state : State) (store : List ℕ) (k : Step) (m : ByCall state store k
       (step-is state store k m ∙ ap (λ (o : Option ℕ). gaveOf (byRefusal state store k o (servedHere state store k))) e) v
 
 pub code-refusals : CodeRefusals ByCall
-code-refusals state store k eight long m = record {
+code-refusals state store k m = record {
   first = λ a. refuses state store k m 1 (refuses-1 _ _ _ _ _ _ _ (refusing 1) a refl .outcome-is);
   second = λ a b. refuses state store k m 2 (refuses-2 _ _ _ _ _ _ _ (refusing 2) a b refl .outcome-is);
-  third = λ a b never. refuses state store k m 3 (refuses-3 _ _ _ _ _ _ _ (refusing 3) (soundState state store) a b (ap not (not-sound state store eight long never)) refl refl .outcome-is);
+  third = λ a b never. refuses state store k m 3 (refuses-3 _ _ _ _ _ _ _ (refusing 3) (soundState state store) a b (ap not (not-sound state store never)) refl refl .outcome-is);
   fourth = λ a S b. refuses state store k m 4 (refuses-4 _ _ _ _ _ _ _ a S (refusing 4) b refl .outcome-is);
   fifth = λ a S b n e c. refuses state store k m 5 (refuses-5 _ _ _ _ _ _ _ a S _ b (lent-given (k .answers .signature) (k .signature) n e) (refusing 5) c refl .outcome-is);
   accepted = λ a S b fits n. not-refused state store k m n (none-applies state store (k .payload) (k .reading) (k .answers) (k .signature) (k .buffer) a S _ b refl (lent-fits (k .answers .signature) (k .signature) fits));

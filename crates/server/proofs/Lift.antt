@@ -241,7 +241,7 @@ module _ (Met : State → List ℕ → Step → Type 0) (by-call : (state : Stat
   pub code-promises : CodePromises Met
   code-promises = record {
     no-second-answer = λ state store k other m n. no-second-answer state store k other (by-call _ _ _ m) (by-call _ _ _ n);
-    refusals = λ state store k eight long m. code-refusals state store k eight long (by-call _ _ _ m);
+    refusals = λ state store k m. code-refusals state store k (by-call _ _ _ m);
     refusal-leaves = λ state store k n m. code-refusal-leaves state store k n (by-call _ _ _ m);
     numbers = λ state store k S m. code-numbers state store k S (by-call _ _ _ m);
     gate-asks = λ state store k byte needs class S m. code-gate-asks state store k byte needs class S (by-call _ _ _ m);

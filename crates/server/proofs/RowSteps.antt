@@ -132,7 +132,7 @@ module _ (s : State) (x p : List ℕ) (answers : Answers) (bytes buffer : List �
   abbrev Serves : Type 0
   Serves = Ends buffer r y out (served g (record { payload = p }) a)
 
-  module _ (w : Row) (b : Bool) (known : (z : List ℕ) → b ≡ locked (gatewayOf s z)) (by : w ≡ rowIn p b (answers .gate)) where
+  module _ (w : Row) (b : Bool) (known : b ≡ locked (gatewayOf s x)) (by : w ≡ rowIn p b (answers .gate)) where
     says : a .gate ≡ grantOf (answers .gate)
     unfolding lentOf
     says = refl
@@ -141,7 +141,7 @@ module _ (s : State) (x p : List ℕ) (answers : Answers) (bytes buffer : List �
     unfolding served
     served-row v e h =
         let q : resultOf a g p v ≡ follow (lent a) g (rule g p) =
-        ap (resultOf a g p) (sym e ∙ by ∙ ap (λ (k : Bool). rowIn p k (answers .gate)) (known x)) ∙ sym (rule-row a g p (answers .gate) says) in
+        ap (resultOf a g p) (sym e ∙ by ∙ ap (λ (k : Bool). rowIn p k (answers .gate)) known) ∙ sym (rule-row a g p (answers .gate) says) in
         subst (Ends buffer r y out) q h
 
     pub served-asks : (class : ℕ) → w ≡ rows.Asks class → r ≡ record { outcome = Gate class; state = s } → y ≡ x → out ≡ buffer → Sound s x → Serves

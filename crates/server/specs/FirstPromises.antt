@@ -7,7 +7,7 @@ use mathlib.Core.Bool.{Bool, true, false, cond}
 use mathlib.Core.List.{List, [], _∷_, _++_}
 use lib.Dec.{eqb, ltb}
 use lib.ListN.{length, getD, drop}
-use Rattle.wire.specs.Limits.{payloadLimit, storeSize, passphraseLimit, replyRoom}
+use Rattle.wire.specs.Limits.{payloadLimit, storeSize, replyRoom}
 use Rattle.wire.specs.Read.{cutOf}
 use Rattle.wire.specs.Write.{string}
 use Rattle.wire.specs.Frames.{splitOf, splitNumber, framePayload}
@@ -178,7 +178,7 @@ module _ (Met : State → List ℕ → FirstStep → Type 0) where
   -- the two lengths are the arrays'
   abbrev pub FirstRefusals : Type 0
   FirstRefusals =
-      (state : State) (store : List ℕ) (f : FirstStep) → length (state .entries) ≡ 8 → length (state .lock .bytes) ≡ passphraseLimit → Met state store f
+      (state : State) (store : List ℕ) (f : FirstStep) → Met state store f
       → FirstRefusalsInOrder state store f
 
   abbrev pub FirstRefusedRule : Type 0
@@ -199,7 +199,7 @@ module _ (Met : State → List ℕ → FirstStep → Type 0) where
   -- and of whatever has begun, on any state and store
   abbrev pub FirstBegun : Type 0
   FirstBegun =
-      (state : State) (store : List ℕ) (f : FirstStep) (used : ℕ) (ended : List ℕ) → length (state .entries) ≡ 8 → length (state .lock .bytes) ≡ passphraseLimit
+      (state : State) (store : List ℕ) (f : FirstStep) (used : ℕ) (ended : List ℕ)
       → Met state store f → FirstEnded (3 ∷ used ∷ ended) f → GateOrFailure f
 
   abbrev pub FirstMade : Type 0

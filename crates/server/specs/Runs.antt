@@ -6,7 +6,7 @@ use mathlib.Core.Logic.{_≢_}
 use mathlib.Core.Bool.{Bool, true, false, cond}
 use mathlib.Core.List.{List, [], _∷_, _++_, map}
 use lib.ListN.{length, getD, take, drop, replicate}
-use Rattle.wire.specs.Limits.{payloadLimit, storeSize, passphraseLimit, signatureLimit, replyRoom}
+use Rattle.wire.specs.Limits.{payloadLimit, storeSize, signatureLimit, replyRoom}
 use Rattle.wire.specs.Numbers.{Bytes, be32}
 use Rattle.wire.specs.Write.{string, write}
 use Rattle.rule.specs.declared.Millis.{Millis}
@@ -223,7 +223,7 @@ module _ (Met : State → List ℕ → Step → Type 0) where
   -- on any state and store; the two lengths are the arrays'
   abbrev pub CodeRefusals : Type 0
   CodeRefusals =
-      (state : State) (store : List ℕ) (k : Step) → length (state .entries) ≡ 8 → length (state .lock .bytes) ≡ passphraseLimit → Met state store k
+      (state : State) (store : List ℕ) (k : Step) → Met state store k
       → RefusalsInOrder state store k
 
   abbrev pub CodeRefusalLeaves : Type 0

@@ -1,7 +1,8 @@
 // Derived from keys/agent/server.rs of russh 0.65.0 (Apache-2.0), and changed: see NOTICE.
-// One call: its refusals, the clock, the row of its first byte, and the request's function.
+// One call: its refusals, the clock, the row of its first byte, and the request's function. The core works over lent columns, which lie where the state does.
 use requests::Answers;
 use requests::Called;
+use requests::Landed;
 use requests::Outcome;
 use requests::Said;
 use requests::Signed;
@@ -14,6 +15,10 @@ use requests::remove::remove_identity;
 use requests::replies::failure;
 use requests::sign::try_sign;
 use rule::Millis;
+use table::COMMENTS_SIZE;
+use table::Columns;
+use table::Kept;
+use table::LockRecord;
 use table::State;
 use table::changes::advance;
 use table::locks::is_locked;
@@ -26,7 +31,8 @@ ghost use Prim.Native.Nat.{_≤_};
 ghost use lib.ListN.{length};
 ghost use Rattle.wire.specs.Limits.{signatureLimit, replyRoom};
 ghost use Rattle.rule.specs.Calls.{lentLength, served};
-ghost use Rattle.table.specs.Meaning.{gatewayOf};
+ghost use Rattle.table.specs.Entries.{columns};
+ghost use Rattle.table.specs.Meaning.{gatewayOf, held};
 ghost use Rattle.table.specs.Soundness.{Sound};
 ghost use Rattle.requests.specs.Outcomes.{signatureOf, lentOf};
 ghost use Rattle.requests.specs.Ends.{Ends};
@@ -90,32 +96,107 @@ fn row_in(payload: &[u8], locked: bool, gate: Said) -> Row
 
 // The request served on the present state, its clock raised.
 fn respond(
-    state: State,
+    numbers: &mut [u64],
+    readings: &mut [u64],
+    blob_lens: &mut [usize],
+    fields_lens: &mut [usize],
+    comment_lens: &mut [usize],
+    seconds: &mut [u32],
+    limited: &mut [u8],
+    confirm: &mut [u8],
+    comments: &mut [u8],
+    passphrase: &mut [u8],
+    kept: Kept,
     store: &mut [u8],
     payload: &[u8],
     answers: Answers,
     signature: &[u8],
     reply: &mut [u8],
-) -> Called
-    requires { ⌜ (replyRoom ≤ length (now reply)) × (lentLength (lentOf answers (now signature) .signature) ≤ signatureLimit) × Sound state (now store) ⌝ }
-    ensures { λ r. ⌜ Ends (now (reply .entry)) r (now (store .exit)) (now (reply .exit)) (served (gatewayOf state (now (store .entry))) (record { payload = now (payload .entry) }) (lentOf answers (now (signature .entry)))) ⌝ }
+) -> Landed
+    requires { ⌜ (replyRoom ≤ length (now reply)) × (lentLength (lentOf answers (now signature) .signature) ≤ signatureLimit) × Sound (held (columns (now numbers) (now readings) (now «blob_lens») (now «fields_lens») (now «comment_lens») (now seconds) (now limited) (now confirm)) (now comments) (now passphrase) kept) (now store) ⌝ }
+    ensures { λ r. ⌜ Ends (now (reply .entry)) (record { outcome = r .outcome; state = (held (columns (now (numbers .exit)) (now (readings .exit)) (now («blob_lens» .exit)) (now («fields_lens» .exit)) (now («comment_lens» .exit)) (now (seconds .exit)) (now (limited .exit)) (now (confirm .exit))) (now (comments .exit)) (now (passphrase .exit)) (r .kept)) }) (now (store .exit)) (now (reply .exit)) (served (gatewayOf (held (columns (now (numbers .entry)) (now (readings .entry)) (now («blob_lens» .entry)) (now («fields_lens» .entry)) (now («comment_lens» .entry)) (now (seconds .entry)) (now (limited .entry)) (now (confirm .entry))) (now (comments .entry)) (now (passphrase .entry)) kept) (now (store .entry))) (record { payload = now (payload .entry) }) (lentOf answers (now (signature .entry)))) ⌝ }
 {
-    let locked = is_locked(state);
+    let locked = is_locked(kept.locked);
     let gate = answers.gate;
     let check = answers.check;
     match row_in(payload, locked, gate) {
-        Row::Fails => failure(state, reply),
-        Row::Asks(class) => Called {
-            outcome: Outcome::Gate { class },
-            state,
+        Row::Fails => Landed {
+            outcome: failure(reply),
+            kept,
         },
-        Row::List => request_identities(state, store, reply),
-        Row::Add(constrained) => add_key(state, store, payload, constrained, check, reply),
-        Row::Remove => remove_identity(state, store, payload, reply),
-        Row::RemoveAll => remove_all_identities(state, store, reply),
-        Row::Sign => try_sign(state, store, payload, answers, signature, reply),
-        Row::Lock => lock(state, store, payload, reply),
-        Row::Unlock => unlock(state, store, payload, reply),
+        Row::Asks(class) => Landed {
+            outcome: Outcome::Gate { class },
+            kept,
+        },
+        Row::List => Landed {
+            outcome: request_identities(numbers, blob_lens, comment_lens, comments, store, reply),
+            kept,
+        },
+        Row::Add(constrained) => add_key(
+            numbers,
+            readings,
+            blob_lens,
+            fields_lens,
+            comment_lens,
+            seconds,
+            limited,
+            confirm,
+            comments,
+            kept,
+            store,
+            payload,
+            constrained,
+            check,
+            reply,
+        ),
+        Row::Remove => Landed {
+            outcome: remove_identity(
+                numbers,
+                readings,
+                blob_lens,
+                fields_lens,
+                comment_lens,
+                seconds,
+                limited,
+                confirm,
+                comments,
+                store,
+                payload,
+                reply,
+            ),
+            kept,
+        },
+        Row::RemoveAll => Landed {
+            outcome: remove_all_identities(
+                numbers,
+                readings,
+                blob_lens,
+                fields_lens,
+                comment_lens,
+                seconds,
+                limited,
+                confirm,
+                comments,
+                store,
+                reply,
+            ),
+            kept,
+        },
+        Row::Sign => Landed {
+            outcome: try_sign(
+                numbers,
+                confirm,
+                blob_lens,
+                store,
+                payload,
+                answers,
+                signature,
+                reply,
+            ),
+            kept,
+        },
+        Row::Lock => lock(passphrase, kept, payload, reply),
+        Row::Unlock => unlock(passphrase, kept, payload, reply),
     }
 }
 
@@ -130,43 +211,203 @@ fn lent_length(given: Signed, bytes: &[u8]) -> usize
     }
 }
 
-fn refused(number: u8, state: State) -> Called
-    ensures { λ r. ⌜ r ≡ record { outcome = Outcome.Refused number; state = state } ⌝ }
+fn refused(number: u8, kept: Kept) -> Landed
+    ensures { λ r. ⌜ r ≡ record { outcome = Outcome.Refused number; kept = kept } ⌝ }
 {
-    Called {
+    Landed {
         outcome: Outcome::Refused { number },
-        state,
+        kept,
     }
 }
 
-// A call on a state and store that are known to be sound, as `call` finds out first: refusals 2 and 3 cannot occur.
+// A call on a state and store that are known to be sound, as `call_core` finds out first: refusals 2 and 3 cannot occur.
 fn call_sound(
-    state: State,
+    numbers: &mut [u64],
+    readings: &mut [u64],
+    blob_lens: &mut [usize],
+    fields_lens: &mut [usize],
+    comment_lens: &mut [usize],
+    seconds: &mut [u32],
+    limited: &mut [u8],
+    confirm: &mut [u8],
+    comments: &mut [u8],
+    passphrase: &mut [u8],
+    kept: Kept,
     store: &mut [u8],
     payload: &[u8],
     reading: Millis,
     answers: Answers,
     signature: &[u8],
     reply: &mut [u8],
-) -> Called
-    requires { ⌜ Sound state (now store) ⌝ }
-    ensures { λ r. ⌜ Meets state (now (store .entry)) (now (payload .entry)) reading answers (now (signature .entry)) (now (reply .entry)) (r .outcome) (r .state) (now (store .exit)) (now (reply .exit)) ⌝ }
+) -> Landed
+    requires { ⌜ Sound (held (columns (now numbers) (now readings) (now «blob_lens») (now «fields_lens») (now «comment_lens») (now seconds) (now limited) (now confirm)) (now comments) (now passphrase) kept) (now store) ⌝ }
+    ensures { λ r. ⌜ Meets (held (columns (now (numbers .entry)) (now (readings .entry)) (now («blob_lens» .entry)) (now («fields_lens» .entry)) (now («comment_lens» .entry)) (now (seconds .entry)) (now (limited .entry)) (now (confirm .entry))) (now (comments .entry)) (now (passphrase .entry)) kept) (now (store .entry)) (now (payload .entry)) reading answers (now (signature .entry)) (now (reply .entry)) (r .outcome) (held (columns (now (numbers .exit)) (now (readings .exit)) (now («blob_lens» .exit)) (now («fields_lens» .exit)) (now («comment_lens» .exit)) (now (seconds .exit)) (now (limited .exit)) (now (confirm .exit))) (now (comments .exit)) (now (passphrase .exit)) (r .kept)) (now (store .exit)) (now (reply .exit)) ⌝ }
 {
     if reply.len() < limits::REPLY_ROOM {
-        return refused(1, state);
+        return refused(1, kept);
     }
     if limits::PAYLOAD_LIMIT < payload.len() {
-        return refused(4, state);
+        return refused(4, kept);
     }
     let given = answers.signature;
     if limits::SIGNATURE_LIMIT < lent_length(given, signature) {
-        return refused(5, state);
+        return refused(5, kept);
     }
-    let raised = advance(state, store, reading);
-    respond(raised, store, payload, answers, signature, reply)
+    let raised = advance(
+        numbers,
+        readings,
+        blob_lens,
+        fields_lens,
+        comment_lens,
+        seconds,
+        limited,
+        confirm,
+        comments,
+        kept,
+        store,
+        reading,
+    );
+    respond(
+        numbers,
+        readings,
+        blob_lens,
+        fields_lens,
+        comment_lens,
+        seconds,
+        limited,
+        confirm,
+        comments,
+        passphrase,
+        raised,
+        store,
+        payload,
+        answers,
+        signature,
+        reply,
+    )
 }
 
-// One call: outcome and state come out, store and reply buffer hold what `callOf` says.
+// The core: columns, comments and passphrase are lent, and what is no column goes by value.
+fn call_core(
+    numbers: &mut [u64],
+    readings: &mut [u64],
+    blob_lens: &mut [usize],
+    fields_lens: &mut [usize],
+    comment_lens: &mut [usize],
+    seconds: &mut [u32],
+    limited: &mut [u8],
+    confirm: &mut [u8],
+    comments: &mut [u8],
+    passphrase: &mut [u8],
+    kept: Kept,
+    store: &mut [u8],
+    payload: &[u8],
+    reading: Millis,
+    answers: Answers,
+    signature: &[u8],
+    reply: &mut [u8],
+) -> Landed
+    ensures { λ r. ⌜ Meets (held (columns (now (numbers .entry)) (now (readings .entry)) (now («blob_lens» .entry)) (now («fields_lens» .entry)) (now («comment_lens» .entry)) (now (seconds .entry)) (now (limited .entry)) (now (confirm .entry))) (now (comments .entry)) (now (passphrase .entry)) kept) (now (store .entry)) (now (payload .entry)) reading answers (now (signature .entry)) (now (reply .entry)) (r .outcome) (held (columns (now (numbers .exit)) (now (readings .exit)) (now («blob_lens» .exit)) (now («fields_lens» .exit)) (now («comment_lens» .exit)) (now (seconds .exit)) (now (limited .exit)) (now (confirm .exit))) (now (comments .exit)) (now (passphrase .exit)) (r .kept)) (now (store .exit)) (now (reply .exit)) ⌝ }
+{
+    if reply.len() < limits::REPLY_ROOM {
+        return refused(1, kept);
+    }
+    if store.len() != limits::STORE_SIZE {
+        return refused(2, kept);
+    }
+    if !is_sound(
+        numbers,
+        readings,
+        blob_lens,
+        fields_lens,
+        comment_lens,
+        seconds,
+        limited,
+        confirm,
+        comments,
+        passphrase,
+        kept,
+        store,
+    ) {
+        return refused(3, kept);
+    }
+    call_sound(
+        numbers,
+        readings,
+        blob_lens,
+        fields_lens,
+        comment_lens,
+        seconds,
+        limited,
+        confirm,
+        comments,
+        passphrase,
+        kept,
+        store,
+        payload,
+        reading,
+        answers,
+        signature,
+        reply,
+    )
+}
+
+// One call on a lent state, whose parts are altered where they lie: outcome, state, store and reply buffer are what `callOf` says.
+pub fn call_lent(
+    numbers: &mut [u64; 8],
+    readings: &mut [u64; 8],
+    blob_lens: &mut [usize; 8],
+    fields_lens: &mut [usize; 8],
+    comment_lens: &mut [usize; 8],
+    seconds: &mut [u32; 8],
+    limited: &mut [u8; 8],
+    confirm: &mut [u8; 8],
+    comments: &mut [u8; COMMENTS_SIZE],
+    passphrase: &mut [u8; limits::PASSPHRASE_LIMIT],
+    locked: &mut usize,
+    clock: &mut u64,
+    next: &mut u64,
+    store: &mut [u8],
+    payload: &[u8],
+    reading: Millis,
+    answers: Answers,
+    signature: &[u8],
+    reply: &mut [u8],
+) -> Outcome
+    ensures { λ r. ⌜ Meets (held (columns (now (numbers .entry)) (now (readings .entry)) (now («blob_lens» .entry)) (now («fields_lens» .entry)) (now («comment_lens» .entry)) (now (seconds .entry)) (now (limited .entry)) (now (confirm .entry))) (now (comments .entry)) (now (passphrase .entry)) (record { clock = record { count = now (clock .entry) }; next = now (next .entry); locked = now (locked .entry) })) (now (store .entry)) (now (payload .entry)) reading answers (now (signature .entry)) (now (reply .entry)) r (held (columns (now (numbers .exit)) (now (readings .exit)) (now («blob_lens» .exit)) (now («fields_lens» .exit)) (now («comment_lens» .exit)) (now (seconds .exit)) (now (limited .exit)) (now (confirm .exit))) (now (comments .exit)) (now (passphrase .exit)) (record { clock = record { count = now (clock .exit) }; next = now (next .exit); locked = now (locked .exit) })) (now (store .exit)) (now (reply .exit)) ⌝ }
+{
+    let before = Kept {
+        clock: Millis { count: *clock },
+        next: *next,
+        locked: *locked,
+    };
+    let r = call_core(
+        numbers,
+        readings,
+        blob_lens,
+        fields_lens,
+        comment_lens,
+        seconds,
+        limited,
+        confirm,
+        comments,
+        passphrase,
+        before,
+        store,
+        payload,
+        reading,
+        answers,
+        signature,
+        reply,
+    );
+    let after = r.kept;
+    *clock = after.clock.count;
+    *next = after.next;
+    *locked = after.locked;
+    r.outcome
+}
+
+// By value: the parts of the state are lent from locals, and make the new state.
 pub fn call(
     state: State,
     store: &mut [u8],
@@ -178,14 +419,63 @@ pub fn call(
 ) -> Called
     ensures { λ r. ⌜ Meets state (now (store .entry)) (now (payload .entry)) reading answers (now (signature .entry)) (now (reply .entry)) (r .outcome) (r .state) (now (store .exit)) (now (reply .exit)) ⌝ }
 {
-    if reply.len() < limits::REPLY_ROOM {
-        return refused(1, state);
-    }
-    if store.len() != limits::STORE_SIZE {
-        return refused(2, state);
-    }
-    if !is_sound(state, store) {
-        return refused(3, state);
-    }
-    call_sound(state, store, payload, reading, answers, signature, reply)
+    let t = state.columns;
+    let mut numbers = t.numbers;
+    let mut readings = t.readings;
+    let mut blob_lens = t.blob_lens;
+    let mut fields_lens = t.fields_lens;
+    let mut comment_lens = t.comment_lens;
+    let mut seconds = t.seconds;
+    let mut limited = t.limited;
+    let mut confirm = t.confirm;
+    let mut comments = state.comments;
+    let lock = state.lock;
+    let mut passphrase = lock.bytes;
+    let mut locked = lock.len;
+    let kept = state.clock;
+    let mut clock = kept.count;
+    let mut next = state.next;
+    let outcome = call_lent(
+        &mut numbers,
+        &mut readings,
+        &mut blob_lens,
+        &mut fields_lens,
+        &mut comment_lens,
+        &mut seconds,
+        &mut limited,
+        &mut confirm,
+        &mut comments,
+        &mut passphrase,
+        &mut locked,
+        &mut clock,
+        &mut next,
+        store,
+        payload,
+        reading,
+        answers,
+        signature,
+        reply,
+    );
+    let columns = Columns {
+        numbers,
+        readings,
+        blob_lens,
+        fields_lens,
+        comment_lens,
+        seconds,
+        limited,
+        confirm,
+    };
+    let lock = LockRecord {
+        bytes: passphrase,
+        len: locked,
+    };
+    let state = State {
+        columns,
+        comments,
+        lock,
+        clock: Millis { count: clock },
+        next,
+    };
+    Called { outcome, state }
 }

@@ -1,18 +1,19 @@
--- Laws of zeros and padding, and one law for each turn and end of the loops over a part.
+-- Laws of zeros and padding, of a part put back, and one law for each turn and end of the loops over a part.
 use Prim.Native.Nat.{ℕ, zero, suc, _+_, _-_, _≤_, _<_, max}
 use mathlib.Core.Path.{_≡_, refl, sym, ap, _∙_}
-use mathlib.Core.Bool.{Bool, true, false, _&&_, and-assoc}
-use mathlib.Core.List.{List, [], _∷_, _++_, append-nil}
+use mathlib.Core.Bool.{Bool, true, false, _&&_, and-assoc, and-true, and-false}
+use mathlib.Core.List.{List, [], _∷_, _++_, append-nil, append-assoc}
 use mathlib.Core.Logic.{_↔_}
 use native.Mathlib.Omega.{arith}
 use native.Mathlib.Numerals.{add-one}
 use native.Mathlib.Nat.{not-suc-le-zero, le-of-suc-le-suc}
 use borrow.Author.Tests.{eqb-true, eqb-false, eq-eqb, ne-eqb}
-use borrow.Rule.Slice.PartMut.{midOf, putMid}
+use borrow.Rule.Slice.PartMut.{midOf, putMid, mid-len}
 use lib.Dec.{eqb}
 use lib.ListN.{length, take, drop, getD, set, replicate, length-append, length-drop, length-replicate, drop-of-length-le, take-append-drop, replicate-append-replicate}
 use lib.Seq.{drop-cons, drop-drop, take-all, take-at, drop-at, length-take-le, take-append-seam, drop-append-seam}
 use Rattle.wire.specs.Read.{same}
+use Rattle.wire.specs.Write.{write}
 use Rattle.rule.proofs.Cases.{and-left, and-right}
 use Rattle.table.specs.Bytes.{allZero, Zeros, greatestByte, padded}
 
@@ -129,6 +130,16 @@ module _ (n : ℕ) (d x : List ℕ) (l : length x ≡ n) where
       let h : length (drop n d) ≤ length d - n = rw length-drop (omega arith) in
       rw (rest-size, rest-behind, take-all (length d - n) (drop n d) h) (length-drop n d)
 
+-- ## A part put back
+
+-- as many bytes put back as the part has are written where it begins
+pub put-back : (from to at : ℕ) (x p v : List ℕ) → from ≡ at → from ≤ to → to ≤ length x → length p ≡ length (midOf from (to - from) x) → p ≡ v
+    → putMid from (to - from) x p ≡ write x at v
+unfolding write
+put-back from to at x p v begins h l whole is =
+    let all : from + (to - from) ≡ from + length p = omega (arith, mid-len from to x l) in
+    rw (drop-drop, all, begins, is, append-assoc)
+
 -- ## Padding
 
 module _ (n : ℕ) (bs : List ℕ) where
@@ -151,16 +162,6 @@ zeros-padded n m bs l h z =
     let front : length (take m bs) ≡ m = length-take-le m bs (omega arith) in
     let rest : length (drop m bs) ≡ n - m = rw (length-drop, l) in
     sym (take-append-drop m bs) ∙ rw (front, ← rest) (ap (λ (r : List ℕ). take m bs ++ r) z)
-
--- zeros with a list in front of them
-pub front-padded : (n : ℕ) (bs zs front : List ℕ) → length bs ≤ n → zs ≡ replicate n 0 → front ≡ bs → front ++ drop (length bs) zs ≡ padded n bs
-unfolding padded
-front-padded n bs zs front h z e =
-    let all : length bs + (n - length bs) ≡ n = omega arith in
-    let split : _≡_ {A = List ℕ} (replicate (length bs) 0 ++ replicate (n - length bs) 0) (replicate n 0) =
-    replicate-append-replicate (length bs) (n - length bs) 0 ∙ ap (λ (m : ℕ). replicate m 0) all in
-    let rest = drop-at {A = ℕ} (replicate (length bs) 0) (replicate (n - length bs) 0) (length bs) (length-replicate {A = ℕ} (length bs) 0) in
-    rw (e, z, ← split) (ap (λ (r : List ℕ). bs ++ r) rest)
 
 -- ## Comparison
 
@@ -208,11 +209,8 @@ module _ (k : ℕ) (a b : List ℕ) (l : length a ≡ length b) where
   pub sizes-before : k ≤ length a → length (take k a) ≡ length (take k b)
   sizes-before h = length-take-le k a h ∙ sym (length-take-le k b (omega (arith, l)))
 
-  pub sizes-behind : length (behind k a) ≡ length (behind k b)
-  sizes-behind = rw (behind-all k a, behind-all k b, length-drop k a, length-drop k b, l)
+  pub ends-differ : same (behind k a) (behind k b) ≡ false → false ≡ same a b
+  ends-differ e = sym (same-split k a b l ∙ rw (← behind-all k a, ← behind-all k b, e, and-false))
 
-  pub front-differs : same (take k a) (take k b) ≡ false → false ≡ same a b
-  front-differs e = sym (same-split k a b l ∙ rw e)
-
-  pub front-alike : same (take k a) (take k b) ≡ true → same (behind k a) (behind k b) ≡ same a b
-  front-alike e = rw (behind-all k a, behind-all k b) (sym (same-split k a b l ∙ rw e))
+  pub ends-alike : same (behind k a) (behind k b) ≡ true → same (take k a) (take k b) ≡ same a b
+  ends-alike e = sym (same-split k a b l ∙ rw (← behind-all k a, ← behind-all k b, e, and-true))

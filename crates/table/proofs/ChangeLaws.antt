@@ -1,6 +1,6 @@
 -- Laws of changes: what is written as a sound gateway is means it, so a change is right where it writes what the rule's change means.
-use Prim.Native.Nat.{ℕ, zero, suc, _+_, _-_, _≤_, _<_}
-use mathlib.Core.Path.{_≡_, refl, sym, ap, _∙_}
+use Prim.Native.Nat.{ℕ, zero, suc, _+_, _*_, _≤_, _<_}
+use mathlib.Core.Path.{_≡_, refl, sym, ap, subst, _∙_}
 use mathlib.Core.Logic.{_≢_}
 use mathlib.Core.Bool.{true, false}
 use mathlib.Core.Option.{none, some}
@@ -8,35 +8,43 @@ use mathlib.Core.List.{List, [], _∷_, map}
 use native.Mathlib.Omega.{arith}
 use native.Mathlib.Nat.{not-suc-le-zero, le-of-suc-le-suc}
 use native.Mathlib.Numerals.{add-one}
-use borrow.Rule.Slice.PartMut.{midOf, putMid}
 use lib.Dec.{eqb}
-use lib.ListN.{length, getD, set, replicate, length-map, length-set}
-use Rattle.wire.specs.Limits.{storeSize, passphraseLimit, lastNumber}
+use lib.ListN.{length, getD, set, replicate, length-set, length-replicate}
+use lib.Seq.{getD-set-same, set-getD}
+use Rattle.wire.specs.Limits.{placeSize, commentLimit, passphraseLimit, lastNumber}
+use Rattle.wire.specs.Write.{write}
 use Rattle.rule.specs.declared.Millis.{Millis}
-use Rattle.rule.specs.Gateway.{Entry as Key, Place, Gateway, dueAt, lasting, atClock, later, advance, vacate, withLock, without, withoutAll, NewKey, newEntry, withEntry}
-use Rattle.rule.specs.Soundness.{EveryEntry, Fits, SoundEntry, Apart}
+use Rattle.rule.specs.Gateway.{Entry as Key, Place, Gateway, dueAt, lasting, atClock, later, advance, withPlaces, withLock, without, NewKey, newEntry, withEntry}
+use Rattle.rule.specs.Soundness.{Fits, SoundEntry, Apart}
 use Rattle.rule.specs.Soundness as rule
 use Rattle.rule.proofs.Cases.{cond-cases}
-use Rattle.rule.proofs.PlaceLaws.{Holds, every-at, every-imp, set-every, set-distinct, set-none-fewer, freed-fewer, vacate-frees, distinct-at, found-at, absent-differs, Placed, replacing, anew, placed, place-inside}
-use Rattle.rule.proofs.SoundLaws.{sound-fewer, sound-lock, sound-advance}
-use Rattle.table.specs.declared.Entry.{Entry}
+use Rattle.rule.proofs.PlaceLaws.{Holds, every-at, every-imp, set-every, set-distinct, set-none-fewer, distinct-at, found-at, absent-differs, Placed, replacing, anew, placed, place-inside}
+use Rattle.rule.proofs.SoundLaws.{sound-fewer, sound-advance, sound-lock}
+use Rattle.table.specs.declared.Columns.{Columns}
+use Rattle.table.specs.declared.Figures.{Figures}
+use Rattle.table.specs.declared.Kept.{Kept}
 use Rattle.table.specs.declared.LockRecord.{LockRecord}
 use Rattle.table.specs.declared.State.{State}
-use Rattle.table.specs.Meaning.{size, lifetimeOf, placeOf, view, gatewayOf, heldBytes, entryFor, bytesFor, laid, lockOf, stateOf, layout, Written}
+use Rattle.table.specs.Bytes.{padded}
+use Rattle.table.specs.Entries.{Entry, Eight, figuresAt, entryAt, columnsOf, commentsOf, figuresSet}
+use Rattle.table.specs.Meaning.{limitedLifetime, lifetimeOf, placeOf, entriesOf, view, gatewayOf, partAt, heldBytes, keptComment, entryFor, figuresFor, bytesFor, laid, lockOf, stateOf, layout, held, withTable}
 use Rattle.table.specs.Soundness.{Sound, Means}
-use Rattle.table.specs.Changes.{Standing, NoOther, MayPut}
+use Rattle.table.specs.Changes.{Roomy, changedAt, NoOther, MayPut}
 use Rattle.table.specs.Promises.{PlaceForPut}
+use Rattle.table.proofs.ByteLaws.{padded-size}
+use Rattle.table.proofs.EntryLaws.{Rewritten, rewritten}
 use Rattle.table.proofs.FoundLaws.{at-place}
-use Rattle.table.proofs.LayoutLaws.{roomOf, Spans, part-laid, put-laid, entries-set, entries-free}
-use Rattle.table.proofs.SizeLaws.{free-size, key-size, laid-free, laid-store, wiped}
-use Rattle.table.proofs.WritingLaws.{Writing, sound-writing, sound-meaning, key-fits, keys-fit, writing-fits, view-fits, view-eight, key-back, free-back, lock-written, means-of}
+use Rattle.table.proofs.LayoutLaws.{roomOf, entries-set}
+use Rattle.table.proofs.ReadLaws.{state-place}
+use Rattle.table.proofs.SizeLaws.{place-write, room-at}
+use Rattle.table.proofs.WritingLaws.{sound-writing, sound-meaning, sound-table, sound-canonical, keys-fit, view-fits, view-eight, lock-written, means-of}
 
 -- a state written field by field as a sound gateway is means it
-written-means : (g : Gateway) (es : List Entry) (l : LockRecord) (x : List ℕ) → rule.Sound g → es ≡ map entryFor (g .places) → l ≡ lockOf (g .lock) → x ≡ laid (g .places)
-    → Means (record { entries = es; lock = l; clock = g .clock; next = g .next }) x g
+written-means : (g : Gateway) (t : Columns) (cs : List ℕ) (l : LockRecord) (x : List ℕ) → rule.Sound g → Rewritten t cs (map entryFor (g .places)) → l ≡ lockOf (g .lock) → x ≡ laid (g .places)
+    → Means (record { columns = t; comments = cs; lock = l; clock = g .clock; next = g .next }) x g
 unfolding stateOf layout
-written-means g es l x G entries lock store =
-    means-of _ x g G (λ j. record { entries = entries j; lock = lock j; clock = g .clock; next = g .next }) store
+written-means g t cs l x G table lock store =
+    means-of _ x g G (λ j. record { columns = table .columns-are j; comments = table .comments-are j; lock = lock j; clock = g .clock; next = g .next }) store
 
 -- ## A key is put
 
@@ -93,124 +101,112 @@ place-for-put s x i k S for lengths left =
 
 -- ## One place
 
-module _ (s : State) (x : List ℕ) (S : Sound s x) (i from to : ℕ) (h : i < 8) (spans : Spans (view (s .entries) x) i from to) where
+module _ (s : State) (x : List ℕ) (S : Sound s x) (i : ℕ) (h : i < 8) where
   abbrev g : Gateway
   g = gatewayOf s x
 
-  inside : i < length (view (s .entries) x)
-  inside = let eight = view-eight s x S in omega arith
-
   -- one place is written anew
-  changed : (q : Place) (e : Entry) (p : List ℕ) (n : ℕ) → Written e p q → rule.Sound (record { places = set (g .places) i q; lock = g .lock; clock = g .clock; next = n })
-      → Means (record { entries = set (s .entries) i e; lock = s .lock; clock = s .clock; next = n }) (putMid from (to - from) x p)
+  changed : (q : Place) (t : Columns) (cs y : List ℕ) (n : ℕ) → rule.Sound (record { places = set (g .places) i q; lock = g .lock; clock = g .clock; next = n })
+      → Rewritten t cs (set (entriesOf s) i (entryFor q)) → y ≡ write x (i * placeSize) (bytesFor q)
+      → Means (record { columns = t; comments = cs; lock = s .lock; clock = s .clock; next = n }) y
       (record { places = set (g .places) i q; lock = g .lock; clock = g .clock; next = n })
   unfolding gatewayOf
-  changed q e p n w G =
+  changed q t cs y n G table store =
       let old = sound-writing s x S in
-      let ps = view (s .entries) x in
-      let entries : set (s .entries) i e ≡ map entryFor (set ps i q) = (λ j. set (old .entries j) i (w .entry j)) ∙ entries-set ps i q in
-      let store : putMid from (to - from) x p ≡ laid (set ps i q) = put-laid ps i from to inside spans x (old .store) q p (w .bytes) in
-      written-means (record { places = set ps i q; lock = gatewayOf s x .lock; clock = s .clock; next = n }) _ _ _ G entries (lock-written (s .lock) (S .lock)) store
+      let ps = view (entriesOf s) x in
+      let after : Gateway = record { places = set ps i q; lock = gatewayOf s x .lock; clock = s .clock; next = n } in
+      let eight = view-eight s x S in
+      let entries : set (entriesOf s) i (entryFor q) ≡ map entryFor (set ps i q) = ap (λ l. set l i (entryFor q)) (old .entries) ∙ entries-set ps i q in
+      let room : roomOf q ≡ placeSize = ap roomOf (sym (getD-set-same ps i q none (omega arith))) ∙ room-at (set ps i q) (keys-fit after G) (G .eight-places) i h in
+      let stored : y ≡ laid (set ps i q) = store ∙ ap (λ (z : List ℕ). write z (i * placeSize) (bytesFor q)) (old .store) ∙ place-write ps (view-fits s x S) eight i h q room in
+      written-means after _ _ _ _ G
+      (record { columns-are = table .columns-are ∙ ap columnsOf entries; comments-are = table .comments-are ∙ ap commentsOf entries }) (lock-written (s .lock) (S .lock)) stored
+
+  -- what the code wrote of place i: its figures, its comment, its bytes
+  module _ (q : Place) (t : Columns) (cs y : List ℕ) (long : length (entryFor q .comment .bytes) ≡ commentLimit)
+      (figures : t ≡ figuresSet i (figuresFor q) (s .columns)) (comment : cs ≡ write (s .comments) (i * commentLimit) (entryFor q .comment .bytes)) where
+    anew-written : Rewritten t cs (set (entriesOf s) i (entryFor q))
+    unfolding figuresFor
+    anew-written =
+        let r = rewritten (s .columns) (s .comments) (S .eight) (S .comments-size) i (figuresFor q) (entryFor q .comment .bytes) h long in
+        record { columns-are = figures ∙ r .columns-are; comments-are = comment ∙ r .comments-are }
 
   -- 18: "removed and zeroed"
-  pub removed : (e : Entry) (p : List ℕ) → e ≡ entryFor none → p ≡ replicate (length (midOf from (to - from) x)) 0
-      → Means (record { entries = set (s .entries) i e; lock = s .lock; clock = s .clock; next = s .next }) (putMid from (to - from) x p) (without i g)
-  unfolding gatewayOf
-  removed e p entry bytes =
+  pub removed : (t : Columns) (cs y : List ℕ) → t ≡ figuresSet i (figuresFor none) (s .columns) → cs ≡ write (s .comments) (i * commentLimit) (padded commentLimit [])
+      → y ≡ write x (i * placeSize) (replicate placeSize 0) → Means (withTable t cs s) y (without i g)
+  unfolding gatewayOf bytesFor entryFor padded
+  removed t cs y figures comment store =
       let G = sound-meaning s x S in
-      let part = part-laid (view (s .entries) x) i from to inside spans x (sound-writing s x S .store) in
-      let free = wiped (view (s .entries) x) (view-fits s x S) (view-eight s x S) i h (midOf from (to - from) x) part in
-      changed none e p (s .next) (record { entry = entry; bytes = bytes ∙ free })
+      changed none t cs y (s .next)
       (sound-fewer g (without i g) (length-set (g .places) i none) (set-none-fewer (g .places) i) refl (omega arith) refl G)
+      (anew-written none t cs y (length-replicate {A = ℕ} commentLimit 0) figures comment) store
 
   -- "stored, next number taken"
-  pub stored : (new : NewKey) (e : Entry) (p : List ℕ) → MayPut s x i new → e ≡ entryFor (some (newEntry (s .next) (s .clock) new)) → p ≡ heldBytes (new .blob) (new .fields)
-      → Means (record { entries = set (s .entries) i e; lock = s .lock; clock = s .clock; next = s .next + 1 }) (putMid from (to - from) x p)
-      (withEntry i (newEntry (g .next) (g .clock) new) g)
-  unfolding gatewayOf bytesFor
-  stored new e p may entry bytes =
+  pub stored : (new : NewKey) (t : Columns) (cs y : List ℕ) → MayPut s x i new → t ≡ figuresSet i (figuresFor (some (newEntry (s .next) (s .clock) new))) (s .columns)
+      → cs ≡ write (s .comments) (i * commentLimit) (padded commentLimit (new .comment)) → y ≡ write x (i * placeSize) (heldBytes (new .blob) (new .fields))
+      → Means (record { columns = t; comments = cs; lock = s .lock; clock = s .clock; next = s .next + 1 }) y (withEntry i (newEntry (g .next) (g .clock) new) g)
+  unfolding gatewayOf bytesFor entryFor keptComment
+  stored new t cs y may figures comment store =
       let k = newEntry (s .next) (s .clock) new in
       let sound = sound-put g i k (sound-meaning s x S) (record { number = refl; reading = refl; lengths = may .lengths }) (may .numbers-left) (may .alone) in
-      changed (some k) e p (s .next + 1) (record { entry = entry; bytes = bytes }) sound
+      changed (some k) t cs y (s .next + 1) sound
+      (anew-written (some k) t cs y (padded-size commentLimit (new .comment) (may .lengths .comment-fits)) figures comment) store
 
--- ## All places, and the lock
-
--- 19: "all removed and zeroed"
-pub cleared : (s : State) (x y : List ℕ) (es : List Entry) → Sound s x → es ≡ replicate 8 (entryFor none) → y ≡ replicate (length x) 0
-    → Means (record { entries = es; lock = s .lock; clock = s .clock; next = s .next }) y (withoutAll (gatewayOf s x))
-unfolding gatewayOf
-cleared s x y es S entries store =
-    let g = gatewayOf s x in
-    let G = sound-meaning s x S in
-    let ps = view (s .entries) x in
-    let after = sound-fewer g (withoutAll g) (length-map (g .places) vacate) (freed-fewer vacate vacate-frees (g .places)) refl (omega arith) refl G in
-    let size : length x ≡ length (laid (map vacate ps)) = S .store-size ∙ sym (laid-store (map vacate ps) (keys-fit (withoutAll g) after) (after .eight-places)) in
-    written-means (withoutAll g) es (s .lock) y after
-    (entries ∙ ap (λ (n : ℕ). replicate n (entryFor none)) (sym (view-eight s x S)) ∙ sym (entries-free ps))
-    (lock-written (s .lock) (S .lock))
-    (store ∙ ap (λ (n : ℕ). replicate n 0) size ∙ sym (laid-free ps))
+-- ## The lock
 
 pub relocked : (s : State) (x p : List ℕ) (l : LockRecord) → Sound s x → length p ≤ passphraseLimit → l ≡ lockOf p
-    → Means (record { entries = s .entries; lock = l; clock = s .clock; next = s .next }) x (withLock p (gatewayOf s x))
+    → Means (record { columns = s .columns; comments = s .comments; lock = l; clock = s .clock; next = s .next }) x (withLock p (gatewayOf s x))
 unfolding gatewayOf
 relocked s x p l S h lock =
     let g = gatewayOf s x in
     let old = sound-writing s x S in
-    written-means (withLock p g) (s .entries) l x (sound-lock p g h (sound-meaning s x S)) (old .entries) lock (old .store)
+    written-means (withLock p g) (s .columns) (s .comments) l x (sound-lock p g h (sound-meaning s x S)) (sound-table s x S) lock (old .store)
 
--- ## Expiry, place after place
+-- ## Place after place
 
--- the first i places at the clock, the others as they were
-unfoldable pub swept : Millis → ℕ → List Place → List Place
-swept clock zero ps = ps
-swept clock (suc i) [] = []
-swept clock (suc i) (p ∷ ps) = lasting clock p ∷ swept clock i ps
+-- f of the first i places, the others as they were
+unfoldable pub swept : (Place → Place) → ℕ → List Place → List Place
+swept f zero ps = ps
+swept f (suc i) [] = []
+swept f (suc i) (p ∷ ps) = f p ∷ swept f i ps
 
-module _ (clock : Millis) where
-  pub swept-length : (i : ℕ) (ps : List Place) → length (swept clock i ps) ≡ length ps
-  unfolding swept
-  swept-length zero ps = refl
-  swept-length (suc i) [] = refl
-  swept-length (suc i) (p ∷ ps) = ap suc (swept-length i ps)
+abbrev pub sweptTo : (Place → Place) → ℕ → Gateway → Gateway
+sweptTo f i g = withPlaces (swept f i (g .places)) g
 
-  swept-at : (i : ℕ) (ps : List Place) → getD (swept clock i ps) i none ≡ getD ps i none
+module _ (f : Place → Place) where
+  swept-at : (i : ℕ) (ps : List Place) → getD (swept f i ps) i none ≡ getD ps i none
   unfolding swept
   swept-at zero ps = refl
   swept-at (suc i) [] = refl
   swept-at (suc i) (p ∷ ps) = swept-at i ps
 
-  swept-step : (i : ℕ) (ps : List Place) → i < length ps → set (swept clock i ps) i (lasting clock (getD ps i none)) ≡ swept clock (i + 1) ps
+  swept-step : (i : ℕ) (ps : List Place) → i < length ps → set (swept f i ps) i (f (getD ps i none)) ≡ swept f (i + 1) ps
   unfolding swept
   swept-step i ps h = rw add-one (step i ps h)
     where
-      step : (i : ℕ) (ps : List Place) → i < length ps → set (swept clock i ps) i (lasting clock (getD ps i none)) ≡ swept clock (suc i) ps
+      step : (i : ℕ) (ps : List Place) → i < length ps → set (swept f i ps) i (f (getD ps i none)) ≡ swept f (suc i) ps
       step i [] h = absurd (not-suc-le-zero h)
       step zero (p ∷ ps) h = refl
-      step (suc i) (p ∷ ps) h = ap (λ (qs : List Place). lasting clock p ∷ qs) (step i ps (le-of-suc-le-suc h))
+      step (suc i) (p ∷ ps) h = ap (λ (qs : List Place). f p ∷ qs) (step i ps (le-of-suc-le-suc h))
 
-  swept-end : (i : ℕ) (ps : List Place) → length ps ≤ i → swept clock i ps ≡ map (lasting clock) ps
+  swept-end : (i : ℕ) (ps : List Place) → length ps ≤ i → swept f i ps ≡ map f ps
   unfolding swept
   swept-end zero [] h = refl
   swept-end zero (p ∷ ps) h = absurd (not-suc-le-zero h)
   swept-end (suc i) [] h = refl
-  swept-end (suc i) (p ∷ ps) h = ap (λ (qs : List Place). lasting clock p ∷ qs) (swept-end i ps (le-of-suc-le-suc h))
+  swept-end (suc i) (p ∷ ps) h = ap (λ (qs : List Place). f p ∷ qs) (swept-end i ps (le-of-suc-le-suc h))
 
-  -- what stands after a place went or stayed
-  lasting-every : (P : Key → Type 0) (p : Place) (ps qs : List Place) → EveryEntry P (p ∷ ps) → EveryEntry P qs → EveryEntry P (lasting clock p ∷ qs)
-  unfolding lasting
-  lasting-every P none ps qs all rest = rest
-  lasting-every P (some k) ps qs all rest =
-      cond-cases (λ p. EveryEntry P (p ∷ qs)) (dueAt clock (k .reading) (k .lifetime)) (λ _. rest) (λ _. (all .0, rest))
-
-  every-rest : (P : Key → Type 0) (p : Place) (ps : List Place) → EveryEntry P (p ∷ ps) → EveryEntry P ps
-  every-rest P none ps all = all
-  every-rest P (some k) ps all = all .1
-
-  swept-every : (P : Key → Type 0) (i : ℕ) (ps : List Place) → EveryEntry P ps → EveryEntry P (swept clock i ps)
+  pub sweep-none : (g : Gateway) → g ≡ sweptTo f 0 g
   unfolding swept
-  swept-every P zero ps all = all
-  swept-every P (suc i) [] all = all
-  swept-every P (suc i) (p ∷ ps) all = lasting-every P p ps (swept clock i ps) all (swept-every P i ps (every-rest P p ps all))
+  sweep-none g = refl
+
+  pub sweep-on : (g : Gateway) (i : ℕ) → i < length (g .places) → changedAt f i (sweptTo f i g) ≡ sweptTo f (i + 1) g
+  sweep-on g i h = ap (λ ps. withPlaces ps g) (ap (λ p. set (swept f i (g .places)) i (f p)) (swept-at i (g .places)) ∙ swept-step i (g .places) h)
+
+  pub sweep-all : (g : Gateway) (i : ℕ) → length (g .places) ≤ i → sweptTo f i g ≡ withPlaces (map f (g .places)) g
+  sweep-all g i h = ap (λ ps. withPlaces ps g) (swept-end i (g .places) h)
+
+-- ## Expiry
 
 -- a due key is gone at the clock, another place is as it was
 module _ (clock : Millis) (e : Entry) (p : List ℕ) where
@@ -222,101 +218,119 @@ module _ (clock : Millis) (e : Entry) (p : List ℕ) where
   unfolding placeOf lasting
   undue-stays due = cond-cases (λ q. lasting clock q ≡ q) (eqb (e .number) 0) (λ _. refl) (λ _. rw due)
 
-pub data KeyIn (clock : Millis) (next : ℕ) (q : Place) : Type 0 where
-  no-key : q ≡ none → KeyIn clock next q
-  a-key : (k : Key) → q ≡ some k → SoundEntry clock next k → KeyIn clock next q
+-- the kept clock is raised, and what means a gateway means it with that clock
+pub raised : (s : State) (x : List ℕ) (g : Gateway) (clock : Millis) → Means s x g → rule.Sound (record { places = g .places; lock = g .lock; clock = clock; next = g .next })
+    → Means (record { columns = s .columns; comments = s .comments; lock = s .lock; clock = clock; next = s .next }) x (record { places = g .places; lock = g .lock; clock = clock; next = g .next })
+unfolding stateOf layout
+raised s x g clock m G =
+    let c = sound-canonical s x (m .sound) in
+    let state : s ≡ stateOf g = c .state ∙ ap stateOf (m .gateway) in
+    let store : x ≡ layout g = c .store ∙ ap layout (m .gateway) in
+    means-of _ x _ G (λ j. record { columns = state j .columns; comments = state j .comments; lock = state j .lock; clock = clock; next = state j .next }) store
 
-key-in : (clock : Millis) (next : ℕ) (ps : List Place) → EveryEntry (SoundEntry clock next) ps → (i : ℕ) → KeyIn clock next (getD ps i none)
-key-in clock next ps all i = by-place (getD ps i none) refl
-  where
-    by-place : (q : Place) → getD ps i none ≡ q → KeyIn clock next q
-    by-place none h = no-key refl
-    by-place (some k) h = a-key k refl (every-at (SoundEntry clock next) ps all i k h)
+-- ## Lent columns
 
-getD-map : {A B : Type 0} (f : A → B) (l : List A) (i : ℕ) (d : A) (b : B) → i < length l → getD (map f l) i b ≡ f (getD l i d)
-getD-map f [] i d b h = absurd (not-suc-le-zero h)
-getD-map f (a ∷ l) zero d b h = refl
-getD-map f (a ∷ l) (suc i) d b h = getD-map f l i d b (le-of-suc-le-suc h)
+-- columns with the figures of one place written anew are of eight places
+figures-eight : (t : Columns) (i : ℕ) (f : Figures) → Eight t → Eight (figuresSet i f t)
+figures-eight t i f e = record {
+  numbers = length-set (t .numbers) i (f .number) ∙ e .numbers;
+  readings = length-set (t .readings) i (f .reading .count) ∙ e .readings;
+  blobs = length-set (t .«blob_lens») i (f .«blob_len») ∙ e .blobs;
+  fields = length-set (t .«fields_lens») i (f .«fields_len») ∙ e .fields;
+  comments = length-set (t .«comment_lens») i (f .«comment_len») ∙ e .comments;
+  seconds = length-set (t .seconds) i (f .seconds .count) ∙ e .seconds;
+  limited = length-set (t .limited) i (f .limited) ∙ e .limited;
+  confirm = length-set (t .confirm) i (f .confirm) ∙ e .confirm;
+}
 
--- an entry and bytes that are written as this place mean it, and stand as sound ones do
-pub record Stands (clock : Millis) (e : Entry) (p : List ℕ) (q : Place) : Type 0 where
-  pub place : placeOf e p ≡ q
-  pub standing : Standing clock e p
+-- and with comments and store of the same lengths they are roomy
+pub still-roomy : (t : Columns) (cs x : List ℕ) (u : Columns) (ds y : List ℕ) (i : ℕ) (f : Figures) → Roomy t cs x → u ≡ figuresSet i f t
+    → length ds ≡ length cs → length y ≡ length x → Roomy u ds y
+still-roomy t cs x u ds y i f room figures comments store = record {
+  eight = subst Eight (sym figures) (figures-eight t i f (room .eight));
+  comments-size = comments ∙ room .comments-size;
+  store-size = store ∙ room .store-size;
+}
 
-written-stands : (clock : Millis) (next : ℕ) (e : Entry) (p : List ℕ) (q : Place) → KeyIn clock next q → Written e p q → Stands clock e p q
-unfolding entryFor
-written-stands clock next e p q (no-key is) w =
-    let there : placeOf e p ≡ none = (λ j. placeOf (w .entry j) (w .bytes j)) ∙ rw is free-back in
-    record {
-      place = there ∙ sym is;
-      standing = record {
-        whole = let room : roomOf q ≡ size (entryFor q) = rw is free-size in ap length (w .bytes) ∙ room ∙ ap size (sym (w .entry));
-        reading-past = let r : e .reading .count ≡ 0 = ap (λ (x : Entry). x .reading .count) (w .entry) ∙ rw is in omega arith;
-        written = rw (there ∙ sym is) w;
-      };
-    }
-written-stands clock next e p q (a-key k is sound) w =
-    let there : placeOf e p ≡ some k = (λ j. placeOf (w .entry j) (w .bytes j)) ∙ rw is (key-back clock next k sound) in
-    record {
-      place = there ∙ sym is;
-      standing = record {
-        whole = let room : roomOf q ≡ size (entryFor q) = rw is (key-size k (key-fits clock next k sound)) in ap length (w .bytes) ∙ room ∙ ap size (sym (w .entry));
-        reading-past = let r : e .reading .count ≡ k .reading .count = ap (λ (x : Entry). x .reading .count) (w .entry) ∙ rw is in let past = sound .reading-past in omega arith;
-        written = rw (there ∙ sym is) w;
-      };
-    }
+-- columns, comments and store t, cs, x have become u, ds, y: of every sound state that has them, the gateway has changed by c
+abbrev pub Changes : (Gateway → Gateway) → (t : Columns) (cs x : List ℕ) (u : Columns) (ds y : List ℕ) → Type 0
+Changes c t cs x u ds y = (s : State) → s .columns ≡ t → s .comments ≡ cs → Sound s x → Means (withTable u ds s) y (c (gatewayOf s x))
 
--- a store of eight places
-pub writing-size : (clock : Millis) (next : ℕ) (es : List Entry) (x : List ℕ) (ps : List Place) → Writing clock next es x ps → length ps ≡ 8 → length x ≡ storeSize
-writing-size clock next es x ps w eight = ap length (w .store) ∙ laid-store ps (writing-fits clock next es x ps w) eight
+-- it is enough to look at states that are built of them
+of-built : (c : Gateway → Gateway) (t : Columns) (cs x : List ℕ) (u : Columns) (ds y : List ℕ)
+    → ((s : State) → Sound (withTable t cs s) x → Means (withTable u ds s) y (c (gatewayOf (withTable t cs s) x))) → Changes c t cs x u ds y
+of-built c t cs x u ds y built s columns comments S =
+    let same : s ≡ withTable t cs s = λ j. withTable (columns j) (comments j) s in
+    subst (λ (z : State). Means (withTable u ds s) y (c (gatewayOf z x))) (sym same) (built s (subst (λ (z : State). Sound z x) same S))
 
--- one turn of the sweep
-module _ (clock : Millis) (next : ℕ) (ps : List Place) (i from to : ℕ) (es : List Entry) (x : List ℕ) (e₀ : Entry)
-    (all : EveryEntry (SoundEntry clock next) ps) (w : Writing clock next es x (swept clock i ps)) (h : i < length ps) (spans : Spans (swept clock i ps) i from to) where
-  abbrev here : Entry
-  here = getD es i e₀
+-- the code's writing of a free place i, and of the zeros
+pub place-removed : (t : Columns) (cs x : List ℕ) (u : Columns) (ds y : List ℕ) (i : ℕ) (f : Figures) → i < 8 → f ≡ figuresFor none → u ≡ figuresSet i f t
+    → ds ≡ write cs (i * commentLimit) (padded commentLimit []) → y ≡ write x (i * placeSize) (replicate placeSize 0) → Changes (without i) t cs x u ds y
+place-removed t cs x u ds y i f h free figures comment store = of-built (without i) t cs x u ds y
+    (λ s S. removed (withTable t cs s) x S i h u ds y (figures ∙ ap (λ (z : Figures). figuresSet i z t) free) comment store)
 
-  abbrev part : List ℕ
-  part = midOf from (to - from) x
+-- the code's writing of a new key in place i
+pub place-stored : (t : Columns) (cs x : List ℕ) (u : Columns) (ds y : List ℕ) (kept : Kept) (i : ℕ) (new : NewKey) (f : Figures) (comment fields : List ℕ) → i < 8
+    → f ≡ figuresFor (some (newEntry (kept .next) (kept .clock) new)) → u ≡ figuresSet i f t
+    → comment ≡ new .comment → ds ≡ write cs (i * commentLimit) (padded commentLimit comment)
+    → fields ≡ new .fields → y ≡ write x (i * placeSize) (heldBytes (new .blob) fields)
+    → (b : List ℕ) → let s = held t cs b kept in let g = gatewayOf s x in
+    MayPut s x i new → Means (held u ds b (record { clock = kept .clock; next = kept .next + 1; locked = kept .locked })) y (withEntry i (newEntry (g .next) (g .clock) new) g)
+place-stored t cs x u ds y kept i new f comment fields h f-is figures comment-is comments fields-is store b may =
+    stored (held t cs b kept) x (may .sound) i h new u ds y may
+    (figures ∙ ap (λ (z : Figures). figuresSet i z t) f-is)
+    (comments ∙ ap (λ (z : List ℕ). write cs (i * commentLimit) (padded commentLimit z)) comment-is)
+    (store ∙ ap (λ (z : List ℕ). write x (i * placeSize) (heldBytes (new .blob) z)) fields-is)
 
-  inside-swept : i < length (swept clock i ps)
-  inside-swept = let long = swept-length clock i ps in omega arith
+-- a due key goes from place i as any key does
+pub place-expired : (clock : Millis) (t : Columns) (cs x : List ℕ) (u : Columns) (ds y : List ℕ) (i : ℕ) → i < 8
+    → dueAt clock (figuresAt t i .reading) (limitedLifetime (figuresAt t i .limited) (figuresAt t i .seconds)) ≡ true → Changes (without i) t cs x u ds y
+    → Changes (changedAt (lasting clock) i) t cs x u ds y
+place-expired clock t cs x u ds y i h due gone = of-built (changedAt (lasting clock) i) t cs x u ds y λ s S.
+    let own = withTable t cs s in
+    let g = gatewayOf own x in
+    let free : lasting clock (getD (g .places) i none) ≡ none = ap (lasting clock) (state-place own x i h) ∙ due-gone clock (entryAt t cs i) (partAt (entriesOf own) x i) due in
+    subst (λ p. Means (withTable u ds s) y (withPlaces (set (g .places) i p) g)) (sym free) (gone own refl refl S)
 
-  pub sweep-stands : Stands clock here part (getD ps i none)
-  sweep-stands =
-      let entry : here ≡ entryFor (getD (swept clock i ps) i none) = ap (λ (l : List Entry). getD l i e₀) (w .entries) ∙ getD-map entryFor (swept clock i ps) i none e₀ inside-swept in
-      let bytes : part ≡ bytesFor (getD (swept clock i ps) i none) = part-laid (swept clock i ps) i from to inside-swept spans x (w .store) in
-      rw swept-at at (written-stands clock next here part (getD (swept clock i ps) i none) (key-in clock next (swept clock i ps) (w .keys) i) (record { entry = entry; bytes = bytes }))
+-- what is not due stays
+pub place-kept : (clock : Millis) (t : Columns) (cs x : List ℕ) (i : ℕ) → i < 8
+    → dueAt clock (figuresAt t i .reading) (limitedLifetime (figuresAt t i .limited) (figuresAt t i .seconds)) ≡ false → Changes (changedAt (lasting clock) i) t cs x t cs x
+place-kept clock t cs x i h due = of-built (changedAt (lasting clock) i) t cs x t cs x λ s S.
+    let own = withTable t cs s in
+    let g = gatewayOf own x in
+    let at : getD (g .places) i none ≡ placeOf (entryAt t cs i) (partAt (entriesOf own) x i) = state-place own x i h in
+    let same : lasting clock (getD (g .places) i none) ≡ getD (g .places) i none = ap (lasting clock) at ∙ undue-stays clock (entryAt t cs i) (partAt (entriesOf own) x i) due ∙ sym at in
+    record { gateway = ap (λ ps. withPlaces ps g) (sym (ap (set (g .places) i) same ∙ set-getD (g .places) i none)); sound = S }
 
-  pub sweep-step : (e : Entry) (p : List ℕ) → Written e p (lasting clock (placeOf here part)) → Writing clock next (set es i e) (putMid from (to - from) x p) (swept clock (i + 1) ps)
-  sweep-step e p new =
-      let q = lasting clock (getD ps i none) in
-      let new-is : Written e p q = rw (sweep-stands .place) at new in
-      let step = swept-step clock i ps h in
-      record {
-        entries = (λ j. set (w .entries j) i (new-is .entry j)) ∙ entries-set (swept clock i ps) i q ∙ ap (map entryFor) step;
-        store = put-laid (swept clock i ps) i from to inside-swept spans x (w .store) q p (new-is .bytes) ∙ ap laid step;
-        keys = swept-every clock (SoundEntry clock next) (i + 1) ps all;
-      }
+-- a sweep over them: it begins, goes on, and ends
+module _ (f : Place → Place) (t : Columns) (cs x : List ℕ) where
+  pub sweep-begun : Changes (sweptTo f 0) t cs x t cs x
+  sweep-begun = of-built (sweptTo f 0) t cs x t cs x λ s S. record { gateway = sweep-none f (gatewayOf (withTable t cs s) x); sound = S }
 
--- the sweep's beginning and its end
-module _ (s : State) (x : List ℕ) (S : Sound s x) (reading clock : Millis) (is : clock ≡ later (s .clock) reading) where
-  pub sweep-keys : EveryEntry (SoundEntry clock (s .next)) (view (s .entries) x)
-  sweep-keys =
-      let raised : clock .count ≡ later (s .clock) reading .count = ap (λ (t : Millis). t .count) is in
-      every-imp (SoundEntry (s .clock) (s .next)) (SoundEntry clock (s .next)) (λ k h. omega arith) (view (s .entries) x) (sound-writing s x S .keys)
+  pub sweep-goes-on : (u : Columns) (ds y : List ℕ) (v : Columns) (es z : List ℕ) (i : ℕ) → i < 8 → Changes (sweptTo f i) t cs x u ds y → Changes (changedAt f i) u ds y v es z
+      → Changes (sweptTo f (i + 1)) t cs x v es z
+  sweep-goes-on u ds y v es z i h swept-so-far here s columns comments S =
+      let g = gatewayOf s x in
+      let so-far = swept-so-far s columns comments S in
+      let after = here (withTable u ds s) refl refl (so-far .sound) in
+      let eight = sound-meaning s x S .eight-places in
+      record { gateway = after .gateway ∙ ap (changedAt f i) (so-far .gateway) ∙ sweep-on f g i (omega arith); sound = after .sound }
 
-  pub sweep-start : Writing clock (s .next) (s .entries) x (swept clock 0 (view (s .entries) x))
-  unfolding swept
-  sweep-start = let w = sound-writing s x S in record { entries = w .entries; store = w .store; keys = sweep-keys }
+  pub sweep-ended : (u : Columns) (ds y : List ℕ) (i : ℕ) → 8 ≤ i → Changes (sweptTo f i) t cs x u ds y → Changes (λ g. withPlaces (map f (g .places)) g) t cs x u ds y
+  sweep-ended u ds y i h all s columns comments S =
+      let m = all s columns comments S in
+      let eight = sound-meaning s x S .eight-places in
+      record { gateway = m .gateway ∙ sweep-all f (gatewayOf s x) i (omega arith); sound = m .sound }
 
-  pub sweep-end : (i : ℕ) (es : List Entry) (y : List ℕ) → 8 ≤ i → Writing clock (s .next) es y (swept clock i (view (s .entries) x))
-      → Means (record { entries = es; lock = s .lock; clock = clock; next = s .next }) y (advance reading (gatewayOf s x))
-  unfolding gatewayOf advance atClock
-  sweep-end i es y h w =
-      let G = sound-advance reading (gatewayOf s x) (sound-meaning s x S) in
-      let ps = view (s .entries) x in
-      let eight : length ps ≡ 8 = sound-meaning s x S .eight-places in
-      let end : swept clock i ps ≡ map (lasting clock) ps = swept-end clock i ps (omega arith) in
-      rw (← is) (written-means (record { places = map (lasting clock) ps; lock = gatewayOf s x .lock; clock = clock; next = s .next }) es (s .lock) y (rw is G)
-      (w .entries ∙ ap (map entryFor) end) (lock-written (s .lock) (S .lock)) (w .store ∙ ap laid end))
+-- "raises the kept clock": what a sweep leaves at the later clock, with that clock, is the gateway at the reading
+pub advanced : (t : Columns) (cs x : List ℕ) (u : Columns) (ds y : List ℕ) (kept : Kept) (reading clock : Millis) → clock ≡ later (kept .clock) reading
+    → Changes (λ g. withPlaces (map (lasting clock) (g .places)) g) t cs x u ds y
+    → (b : List ℕ) → Sound (held t cs b kept) x
+    → Means (held u ds b (record { clock = clock; next = kept .next; locked = kept .locked })) y (advance reading (gatewayOf (held t cs b kept) x))
+unfolding advance atClock gatewayOf
+advanced t cs x u ds y kept reading clock is swept b S =
+    let s = held t cs b kept in
+    let g = gatewayOf s x in
+    let sound : rule.Sound (atClock clock g) = subst (λ (c : Millis). rule.Sound (atClock c g)) (sym is) (sound-advance reading g (sound-meaning s x S)) in
+    subst (λ (c : Millis). Means (held u ds b (record { clock = clock; next = kept .next; locked = kept .locked })) y (atClock c g)) is
+    (raised (withTable u ds s) y (withPlaces (map (lasting clock) (g .places)) g) clock (swept s refl refl S) sound)

@@ -1,6 +1,6 @@
 -- The laws that the proofs of functions cite, and the proofs of what is promised.
-pub mod ArrayLaws
 pub mod ByteLaws
+pub mod EntryLaws
 pub mod EachLaws
 pub mod LayoutLaws
 pub mod SizeLaws

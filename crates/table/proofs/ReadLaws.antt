@@ -1,30 +1,33 @@
 -- What is read of one place: its entry and its part of the store are the place that the meaning has there.
-use Prim.Native.Nat.{ℕ, zero, suc, _+_, _-_, _≤_, _<_}
-use mathlib.Core.Path.{_≡_, refl, sym, ap, _∙_}
-use mathlib.Core.Bool.{true, not}
+use Prim.Native.Nat.{ℕ, zero, suc, _+_, _-_, _*_, _≤_, _<_}
+use mathlib.Core.Path.{_≡_, refl, sym, ap, subst, _∙_}
+use mathlib.Core.Bool.{Bool, true, false, not}
 use mathlib.Core.Option.{none, some}
 use mathlib.Core.List.{List, [], _∷_}
 use native.Mathlib.Omega.{arith}
 use borrow.Author.Tests.{lt-ltb, eq-eqb, ne-eqb, eqb-true}
 use lib.Dec.{eqb, ltb}
-use lib.ListN.{length, take, drop, getD}
-use lib.Seq.{take-take, drop-drop}
-use Rattle.wire.specs.Limits.{storeSize, blobLimit, fieldsLimit, fieldsAt}
+use lib.ListN.{length, take, drop, getD, replicate, length-drop}
+use lib.Seq.{length-take-le, take-take, drop-drop}
+use Rattle.wire.specs.Limits.{placeSize, storeSize, blobLimit, fieldsLimit, fieldsAt, commentLimit}
 use Rattle.wire.specs.Read.{cutOf}
 use Rattle.wire.proofs.Reading.{cut-there}
 use Rattle.rule.specs.declared.Millis.{Millis}
-use Rattle.rule.specs.Gateway.{isFree}
+use Rattle.rule.specs.Gateway.{isFree, holds}
 use Rattle.rule.proofs.Cases.{cond-cases}
-use Rattle.table.specs.declared.Entry.{Entry}
+use Rattle.table.specs.declared.Columns.{Columns}
 use Rattle.table.specs.declared.State.{State}
 use Rattle.table.specs.Each.{Each}
 use Rattle.table.specs.Bytes.{padded}
-use Rattle.table.specs.Meaning.{size, isSet, keyOf, placeOf, numberIn, confirmIn, blobIn, commentIn, view, gatewayOf, noEntry, startOf, fieldsStart, partAt, keptComment, entryFor}
+use Rattle.table.specs.Entries.{Entry, Eight, entriesIn, entryAt, commentPart, commentsSize}
+use Rattle.table.specs.Meaning.{size, isSet, commentOf, keyOf, placeOf, numberIn, confirmIn, blobIn, commentIn, entriesOf, view, gatewayOf, noEntry, startOf, fieldsStart, partAt, keptComment, entryFor}
 use Rattle.table.specs.Soundness.{soundPlace, soundPlaces, SoundPlace, free, held, Housed, Sound}
+use Rattle.table.specs.Changes.{Roomy}
 use Rattle.table.proofs.EachLaws.{each-length, each-at, every-at, each-says}
-use Rattle.table.proofs.SizeLaws.{blob-room, fields-room, InStore, in-store}
+use Rattle.table.proofs.EntryLaws.{entries-length, entries-at}
+use Rattle.table.proofs.SizeLaws.{size-is, blob-room, fields-room, InStore, in-store}
 use Rattle.table.proofs.TestLaws.{place-says}
-use Rattle.table.proofs.WritingLaws.{Seen, seen-free, seen-held, seen}
+use Rattle.table.proofs.WritingLaws.{Seen, seen-free, seen-held, seen, comment-back}
 
 module _ (es : List Entry) (x : List ℕ) (eight : length es ≡ 8) where
   pub view-length : length (view es x) ≡ 8
@@ -87,30 +90,72 @@ sound-blob-fits : (clock : Millis) (next : ℕ) (e : Entry) (p : List ℕ) → S
 sound-blob-fits clock next e p (free f _) = let h : e .«blob_len» ≡ 0 = ap (λ (x : Entry). x .«blob_len») f in omega arith
 sound-blob-fits clock next e p (held s) = s .blob-fits
 
+sound-comment-fits : (clock : Millis) (next : ℕ) (e : Entry) (p : List ℕ) → SoundPlace clock next e p → e .comment .len ≤ commentLimit
+sound-comment-fits clock next e p (free f _) = let h : e .comment .len ≡ 0 = ap (λ (x : Entry). x .comment .len) f in omega arith
+sound-comment-fits clock next e p (held s) = s .comment .comment-fits
+
 -- ## Of all places
 
-pub housed-by : (clock : Millis) (next : ℕ) (es : List Entry) (x : List ℕ) → length es ≡ 8 → length x ≡ storeSize → soundPlaces clock next es x ≡ true → Housed es x
+pub housed-by : (clock : Millis) (next : ℕ) (t : Columns) (cs x : List ℕ) → Eight t → length x ≡ storeSize → soundPlaces clock next (entriesIn t cs) x ≡ true → Housed (t .numbers) (t .«blob_lens») x
 unfolding soundPlaces
-housed-by clock next es x eight size-x t =
-    let every = each-says size (SoundPlace clock next) (soundPlace clock next) (place-says clock next) es x .0 t in
-    record { eight-entries = eight; store-size = size-x; blobs-fit = λ i h. sound-blob-fits _ _ _ _ (sound-at es x eight clock next i h every) }
+housed-by clock next t cs x eight size-x t-sound =
+    let es = entriesIn t cs in
+    let long = entries-length t cs in
+    let every = each-says size (SoundPlace clock next) (soundPlace clock next) (place-says clock next) es x .0 t-sound in
+    record {
+      eight-numbers = eight .numbers;
+      eight-blobs = eight .blobs;
+      store-size = size-x;
+      blobs-fit = λ i h. rw (entries-at t cs i noEntry h) at (sound-blob-fits _ _ _ _ (sound-at es x long clock next i h every));
+    }
 
 -- ## Of a sound state and store
 
+module _ (s : State) (x : List ℕ) where
+  pub long : length (entriesOf s) ≡ 8
+  long = entries-length (s .columns) (s .comments)
+
+  -- the place that the meaning has there
+  pub state-place : (i : ℕ) → i < 8 → getD (gatewayOf s x .places) i none ≡ placeOf (entryAt (s .columns) (s .comments) i) (partAt (entriesOf s) x i)
+  unfolding gatewayOf
+  state-place i h = view-at (entriesOf s) x long i h ∙ ap (λ e. placeOf e (partAt (entriesOf s) x i)) (entries-at (s .columns) (s .comments) i noEntry h)
+
 module _ (s : State) (x : List ℕ) (S : Sound s x) (i : ℕ) (h : i < 8) where
-  pub state-sound-at : SoundPlace (s .clock) (s .next) (getD (s .entries) i noEntry) (partAt (s .entries) x i)
-  state-sound-at = sound-at (s .entries) x (S .eight-entries) (s .clock) (s .next) i h (S .places)
+  abbrev here-in : Entry
+  here-in = entryAt (s .columns) (s .comments) i
 
-  pub state-blob : take (getD (s .entries) i noEntry .«blob_len») (partAt (s .entries) x i) ≡ blobIn (getD (gatewayOf s x .places) i none)
-  unfolding gatewayOf
-  state-blob = rw (view-at (s .entries) x (S .eight-entries) i h) (sound-blob _ _ _ _ (in-store (s .entries) x (S .eight-entries) (S .store-size) i h .whole) state-sound-at)
+  pub state-sound-at : SoundPlace (s .clock) (s .next) (entryAt (s .columns) (s .comments) i) (partAt (entriesOf s) x i)
+  state-sound-at = subst (λ e. SoundPlace (s .clock) (s .next) e (partAt (entriesOf s) x i)) (entries-at (s .columns) (s .comments) i noEntry h)
+      (sound-at (entriesOf s) x (long s x) (s .clock) (s .next) i h (S .places))
 
-  pub state-comment : getD (s .entries) i noEntry .comment ≡ keptComment (commentIn (getD (gatewayOf s x .places) i none))
-  unfolding gatewayOf
-  state-comment = rw (view-at (s .entries) x (S .eight-entries) i h) (sound-comment _ _ _ _ (in-store (s .entries) x (S .eight-entries) (S .store-size) i h .whole) state-sound-at)
+  pub state-whole : length (partAt (entriesOf s) x i) ≡ size (entryAt (s .columns) (s .comments) i)
+  state-whole = in-store (entriesOf s) x (long s x) (S .store-size) i h .whole ∙ ap size (entries-at (s .columns) (s .comments) i noEntry h)
 
-  pub state-blob-fits : getD (s .entries) i noEntry .«blob_len» ≤ blobLimit
+  pub state-confirm : isSet (getD (s .columns .confirm) i 0) ≡ confirmIn (getD (gatewayOf s x .places) i none)
+  state-confirm = rw (state-place s x i h) (sound-confirm _ _ _ _ state-whole state-sound-at)
+
+  pub state-blob : take (getD (s .columns .«blob_lens») i 0) (partAt (entriesOf s) x i) ≡ blobIn (getD (gatewayOf s x .places) i none)
+  state-blob = rw (state-place s x i h) (sound-blob _ _ _ _ state-whole state-sound-at)
+
+  pub state-comment : take (getD (s .columns .«comment_lens») i 0) (commentPart (s .comments) i) ≡ commentIn (getD (gatewayOf s x .places) i none)
+  state-comment = rw (state-place s x i h) (ap commentOf (sound-comment _ _ _ _ state-whole state-sound-at) ∙ comment-back _)
+
+  pub state-blob-fits : getD (s .columns .«blob_lens») i 0 ≤ blobLimit
   state-blob-fits = sound-blob-fits _ _ _ _ state-sound-at
+
+  pub state-comment-fits : getD (s .columns .«comment_lens») i 0 ≤ commentLimit
+  state-comment-fits = sound-comment-fits _ _ _ _ state-sound-at
+
+pub state-housed : (s : State) (x : List ℕ) → Sound s x → Housed (s .columns .numbers) (s .columns .«blob_lens») x
+state-housed s x S = record {
+  eight-numbers = S .eight .numbers;
+  eight-blobs = S .eight .blobs;
+  store-size = S .store-size;
+  blobs-fit = λ i h. state-blob-fits s x S i h;
+}
+
+pub state-roomy : (s : State) (x : List ℕ) → Sound s x → Roomy (s .columns) (s .comments) x
+state-roomy s x S = record { eight = S .eight; comments-size = S .comments-size; store-size = S .store-size }
 
 -- ## Where the key of a place has its bytes
 
@@ -152,3 +197,34 @@ pub some-taken : (n : ℕ) (bs : List ℕ) (m : ℕ) → length bs ≡ suc m →
 some-taken zero bs m l = refl
 some-taken (suc n) [] m l = absurd (omega arith)
 some-taken (suc n) (b ∷ bs) m l = lt-ltb 0 (suc n) (omega arith) ∙ sym (lt-ltb 0 (suc (length (take n bs))) (omega arith))
+
+-- ## Of columns that are lent
+
+-- the bytes for the comment of a place
+pub comment-part-size : (cs : List ℕ) → length cs ≡ commentsSize → (i : ℕ) → i < 8 → length (commentPart cs i) ≡ commentLimit
+comment-part-size cs size-cs i h = length-take-le commentLimit (drop (i * commentLimit) cs) (rw length-drop (omega arith))
+
+-- what is place i's of any eight entries is as long as a place
+pub part-size : (x p : List ℕ) → length x ≡ storeSize → (i : ℕ) → i < 8 → ((es : List Entry) → length es ≡ 8 → p ≡ partAt es x i) → length p ≡ placeSize
+part-size x p size-x i h is =
+    let es : List Entry = replicate 8 noEntry in
+    ap length (is es refl) ∙ in-store es x refl size-x i h .whole ∙ size-is (getD es i noEntry)
+
+module _ (s : State) (x ns : List ℕ) (same : s .columns .numbers ≡ ns) (i : ℕ) (h : i < 8) where
+  number-same : getD (s .columns .numbers) i 0 ≡ getD ns i 0
+  number-same = ap (λ (l : List ℕ). getD l i 0) same
+
+  -- a place is free by its number
+  pub free-at : getD ns i 0 ≡ 0 → isFree (getD (gatewayOf s x .places) i none) ≡ true
+  free-at none-kept = ap isFree (state-place s x i h ∙ place-free _ _ (number-same ∙ none-kept))
+
+  pub held-at : (getD ns i 0 ≡ 0 → ⊥) → isFree (getD (gatewayOf s x .places) i none) ≡ false
+  held-at kept = ap isFree (state-place s x i h ∙ place-held _ _ (λ none-kept. kept (sym number-same ∙ none-kept)))
+
+  module _ (bs : List ℕ) (blobs : s .columns .«blob_lens» ≡ bs) (p blob : List ℕ) (part : p ≡ partAt (entriesOf s) x i) where
+    -- and holds a blob by its number and its bytes
+    pub holds-at : (r : Bool) → ((e : Entry) → e .number ≡ getD ns i 0 → e .«blob_len» ≡ getD bs i 0 → r ≡ holds blob (placeOf e p)) → holds blob (getD (gatewayOf s x .places) i none) ≡ r
+    holds-at r tells =
+        ap (holds blob) (state-place s x i h)
+        ∙ ap (λ (q : List ℕ). holds blob (placeOf (entryAt (s .columns) (s .comments) i) q)) (sym part)
+        ∙ sym (tells (entryAt (s .columns) (s .comments) i) number-same (ap (λ (l : List ℕ). getD l i 0) blobs))

@@ -9,6 +9,14 @@ use lib.ListN.{length, drop, getD, drop-of-length-le}
 use lib.Seq.{drop-cons}
 use Rattle.rule.specs.declared.Found.the-variants.{At, Nothing}
 use Rattle.rule.specs.Gateway.{Place, seek}
+use Rattle.table.specs.declared.State.{State}
+use Rattle.table.specs.Meaning.{entriesOf, gatewayOf}
+use Rattle.table.proofs.ReadLaws.{view-length, long}
+
+-- a search over the places of a state is over eight
+pub places-length : (s : State) (x : List ℕ) → length (gatewayOf s x .places) ≡ 8
+unfolding gatewayOf
+places-length s x = view-length (entriesOf s) x (long s x)
 
 module _ (test : Place → Bool) (ps : List Place) (i : ℕ) where
   pub seek-step : i < length ps → test (getD ps i none) ≡ false → seek test i (drop i ps) ≡ seek test (i + 1) (drop (i + 1) ps)

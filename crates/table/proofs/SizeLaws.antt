@@ -2,21 +2,22 @@
 use Prim.Native.Nat.{ℕ, zero, suc, _+_, _*_, _≤_, _<_}
 use mathlib.Core.Path.{_≡_, refl, sym, ap, _∙_}
 use mathlib.Core.Option.{none, some}
-use mathlib.Core.List.{List, [], _∷_, map}
+use mathlib.Core.List.{List, [], _∷_}
 use native.Mathlib.Omega.{arith}
 use native.Mathlib.Nat.{not-suc-le-zero, le-of-suc-le-suc, le-refl, zero-mul, suc-mul}
-use lib.ListN.{length, drop, getD, replicate, length-append, length-drop, length-replicate}
+use lib.ListN.{length, drop, getD, set, replicate, length-append, length-drop, length-replicate}
 use lib.Seq.{length-take-le}
 use Rattle.wire.specs.Limits.{placeSize, storeSize, blobLimit, fieldsLimit, fieldsAt}
-use Rattle.rule.specs.Gateway.{Entry as Key, Place, vacate}
+use Rattle.wire.specs.Write.{write}
+use Rattle.rule.specs.Gateway.{Entry as Key, Place}
 use Rattle.rule.specs.Soundness.{EveryEntry, Fits}
-use Rattle.table.specs.declared.Entry.{Entry}
 use Rattle.table.specs.Bytes.{Zeros}
 use Rattle.table.specs.Each.{offset}
+use Rattle.table.specs.Entries.{Entry}
 use Rattle.table.specs.Meaning.{size, noEntry, startOf, fieldsStart, partAt, heldBytes, entryFor, bytesFor, laid}
 use Rattle.table.proofs.ByteLaws.{padded-size, zeros-append}
 use Rattle.table.proofs.EachLaws.{offset-even}
-use Rattle.table.proofs.LayoutLaws.{roomOf, startIn, laid-size, Spans}
+use Rattle.table.proofs.LayoutLaws.{roomOf, startIn, laid-size, laid-write}
 
 -- ## Entries
 
@@ -77,10 +78,10 @@ pub free-zeros : Zeros (bytesFor none)
 unfolding bytesFor
 free-zeros = ap (λ (n : ℕ). replicate n 0) (sym (length-replicate {A = ℕ} placeSize 0))
 
-pub laid-free : (ps : List Place) → Zeros (laid (map vacate ps))
+pub laid-zeros : (n : ℕ) → Zeros (laid (replicate n none))
 unfolding laid
-laid-free [] = refl
-laid-free (p ∷ ps) = zeros-append (bytesFor none) (laid (map vacate ps)) free-zeros (laid-free ps)
+laid-zeros zero = refl
+laid-zeros (suc n) = zeros-append (bytesFor none) (laid (replicate n none)) free-zeros (laid-zeros n)
 
 -- the first place and the rest
 record FitsFirst (p : Place) (ps : List Place) : Type 0 where
@@ -109,14 +110,12 @@ module _ (ps : List Place) (all : EveryEntry KeyFits ps) (eight : length ps ≡ 
   pub laid-store : length (laid ps) ≡ storeSize
   laid-store = laid-size ps ∙ start-even ps all (length ps) (le-refl (length ps)) ∙ ap (λ (n : ℕ). n * placeSize) eight
 
-  -- place i, where the code looks for it
-  pub spanning : (i from to : ℕ) → i < 8 → from ≡ i * placeSize → to ≡ (i + 1) * placeSize → Spans ps i from to
-  spanning i from to h begins ends = record {
-    start = begins ∙ sym (start-even ps all i (omega arith));
-    span = let room = room-even ps all i (omega arith) in omega arith;
-  }
+  -- place i written anew, where the code looks for it
+  pub place-write : (i : ℕ) → i < 8 → (q : Place) → roomOf q ≡ placeSize → write (laid ps) (i * placeSize) (bytesFor q) ≡ laid (set ps i q)
+  place-write i h q room =
+      let inside : i < length ps = omega arith in
+      ap (λ (n : ℕ). write (laid ps) n (bytesFor q)) (sym (start-even ps all i (omega arith))) ∙ laid-write ps i q inside (room ∙ sym (room-even ps all i inside))
 
-  -- a place wiped is written as a free one
-  pub wiped : (i : ℕ) → i < 8 → (p : List ℕ) → p ≡ bytesFor (getD ps i none) → replicate (length p) 0 ≡ bytesFor none
-  unfolding bytesFor
-  wiped i h p is = ap (λ (n : ℕ). replicate n 0) (ap length is ∙ room-even ps all i (omega arith))
+  -- what is in place i has the room of a place
+  pub room-at : (i : ℕ) → i < 8 → roomOf (getD ps i none) ≡ placeSize
+  room-at i h = room-even ps all i (omega arith)

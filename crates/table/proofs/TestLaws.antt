@@ -8,14 +8,15 @@ use borrow.Author.Tests.{eqb-true, eqb-false, eq-eqb}
 use lib.Dec.{eqb}
 use lib.ListN.{length, take, drop, replicate, length-replicate}
 use Rattle.wire.specs.Limits.{storeSize, blobLimit, fieldsLimit, fieldsAt, commentLimit, passphraseLimit, lastNumber}
+use Rattle.wire.specs.declared.Seconds.{Seconds}
 use Rattle.rule.proofs.SoundLaws.{Says, both-say, le-says, lt-says, eq-says, within-says, distinct-says}
 use Rattle.rule.specs.declared.Millis.{Millis}
-use Rattle.table.specs.declared.Comment.{Comment}
-use Rattle.table.specs.declared.Entry.{Entry}
+use Rattle.table.specs.declared.Columns.{Columns}
 use Rattle.table.specs.declared.LockRecord.{LockRecord}
 use Rattle.table.specs.Bytes.{Zeros}
-use Rattle.table.specs.Meaning.{size, isSet, view, freeEntry}
-use Rattle.table.specs.Soundness.{isFlag, soundComment, zeroComment, soundFree, soundFlags, soundLifetime, soundContent, soundHeld, soundPlace, soundPlaces, soundLock, soundState, Flag, SoundComment, SoundHeld, SoundPlace, free, held, SoundLock}
+use Rattle.table.specs.Entries.{Comment, Entry, Eight, commentsSize}
+use Rattle.table.specs.Meaning.{entriesOf, size, isSet, view, freeEntry}
+use Rattle.table.specs.Soundness.{isFlag, eightColumns, soundComment, zeroComment, soundFree, soundFlags, soundLifetime, soundContent, soundHeld, soundPlace, soundPlaces, soundLock, soundState, Flag, SoundComment, SoundHeld, SoundPlace, free, held, SoundLock}
 use Rattle.table.specs.Promises.{SoundStateRule}
 use Rattle.table.proofs.ByteLaws.{zeros-say}
 use Rattle.table.proofs.EachLaws.{each-says}
@@ -23,17 +24,17 @@ use Rattle.table.proofs.EachLaws.{each-says}
 flag-says : (b : ℕ) → Says (isFlag b) (Flag b)
 flag-says b = le-says b _
 
-flags-say : (e : Entry) → Says (soundFlags e) (Flag (e .limited) × Flag (e .confirm))
+flags-say : (limited confirm : ℕ) → Says (soundFlags limited confirm) (Flag limited × Flag confirm)
 unfolding soundFlags
-flags-say e = both-say _ _ _ _ (flag-says (e .limited)) (flag-says (e .confirm))
+flags-say limited confirm = both-say _ _ _ _ (flag-says limited) (flag-says confirm)
 
-lifetime-says : (e : Entry) → Says (soundLifetime e) (isSet (e .limited) ≡ false → e .seconds .count ≡ 0)
+lifetime-says : (limited : ℕ) (seconds : Seconds) → Says (soundLifetime limited seconds) (isSet limited ≡ false → seconds .count ≡ 0)
 unfolding soundLifetime
-lifetime-says e = by-limit (isSet (e .limited))
+lifetime-says limited seconds = by-limit (isSet limited)
   where
-    by-limit : (limited : Bool) → Says (limited || eqb (e .seconds .count) 0) (limited ≡ false → e .seconds .count ≡ 0)
+    by-limit : (set : Bool) → Says (set || eqb (seconds .count) 0) (set ≡ false → seconds .count ≡ 0)
     by-limit true = ((λ _ never. let z : _≡_ {A = ℕ} 0 1 = cc in absurd (omega arith)), (λ _. refl))
-    by-limit false = ((λ t _. eqb-true (e .seconds .count) 0 t), (λ f. eq-eqb (e .seconds .count) 0 (f refl)))
+    by-limit false = ((λ t _. eqb-true (seconds .count) 0 t), (λ f. eq-eqb (seconds .count) 0 (f refl)))
 
 comment-says : (c : Comment) → Says (soundComment c) (SoundComment c)
 unfolding soundComment
@@ -43,23 +44,22 @@ comment-says c =
       (λ s. tests .1 (s .comment-size, (s .comment-fits, s .comment-rest))),
     )
 
--- a free place's comment is sound
-no-comment-sound : SoundComment (freeEntry .comment)
-no-comment-sound =
-    let size = length-replicate {A = ℕ} commentLimit 0 in
-    record { comment-size = size; comment-fits = omega arith; comment-rest = ap (λ (n : ℕ). replicate n 0) (sym size) }
-
 zero-comment-says : (c : Comment) → Says (zeroComment c) (c ≡ freeEntry .comment)
 unfolding zeroComment
 zero-comment-says c =
-    let tests = both-say _ _ _ _ (comment-says c) (eq-says (c .len) 0) in (
+    let tests = both-say _ _ _ _ (eq-says (length (c .bytes)) commentLimit) (both-say _ _ _ _ (eq-says (c .len) 0) (zeros-say (c .bytes))) in (
       (λ t.
-          let (sound, none-kept) = tests .0 t in
-          let rest = rw none-kept at (sound .comment-rest) in
-          let bytes : c .bytes ≡ replicate commentLimit 0 = rest ∙ ap (λ (n : ℕ). replicate n 0) (sound .comment-size) in
+          let (size, (none-kept, zeros)) = tests .0 t in
+          let bytes : c .bytes ≡ replicate commentLimit 0 = zeros ∙ ap (λ (n : ℕ). replicate n 0) size in
           λ j. record { bytes = bytes j; len = none-kept j }),
-      (λ f. tests .1 (rw f no-comment-sound, ap (λ (x : Comment). x .len) f)),
+      (λ f. tests .1 (free-size f, (ap (λ (x : Comment). x .len) f, free-bytes f))),
     )
+  where
+    free-size : c ≡ freeEntry .comment → length (c .bytes) ≡ commentLimit
+    free-size f = ap (λ (x : Comment). length (x .bytes)) f ∙ length-replicate {A = ℕ} commentLimit 0
+
+    free-bytes : c ≡ freeEntry .comment → Zeros (c .bytes)
+    free-bytes f = ap (λ (x : Comment). x .bytes) f ∙ ap (λ (n : ℕ). replicate n 0) (sym (free-size f))
 
 free-says : (e : Entry) (p : List ℕ) → e .number ≡ 0 → Says (soundFree e p) ((e ≡ freeEntry) × Zeros p)
 unfolding soundFree
@@ -111,8 +111,8 @@ held-says clock next e p number =
     let tests =
     both-say _ _ _ _ (lt-says (e .number) next)
     (both-say _ _ _ _ (le-says (e .reading .count) (clock .count))
-    (both-say _ _ _ _ (flags-say e)
-    (both-say _ _ _ _ (lifetime-says e)
+    (both-say _ _ _ _ (flags-say (e .limited) (e .confirm))
+    (both-say _ _ _ _ (lifetime-says (e .limited) (e .seconds))
     (both-say _ _ _ _ (within-says 1 blobLimit (e .«blob_len»))
     (both-say _ _ _ _ (within-says 1 fieldsLimit (e .«fields_len»))
     (both-say _ _ _ _ (comment-says (e .comment))
@@ -160,26 +160,56 @@ place-says clock next e p = by-number (eqb (e .number) 0) refl
         says-held says (free f z) = absurd (eqb-false (e .number) 0 b (number-of f))
         says-held says (held s) = says .1 s
 
-lock-says : (l : LockRecord) → length (l .bytes) ≡ passphraseLimit → Says (soundLock l) (SoundLock l)
+lock-says : (l : LockRecord) → Says (soundLock l) (SoundLock l)
 unfolding soundLock
-lock-says l long =
-    let tests = both-say _ _ _ _ (le-says (l .len) passphraseLimit) (zeros-say (drop (l .len) (l .bytes))) in (
-      (λ t. let (fits, rest) = tests .0 t in record { record-size = long; lock-fits = fits; lock-rest = rest }),
-      (λ s. tests .1 (s .lock-fits, s .lock-rest)),
+lock-says l =
+    let tests = both-say _ _ _ _ (eq-says (length (l .bytes)) passphraseLimit) (both-say _ _ _ _ (le-says (l .len) passphraseLimit) (zeros-say (drop (l .len) (l .bytes)))) in (
+      (λ t. let (size, (fits, rest)) = tests .0 t in record { record-size = size; lock-fits = fits; lock-rest = rest }),
+      (λ s. tests .1 (s .record-size, (s .lock-fits, s .lock-rest))),
+    )
+
+-- the columns are tested one after the other
+pub eight-says : (t : Columns) → Says (eightColumns t) (Eight t)
+unfolding eightColumns
+eight-says t =
+    let tests =
+    both-say _ _ _ _ (eq-says (length (t .numbers)) 8)
+    (both-say _ _ _ _ (eq-says (length (t .readings)) 8)
+    (both-say _ _ _ _ (eq-says (length (t .«blob_lens»)) 8)
+    (both-say _ _ _ _ (eq-says (length (t .«fields_lens»)) 8)
+    (both-say _ _ _ _ (eq-says (length (t .«comment_lens»)) 8)
+    (both-say _ _ _ _ (eq-says (length (t .seconds)) 8)
+    (both-say _ _ _ _ (eq-says (length (t .limited)) 8) (eq-says (length (t .confirm)) 8))))))) in (
+      (λ b.
+          let (numbers, (readings, (blobs, (fields, (comments, (seconds, (limited, confirm))))))) = tests .0 b in
+          record {
+            numbers = numbers;
+            readings = readings;
+            blobs = blobs;
+            fields = fields;
+            comments = comments;
+            seconds = seconds;
+            limited = limited;
+            confirm = confirm;
+          }),
+      (λ e. tests .1 (e .numbers, (e .readings, (e .blobs, (e .fields, (e .comments, (e .seconds, (e .limited, e .confirm)))))))),
     )
 
 pub sound-state-rule : SoundStateRule
 unfolding soundState soundPlaces
-sound-state-rule s x eight long =
+sound-state-rule s x =
     let tests =
     both-say _ _ _ _ (eq-says (length x) storeSize)
+    (both-say _ _ _ _ (eq-says (length (s .comments)) commentsSize)
+    (both-say _ _ _ _ (eight-says (s .columns))
     (both-say _ _ _ _ (within-says 1 lastNumber (s .next))
-    (both-say _ _ _ _ (lock-says (s .lock) long)
-    (both-say _ _ _ _ (each-says size _ _ (place-says (s .clock) (s .next)) (s .entries) x) (distinct-says (view (s .entries) x))))) in (
+    (both-say _ _ _ _ (lock-says (s .lock))
+    (both-say _ _ _ _ (each-says size _ _ (place-says (s .clock) (s .next)) (entriesOf s) x) (distinct-says (view (entriesOf s) x))))))) in (
       (λ t.
-          let (store, (next, (lock, (places, distinct)))) = tests .0 t in
+          let (store, (comments, (eight, (next, (lock, (places, distinct)))))) = tests .0 t in
           record {
-            eight-entries = eight;
+            eight = eight;
+            comments-size = comments;
             store-size = store;
             next-first = next .0;
             next-last = next .1;
@@ -187,5 +217,5 @@ sound-state-rule s x eight long =
             places = places;
             distinct = distinct;
           }),
-      (λ s. tests .1 (s .store-size, ((s .next-first, s .next-last), (s .lock, (s .places, s .distinct))))),
+      (λ s. tests .1 (s .store-size, (s .comments-size, (s .eight, ((s .next-first, s .next-last), (s .lock, (s .places, s .distinct))))))),
     )

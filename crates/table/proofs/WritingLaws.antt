@@ -1,13 +1,13 @@
 -- A sound state and store are written in one way: place by place, entry and bytes are those of what they mean, and a sound gateway written
 -- so is sound and means itself.
-use Prim.Native.Nat.{ℕ, zero, suc, _+_, _≤_}
+use Prim.Native.Nat.{ℕ, zero, suc, _+_, _*_, _≤_}
 use mathlib.Core.Path.{_≡_, refl, sym, ap, _∙_}
 use mathlib.Core.Bool.{Bool, true, false, cond}
 use mathlib.Core.Option.{none, some}
 use mathlib.Core.List.{List, [], _∷_, _++_, map}
 use native.Mathlib.Omega.{arith}
 use borrow.Author.Tests.{ne-eqb}
-use lib.ListN.{length, take, drop, replicate, length-drop, length-map, length-take, take-append-drop}
+use lib.ListN.{length, take, drop, replicate, length-drop, length-map, length-take, length-replicate, take-append-drop}
 use lib.Seq.{length-take-le, take-take, take-at, drop-at, take-append-le}
 use Rattle.wire.specs.Limits.{storeSize, blobLimit, fieldsLimit, fieldsAt, commentLimit, passphraseLimit}
 use Rattle.keys.specs.declared.constraints.Lifetime.{Lifetime}
@@ -18,18 +18,18 @@ use Rattle.rule.specs.Soundness.{EveryEntry, SoundEntry}
 use Rattle.rule.specs.Soundness as rule
 use Rattle.rule.proofs.PlaceLaws.{every-imp}
 use Rattle.rule.proofs.SoundLaws.{fresh-sound}
-use Rattle.table.specs.declared.Comment.{Comment}
-use Rattle.table.specs.declared.Entry.{Entry}
 use Rattle.table.specs.declared.LockRecord.{LockRecord}
 use Rattle.table.specs.declared.State.{State}
 use Rattle.table.specs.Bytes.{padded}
 use Rattle.table.specs.Each.{each, Each, offset}
-use Rattle.table.specs.Meaning.{size, isSet, lifetimeOf, commentOf, keyOf, placeOf, view, passphrase, gatewayOf, flagOf, limitedFlag, keptSeconds, keptComment, heldBytes, entryFor, bytesFor, laid, lockOf, stateOf, layout}
+use Rattle.table.specs.Entries.{Comment, Entry, entriesIn, columnsOf, commentsOf}
+use Rattle.table.specs.Meaning.{size, isSet, lifetimeOf, commentOf, keyOf, placeOf, entriesOf, view, passphrase, gatewayOf, noEntry, flagOf, limitedFlag, keptSeconds, keptComment, heldBytes, entryFor, bytesFor, laid, lockOf, stateOf, layout}
 use Rattle.table.specs.Soundness.{Flag, SoundComment, SoundPlace, free, held, SoundLock, Sound, Means}
 use Rattle.table.specs.Promises.{FlagRule, SoundMeaning, SoundCanonical, OneWriting, EveryGateway, FreshMeans}
 use Rattle.table.proofs.ByteLaws.{padded-size, padded-front, padded-rest, zeros-padded}
 use Rattle.table.proofs.EachLaws.{each-length}
-use Rattle.table.proofs.SizeLaws.{size-is, entries-end, KeyFits, free-size, key-size, free-zeros, laid-free, laid-store}
+use Rattle.table.proofs.EntryLaws.{entries-length, Sized, Rewritten, columns-written, comments-written, entries-shown, columns-eight, comments-long}
+use Rattle.table.proofs.SizeLaws.{size-is, entries-end, KeyFits, free-size, key-size, free-zeros, laid-zeros, laid-store}
 
 -- ## One place
 
@@ -136,8 +136,8 @@ module _ (clock : Millis) (next : ℕ) where
       let w = writing-first e (take (size e) x) es (drop (size e) x) (view es (drop (size e) x)) first (writing es (drop (size e) x) rest (all .1)) in
       rw take-append-drop at w
 
-pub sound-writing : (s : State) (x : List ℕ) → Sound s x → Writing (s .clock) (s .next) (s .entries) x (view (s .entries) x)
-sound-writing s x S = writing (s .clock) (s .next) (s .entries) x (entries-end (s .entries) (S .eight-entries) ∙ sym (S .store-size)) (S .places)
+pub sound-writing : (s : State) (x : List ℕ) → Sound s x → Writing (s .clock) (s .next) (entriesOf s) x (view (entriesOf s) x)
+sound-writing s x S = writing (s .clock) (s .next) (entriesOf s) x (entries-end (entriesOf s) (entries-length (s .columns) (s .comments)) ∙ sym (S .store-size)) (S .places)
 
 pub key-fits : (clock : Millis) (next : ℕ) (k : Key) → SoundEntry clock next k → KeyFits k
 key-fits clock next k s = s .lengths
@@ -145,11 +145,11 @@ key-fits clock next k s = s .lengths
 pub writing-fits : (clock : Millis) (next : ℕ) (es : List Entry) (x : List ℕ) (ps : List Place) → Writing clock next es x ps → EveryEntry KeyFits ps
 writing-fits clock next es x ps w = every-imp (SoundEntry clock next) KeyFits (key-fits clock next) ps (w .keys)
 
-pub view-fits : (s : State) (x : List ℕ) → Sound s x → EveryEntry KeyFits (view (s .entries) x)
+pub view-fits : (s : State) (x : List ℕ) → Sound s x → EveryEntry KeyFits (view (entriesOf s) x)
 view-fits s x S = writing-fits _ _ _ _ _ (sound-writing s x S)
 
-pub view-eight : (s : State) (x : List ℕ) → Sound s x → length (view (s .entries) x) ≡ 8
-view-eight s x S = each-length size placeOf (s .entries) x ∙ S .eight-entries
+pub view-eight : (s : State) (x : List ℕ) → Sound s x → length (view (entriesOf s) x) ≡ 8
+view-eight s x S = each-length size placeOf (entriesOf s) x ∙ entries-length (s .columns) (s .comments)
 
 pub sound-meaning : SoundMeaning
 unfolding gatewayOf
@@ -169,12 +169,23 @@ lock-written l L =
     let bytes = zeros-padded passphraseLimit (l .len) (l .bytes) (L .record-size) (L .lock-fits) (L .lock-rest) in
     λ j. record { bytes = bytes j; len = sym n j }
 
+pub sound-table : (s : State) (x : List ℕ) → Sound s x → Rewritten (s .columns) (s .comments) (map entryFor (view (entriesOf s) x))
+sound-table s x S =
+    let w = sound-writing s x S in
+    record {
+      columns-are = columns-written (s .columns) (s .comments) (S .eight) (S .comments-size) ∙ ap columnsOf (w .entries);
+      comments-are = comments-written (s .columns) (s .comments) (S .eight) (S .comments-size) ∙ ap commentsOf (w .entries);
+    }
+
 pub sound-canonical : SoundCanonical
 unfolding gatewayOf stateOf layout
 sound-canonical s x S =
-    let w = sound-writing s x S in
+    let table = sound-table s x S in
     let lock = lock-written (s .lock) (S .lock) in
-    record { state = λ j. record { entries = w .entries j; lock = lock j; clock = s .clock; next = s .next }; store = w .store }
+    record {
+      state = λ j. record { columns = table .columns-are j; comments = table .comments-are j; lock = lock j; clock = s .clock; next = s .next };
+      store = sound-writing s x S .store;
+    }
 
 pub one-writing : OneWriting
 one-writing s t x y S T e =
@@ -293,19 +304,31 @@ lock-back : (p : List ℕ) → passphrase (lockOf p) ≡ p
 unfolding lockOf
 lock-back p = padded-front passphraseLimit p
 
+-- what is written for a place has its 255 bytes for a comment
+entries-fit : (ps : List Place) → EveryEntry KeyFits ps → Sized (map entryFor ps)
+unfolding entryFor keptComment
+entries-fit [] all = tt
+entries-fit (none ∷ ps) all = (length-replicate {A = ℕ} commentLimit 0, entries-fit ps all)
+entries-fit (some k ∷ ps) all = (padded-size commentLimit (k .comment) (all .0 .comment-fits), entries-fit ps (all .1))
+
 pub every-gateway : EveryGateway
 unfolding gatewayOf stateOf layout
 every-gateway g G =
-    let view-is = view-back (g .clock) (g .next) (g .places) (G .entries) in
+    let es = map entryFor (g .places) in
+    let eight : length es ≡ 8 = length-map (g .places) entryFor ∙ G .eight-places in
+    let sized = entries-fit (g .places) (keys-fit g G) in
+    let shown : entriesIn (columnsOf es) (commentsOf es) ≡ es = entries-shown es eight sized noEntry in
+    let view-is : view (entriesIn (columnsOf es) (commentsOf es)) (laid (g .places)) ≡ g .places = ap (λ l. view l (laid (g .places))) shown ∙ view-back (g .clock) (g .next) (g .places) (G .entries) in
     record {
       gateway = λ j. record { places = view-is j; lock = lock-back (g .lock) j; clock = g .clock; next = g .next };
       sound = record {
-        eight-entries = length-map (g .places) entryFor ∙ G .eight-places;
+        eight = columns-eight es eight;
+        comments-size = comments-long es sized ∙ ap (λ (n : ℕ). n * commentLimit) eight;
         store-size = laid-store (g .places) (keys-fit g G) (G .eight-places);
         next-first = G .next-first;
         next-last = G .next-last;
         lock = lock-sound (g .lock) (G .lock-fits);
-        places = each-back (g .clock) (g .next) (g .places) (G .entries);
+        places = rw shown (each-back (g .clock) (g .next) (g .places) (G .entries));
         distinct = rw view-is (G .distinct);
       };
     }
@@ -318,4 +341,4 @@ pub fresh-means : FreshMeans
 unfolding layout
 fresh-means =
     let size = laid-store (fresh .places) (keys-fit fresh fresh-sound) (fresh-sound .eight-places) in
-    means-of (stateOf fresh) (replicate storeSize 0) fresh fresh-sound refl (sym (laid-free (replicate 8 none) ∙ ap (λ (n : ℕ). replicate n 0) size))
+    means-of (stateOf fresh) (replicate storeSize 0) fresh fresh-sound refl (sym (laid-zeros 8 ∙ ap (λ (n : ℕ). replicate n 0) size))

@@ -11,11 +11,13 @@ use Rattle.wire.specs.declared.Seconds.{Seconds}
 use Rattle.keys.specs.declared.constraints.Lifetime.{Lifetime}
 use Rattle.keys.specs.declared.constraints.Lifetime.the-variants.{Forever, For}
 use Rattle.rule.specs.Gateway.{Entry as Key, Place, Gateway, zeroMillis}
-use Rattle.table.specs.declared.Comment.{Comment}
-use Rattle.table.specs.declared.Entry.{Entry}
+use Rattle.table.specs.declared.Columns.{Columns}
+use Rattle.table.specs.declared.Figures.{Figures}
+use Rattle.table.specs.declared.Kept.{Kept}
 use Rattle.table.specs.declared.LockRecord.{LockRecord}
 use Rattle.table.specs.declared.State.{State}
 use Rattle.table.specs.Bytes.{padded}
+use Rattle.table.specs.Entries.{Comment, Entry, entriesIn, columnsOf, commentsOf}
 use Rattle.table.specs.Each.{each, offset, share}
 
 -- "Eight places, 4,096 bytes each in the store"
@@ -29,8 +31,11 @@ abbrev pub isSet : ℕ → Bool
 isSet flag = eqb flag 1
 
 -- "perhaps a lifetime"
+abbrev pub limitedLifetime : ℕ → Seconds → Lifetime
+limitedLifetime limited seconds = cond (isSet limited) (For seconds) Forever
+
 abbrev pub lifetimeOf : Entry → Lifetime
-lifetimeOf e = cond (isSet (e .limited)) (For (e .seconds)) Forever
+lifetimeOf e = limitedLifetime (e .limited) (e .seconds)
 
 -- the comment that is kept, with its length
 abbrev pub commentOf : Comment → List ℕ
@@ -76,8 +81,11 @@ view es x = each placeOf size es x
 abbrev pub passphrase : LockRecord → List ℕ
 passphrase l = take (l .len) (l .bytes)
 
+abbrev pub entriesOf : State → List Entry
+entriesOf s = entriesIn (s .columns) (s .comments)
+
 unfoldable pub gatewayOf : State → List ℕ → Gateway
-gatewayOf s x = record { places = view (s .entries) x; lock = passphrase (s .lock); clock = s .clock; next = s .next }
+gatewayOf s x = record { places = view (entriesOf s) x; lock = passphrase (s .lock); clock = s .clock; next = s .next }
 
 -- what is read behind the end of the entries, where no place is
 abbrev pub noEntry : Entry
@@ -154,6 +162,19 @@ entryFor (some k) = record {
   comment = keptComment (k .comment);
 }
 
+-- its figures alone
+unfoldable pub figuresFor : Place → Figures
+figuresFor p = record {
+  number = entryFor p .number;
+  reading = entryFor p .reading;
+  «blob_len» = entryFor p .«blob_len»;
+  «fields_len» = entryFor p .«fields_len»;
+  «comment_len» = entryFor p .comment .len;
+  seconds = entryFor p .seconds;
+  limited = entryFor p .limited;
+  confirm = entryFor p .confirm;
+}
+
 unfoldable pub bytesFor : Place → List ℕ
 bytesFor none = replicate placeSize 0
 bytesFor (some k) = heldBytes (k .blob) (k .fields)
@@ -172,7 +193,23 @@ unfoldable pub lockOf : List ℕ → LockRecord
 lockOf p = record { bytes = padded passphraseLimit p; len = length p }
 
 unfoldable pub stateOf : Gateway → State
-stateOf g = record { entries = map entryFor (g .places); lock = lockOf (g .lock); clock = g .clock; next = g .next }
+stateOf g = record {
+  columns = columnsOf (map entryFor (g .places));
+  comments = commentsOf (map entryFor (g .places));
+  lock = lockOf (g .lock);
+  clock = g .clock;
+  next = g .next;
+}
 
 unfoldable pub layout : Gateway → List ℕ
 layout g = laid (g .places)
+
+-- ## A state whose columns are lent
+
+-- the state of lent columns, comments and passphrase, and of what goes by value beside them
+abbrev pub held : Columns → List ℕ → List ℕ → Kept → State
+held t comments bytes k = record { columns = t; comments = comments; lock = record { bytes = bytes; len = k .locked }; clock = k .clock; next = k .next }
+
+-- a state with other columns and comments
+abbrev pub withTable : Columns → List ℕ → State → State
+withTable t comments s = record { columns = t; comments = comments; lock = s .lock; clock = s .clock; next = s .next }

@@ -6,7 +6,7 @@ use mathlib.Core.List.{List}
 use mathlib.Core.Logic.{_↔_, _⊎_, _≢_}
 use mathlib.Core.Option.{Option, none, some}
 use lib.ListN.{length, getD, replicate}
-use Rattle.wire.specs.Limits.{storeSize, passphraseLimit, lastNumber}
+use Rattle.wire.specs.Limits.{storeSize, lastNumber}
 use Rattle.wire.specs.Promises.{OneToOne}
 use Rattle.keys.specs.declared.constraints.Lifetime.the-variants.{Forever, For}
 use Rattle.rule.specs.declared.Found.{Found}
@@ -14,15 +14,15 @@ use Rattle.rule.specs.Gateway.{Entry as Key, Place, Gateway, fresh, seek, holds
 use Rattle.rule.specs.Searches.{foundPlace}
 use Rattle.rule.specs.Soundness as rule
 use Rattle.rule.specs.Soundness.{Fits}
-use Rattle.table.specs.declared.Entry.{Entry}
 use Rattle.table.specs.declared.State.{State}
+use Rattle.table.specs.Entries.{Entry}
 use Rattle.table.specs.Meaning.{keyOf, gatewayOf, stateOf, layout}
 use Rattle.table.specs.Soundness.{soundState, Sound, Means}
 use Rattle.table.specs.Changes.{MayPut}
 
--- the test says the facts; the two lengths are the arrays'
+-- the test says the facts
 abbrev pub SoundStateRule : Type 0
-SoundStateRule = (s : State) (x : List ℕ) → length (s .entries) ≡ 8 → length (s .lock .bytes) ≡ passphraseLimit → (soundState s x ≡ true) ↔ Sound s x
+SoundStateRule = (s : State) (x : List ℕ) → (soundState s x ≡ true) ↔ Sound s x
 
 -- what an entry's flags say: 1 is yes, 0 is no
 pub record FlagsSay (e : Entry) (p : List ℕ) : Type 0 where

@@ -8,26 +8,39 @@ use lib.ListN.{length, getD, take, drop}
 use lib.Dec.{leb, ltb, eqb}
 use Rattle.wire.specs.Limits.{storeSize, blobLimit, fieldsLimit, fieldsAt, commentLimit, passphraseLimit, lastNumber}
 use Rattle.wire.specs.Numbers.{within}
+use Rattle.wire.specs.declared.Seconds.{Seconds}
 use Rattle.rule.specs.declared.Millis.{Millis}
 use Rattle.rule.specs.Gateway.{Place, Gateway}
 use Rattle.rule.specs.Soundness.{everyEntry, apart, distinct, Distinct}
-use Rattle.table.specs.declared.Comment.{Comment}
-use Rattle.table.specs.declared.Entry.{Entry}
+use Rattle.table.specs.declared.Columns.{Columns}
 use Rattle.table.specs.declared.LockRecord.{LockRecord}
 use Rattle.table.specs.declared.State.{State}
 use Rattle.table.specs.Bytes.{allZero, Zeros}
 use Rattle.table.specs.Each.{each, Each}
-use Rattle.table.specs.Meaning.{size, isSet, view, gatewayOf, noEntry, freeEntry}
+use Rattle.table.specs.Entries.{Comment, Entry, Eight, commentsSize}
+use Rattle.table.specs.Meaning.{size, isSet, entriesOf, view, gatewayOf, freeEntry}
 
 -- ## The tests
 
--- #101: "Soundness gains its length and zero rest"; the first test is of the array's type
+-- the columns are of eight places, as the arrays' types are
+unfoldable pub eightColumns : Columns → Bool
+eightColumns t =
+    eqb (length (t .numbers)) 8
+    && (eqb (length (t .readings)) 8
+    && (eqb (length (t .«blob_lens»)) 8
+    && (eqb (length (t .«fields_lens»)) 8
+    && (eqb (length (t .«comment_lens»)) 8
+    && (eqb (length (t .seconds)) 8
+    && (eqb (length (t .limited)) 8
+    && eqb (length (t .confirm)) 8))))))
+
+-- #101: "Soundness gains its length and zero rest"
 unfoldable pub soundComment : Comment → Bool
 soundComment c = eqb (length (c .bytes)) commentLimit && (leb (c .len) commentLimit && allZero (drop (c .len) (c .bytes)))
 
 -- no comment, and no byte of one
 unfoldable pub zeroComment : Comment → Bool
-zeroComment c = soundComment c && eqb (c .len) 0
+zeroComment c = eqb (length (c .bytes)) commentLimit && (eqb (c .len) 0 && allZero (c .bytes))
 
 -- "free places zero"
 unfoldable pub soundFree : Entry → List ℕ → Bool
@@ -46,12 +59,12 @@ abbrev pub isFlag : ℕ → Bool
 isFlag b = leb b 1
 
 -- "perhaps a lifetime, and Confirm or not"
-unfoldable pub soundFlags : Entry → Bool
-soundFlags e = isFlag (e .limited) && isFlag (e .confirm)
+unfoldable pub soundFlags : ℕ → ℕ → Bool
+soundFlags limited confirm = isFlag limited && isFlag confirm
 
 -- no seconds without a lifetime
-unfoldable pub soundLifetime : Entry → Bool
-soundLifetime e = isSet (e .limited) || eqb (e .seconds .count) 0
+unfoldable pub soundLifetime : ℕ → Seconds → Bool
+soundLifetime limited seconds = isSet limited || eqb (seconds .count) 0
 
 -- "lengths within limits, unused bytes .. zero"
 unfoldable pub soundContent : Entry → List ℕ → Bool
@@ -64,7 +77,7 @@ soundContent e p =
 
 -- "insertion numbers .. below the next one, .. insertion readings not above the kept clock"
 unfoldable pub soundHeld : Millis → ℕ → Entry → List ℕ → Bool
-soundHeld clock next e p = ltb (e .number) next && (leb (e .reading .count) (clock .count) && (soundFlags e && (soundLifetime e && soundContent e p)))
+soundHeld clock next e p = ltb (e .number) next && (leb (e .reading .count) (clock .count) && (soundFlags (e .limited) (e .confirm) && (soundLifetime (e .limited) (e .seconds) && soundContent e p)))
 
 unfoldable pub soundPlace : Millis → ℕ → Entry → List ℕ → Bool
 soundPlace clock next e p = cond (eqb (e .number) 0) (soundFree e p) (soundHeld clock next e p)
@@ -78,7 +91,7 @@ soundPlaces clock next es x = all (each (soundPlace clock next) size es x)
 
 -- "The passphrase is kept with its length, at most 1,024 bytes, the rest zero."
 unfoldable pub soundLock : LockRecord → Bool
-soundLock l = leb (l .len) passphraseLimit && allZero (drop (l .len) (l .bytes))
+soundLock l = eqb (length (l .bytes)) passphraseLimit && (leb (l .len) passphraseLimit && allZero (drop (l .len) (l .bytes)))
 
 -- the blob and the number of a place are no other's
 unfoldable pub unlike : Place → List Place → Bool
@@ -88,10 +101,12 @@ unlike (some e) ps = everyEntry (apart e) ps
 unfoldable pub soundState : State → List ℕ → Bool
 soundState s x =
     eqb (length x) storeSize
+    && (eqb (length (s .comments)) commentsSize
+    && (eightColumns (s .columns)
     && (within 1 lastNumber (s .next)
     && (soundLock (s .lock)
-    && (soundPlaces (s .clock) (s .next) (s .entries) x
-    && distinct (view (s .entries) x))))
+    && (soundPlaces (s .clock) (s .next) (entriesOf s) x
+    && distinct (view (entriesOf s) x))))))
 
 -- ## The facts
 
@@ -128,19 +143,21 @@ pub record SoundLock (l : LockRecord) : Type 0 where
   pub lock-rest : Zeros (drop (l .len) (l .bytes))
 
 pub record Sound (s : State) (x : List ℕ) : Type 0 where
-  pub eight-entries : length (s .entries) ≡ 8
+  pub eight : Eight (s .columns)
+  pub comments-size : length (s .comments) ≡ commentsSize
   pub store-size : length x ≡ storeSize
   pub next-first : 1 ≤ s .next
   pub next-last : s .next ≤ lastNumber
   pub lock : SoundLock (s .lock)
-  pub places : Each (SoundPlace (s .clock) (s .next)) size (s .entries) x
-  pub distinct : Distinct (view (s .entries) x)
+  pub places : Each (SoundPlace (s .clock) (s .next)) size (entriesOf s) x
+  pub distinct : Distinct (view (entriesOf s) x)
 
--- entries whose blobs lie within their places
-pub record Housed (es : List Entry) (x : List ℕ) : Type 0 where
-  pub eight-entries : length es ≡ 8
+-- numbers and blobs' lengths of eight places, and a store in which the blobs lie within their places
+pub record Housed (numbers blobs x : List ℕ) : Type 0 where
+  pub eight-numbers : length numbers ≡ 8
+  pub eight-blobs : length blobs ≡ 8
   pub store-size : length x ≡ storeSize
-  pub blobs-fit : (i : ℕ) → i < 8 → getD es i noEntry .«blob_len» ≤ blobLimit
+  pub blobs-fit : (i : ℕ) → i < 8 → getD blobs i 0 ≤ blobLimit
 
 -- a state and store that mean this gateway, and are sound
 pub record Means (s : State) (x : List ℕ) (g : Gateway) : Type 0 where

@@ -18,7 +18,7 @@ pub fn wipe(p: &mut [u8])
 }
 
 // The bytes of `src` go into a part of the same length; whoever cuts the part cuts it so.
-pub(crate) fn copy_in(p: &mut [u8], src: &[u8])
+pub fn copy_in(p: &mut [u8], src: &[u8])
     requires { ⌜ length (now p) ≡ length (now src) ⌝ }
     ensures { λ r. ⌜ now (p .exit) ≡ now (src .entry) ⌝ }
 {
@@ -106,8 +106,8 @@ fn is_all_equal(a: &[u8], b: &[u8]) -> bool
     equal
 }
 
-// Up to 64 bytes: the blobs of two keys differ there, in their kind or in the first bytes of their numbers.
-fn front_length(n: usize) -> usize
+// Up to 64 bytes: blobs of one length differ there at the latest, in the last bytes of their numbers.
+fn back_length(n: usize) -> usize
     ensures { λ r. ⌜ r ≡ min n 64 ⌝ }
 {
     if n < 64 {
@@ -116,7 +116,7 @@ fn front_length(n: usize) -> usize
     64
 }
 
-// Stops behind the fronts where they differ, and goes over all that is left where not.
+// The last bytes first: it stops where they differ, and goes over all that is left where not.
 pub(crate) fn is_equal(a: &[u8], b: &[u8]) -> bool
     ensures { λ r. ⌜ r ≡ same (now (a .entry)) (now (b .entry)) ⌝ }
 {
@@ -124,9 +124,9 @@ pub(crate) fn is_equal(a: &[u8], b: &[u8]) -> bool
     if n != b.len() {
         return false;
     }
-    let k = front_length(n);
-    if !is_all_equal(&a[..k], &b[..k]) {
+    let k = n - back_length(n);
+    if !is_all_equal(&a[k..], &b[k..]) {
         return false;
     }
-    is_all_equal(&a[k..], &b[k..])
+    is_all_equal(&a[..k], &b[..k])
 }

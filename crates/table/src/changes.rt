@@ -1,13 +1,14 @@
 // Changing the places of a sound state: keys go on time or on request, and new ones come. Only a call that has tested soundness comes here.
-use crate::Entry;
-use crate::State;
+use crate::Figures;
+use crate::Kept;
 use crate::bytes::pad;
 use crate::bytes::wipe;
-use crate::comments::kept_comment;
+use crate::comments::keep_comment;
 use crate::flag_of;
-use crate::free_entry;
 use crate::is_set;
+use crate::no_figures;
 use crate::places::start_of;
+use crate::set_figures;
 use keys::addition::Carried;
 use keys::constraints::Lifetime;
 use rule::Millis;
@@ -15,15 +16,19 @@ use wire::Seconds;
 use wire::limits;
 use wire::read::cut;
 ghost use mathlib.Core.Path.{_≡_};
+ghost use mathlib.Core.List.{List};
 ghost use mathlib.Core.Option.{some};
-ghost use Prim.Native.Nat.{_≤_, _<_};
-ghost use lib.ListN.{length};
-ghost use Rattle.wire.specs.Limits.{placeSize, blobLimit, fieldsLimit, commentLimit};
+ghost use Prim.Native.Nat.{ℕ, _*_, _-_, _≤_, _<_};
+ghost use lib.ListN.{length, replicate};
+ghost use Rattle.wire.specs.Limits.{placeSize, storeSize, blobLimit, fieldsLimit, lastNumber};
+ghost use Rattle.wire.specs.Write.{write};
 ghost use Rattle.rule.specs.Gateway.{millisOf, dueAt, lasting, later, advance, without, withoutAll, newEntry, withEntry};
 ghost use Rattle.rule.specs.Rule.{brought, entryOf};
-ghost use Rattle.table.specs.Meaning.{lifetimeOf, gatewayOf, placeOf, limitedFlag, keptSeconds, entryFor, heldBytes, Written};
+ghost use Rattle.table.specs.declared.State.{State};
+ghost use Rattle.table.specs.Entries.{columns};
+ghost use Rattle.table.specs.Meaning.{limitedLifetime, gatewayOf, limitedFlag, keptSeconds, figuresFor, heldBytes, held, withTable};
 ghost use Rattle.table.specs.Soundness.{Sound, Means};
-ghost use Rattle.table.specs.Changes.{Standing, MayPut};
+ghost use Rattle.table.specs.Changes.{Roomy, changedAt, NewFits, MayPut};
 
 // Lifetimes count seconds and the clock counts milliseconds.
 pub fn millis_of(seconds: Seconds) -> Millis
@@ -34,29 +39,25 @@ pub fn millis_of(seconds: Seconds) -> Millis
     }
 }
 
-// Is this entry due at a clock that its reading is not above?
-fn is_due(e: Entry, clock: Millis) -> bool
-    requires { ⌜ e .reading .count ≤ clock .count ⌝ }
-    ensures { λ r. ⌜ r ≡ dueAt clock (e .reading) (lifetimeOf e) ⌝ }
+// How far a clock is past a reading; 0 where it is not.
+pub fn past(clock: Millis, reading: Millis) -> u64
+    ensures { λ r. ⌜ r ≡ clock .count - reading .count ⌝ }
 {
-    if !is_set(e.limited) {
-        return false;
+    if clock.count < reading.count {
+        return 0;
     }
-    let seconds = e.seconds;
-    let lifetime = millis_of(seconds);
-    lifetime.count <= clock.count - e.reading.count
+    clock.count - reading.count
 }
 
-// What is left at the clock of one place, its entry and its bytes: nothing if it is due.
-fn last(e: Entry, p: &mut [u8], clock: Millis) -> Entry
-    requires { ⌜ Standing clock e (now p) ⌝ }
-    ensures { λ r. ⌜ Written r (now (p .exit)) (lasting clock (placeOf e (now (p .entry)))) ⌝ }
+// Is an entry with this reading and lifetime due at the clock?
+fn is_due(reading: Millis, seconds: Seconds, limited: u8, clock: Millis) -> bool
+    ensures { λ r. ⌜ r ≡ dueAt clock reading (limitedLifetime limited seconds) ⌝ }
 {
-    if is_due(e, clock) {
-        wipe(p);
-        return free_entry();
+    if !is_set(limited) {
+        return false;
     }
-    e
+    let lifetime = millis_of(seconds);
+    lifetime.count <= past(clock, reading)
 }
 
 // The later of two readings.
@@ -69,69 +70,168 @@ fn later(a: Millis, b: Millis) -> Millis
     a
 }
 
-// The kept clock is raised to the reading, and what is due goes.
-pub fn advance(state: State, store: &mut [u8], reading: Millis) -> State
-    requires { ⌜ Sound state (now store) ⌝ }
-    ensures { λ r. ⌜ Means r (now (store .exit)) (advance reading (gatewayOf state (now (store .entry)))) ⌝ }
-{
-    let kept = state.clock;
-    let clock = later(kept, reading);
-    let mut es = state.entries;
-    let mut i = 0;
-    while i < 8 {
-        let from = start_of(i);
-        let to = start_of(i + 1);
-        let e = es[i];
-        es[i] = last(e, &mut store[from..to], clock);
-        i += 1;
-    }
-    let lock = state.lock;
-    State {
-        entries: es,
-        lock,
-        clock,
-        next: state.next,
-    }
-}
-
-// Place i is free, and its bytes are zero. A search has found it.
-pub fn remove(state: State, store: &mut [u8], i: usize) -> State
-    requires { ⌜ (i < 8) × Sound state (now store) ⌝ }
-    ensures { λ r. ⌜ Means r (now (store .exit)) (without i (gatewayOf state (now (store .entry)))) ⌝ }
+// The bytes of place i are zero.
+fn wipe_place(store: &mut [u8], i: usize)
+    requires { ⌜ (i < 8) × (length (now store) ≡ storeSize) ⌝ }
+    ensures { λ r. ⌜ now (store .exit) ≡ write (now (store .entry)) (i * placeSize) (replicate placeSize 0) ⌝ }
 {
     let from = start_of(i);
     let to = start_of(i + 1);
     wipe(&mut store[from..to]);
-    let mut es = state.entries;
-    es[i] = free_entry();
-    let lock = state.lock;
-    let clock = state.clock;
-    State {
-        entries: es,
-        lock,
+}
+
+// Place i is free, and its bytes are zero. A search has found it.
+pub fn remove(
+    numbers: &mut [u64],
+    readings: &mut [u64],
+    blob_lens: &mut [usize],
+    fields_lens: &mut [usize],
+    comment_lens: &mut [usize],
+    seconds: &mut [u32],
+    limited: &mut [u8],
+    confirm: &mut [u8],
+    comments: &mut [u8],
+    store: &mut [u8],
+    i: usize,
+)
+    requires { ⌜ (i < 8) × Roomy (columns (now numbers) (now readings) (now «blob_lens») (now «fields_lens») (now «comment_lens») (now seconds) (now limited) (now confirm)) (now comments) (now store) ⌝ }
+    ensures { λ r. ⌜ ((s : State) → s .columns ≡ (columns (now (numbers .entry)) (now (readings .entry)) (now («blob_lens» .entry)) (now («fields_lens» .entry)) (now («comment_lens» .entry)) (now (seconds .entry)) (now (limited .entry)) (now (confirm .entry))) → s .comments ≡ now (comments .entry) → Sound s (now (store .entry)) → Means (withTable (columns (now (numbers .exit)) (now (readings .exit)) (now («blob_lens» .exit)) (now («fields_lens» .exit)) (now («comment_lens» .exit)) (now (seconds .exit)) (now (limited .exit)) (now (confirm .exit))) (now (comments .exit)) s) (now (store .exit)) (without i (gatewayOf s (now (store .entry))))) × Roomy (columns (now (numbers .exit)) (now (readings .exit)) (now («blob_lens» .exit)) (now («fields_lens» .exit)) (now («comment_lens» .exit)) (now (seconds .exit)) (now (limited .exit)) (now (confirm .exit))) (now (comments .exit)) (now (store .exit)) ⌝ }
+{
+    wipe_place(store, i);
+    keep_comment(comments, i, &[]);
+    set_figures(
+        numbers,
+        readings,
+        blob_lens,
+        fields_lens,
+        comment_lens,
+        seconds,
+        limited,
+        confirm,
+        i,
+        no_figures(),
+    );
+}
+
+// What is due at the clock goes from place i.
+fn expire(
+    numbers: &mut [u64],
+    readings: &mut [u64],
+    blob_lens: &mut [usize],
+    fields_lens: &mut [usize],
+    comment_lens: &mut [usize],
+    seconds: &mut [u32],
+    limited: &mut [u8],
+    confirm: &mut [u8],
+    comments: &mut [u8],
+    store: &mut [u8],
+    i: usize,
+    clock: Millis,
+)
+    requires { ⌜ (i < 8) × Roomy (columns (now numbers) (now readings) (now «blob_lens») (now «fields_lens») (now «comment_lens») (now seconds) (now limited) (now confirm)) (now comments) (now store) ⌝ }
+    ensures { λ r. ⌜ ((s : State) → s .columns ≡ (columns (now (numbers .entry)) (now (readings .entry)) (now («blob_lens» .entry)) (now («fields_lens» .entry)) (now («comment_lens» .entry)) (now (seconds .entry)) (now (limited .entry)) (now (confirm .entry))) → s .comments ≡ now (comments .entry) → Sound s (now (store .entry)) → Means (withTable (columns (now (numbers .exit)) (now (readings .exit)) (now («blob_lens» .exit)) (now («fields_lens» .exit)) (now («comment_lens» .exit)) (now (seconds .exit)) (now (limited .exit)) (now (confirm .exit))) (now (comments .exit)) s) (now (store .exit)) (changedAt (lasting clock) i (gatewayOf s (now (store .entry))))) × Roomy (columns (now (numbers .exit)) (now (readings .exit)) (now («blob_lens» .exit)) (now («fields_lens» .exit)) (now («comment_lens» .exit)) (now (seconds .exit)) (now (limited .exit)) (now (confirm .exit))) (now (comments .exit)) (now (store .exit)) ⌝ }
+{
+    let reading = Millis { count: readings[i] };
+    let lifetime = Seconds { count: seconds[i] };
+    if !is_due(reading, lifetime, limited[i], clock) {
+        return;
+    }
+    remove(
+        numbers,
+        readings,
+        blob_lens,
+        fields_lens,
+        comment_lens,
+        seconds,
+        limited,
+        confirm,
+        comments,
+        store,
+        i,
+    );
+}
+
+// The kept clock is raised to the reading, and what is due goes. Where nothing is, nothing is written.
+pub fn advance(
+    numbers: &mut [u64],
+    readings: &mut [u64],
+    blob_lens: &mut [usize],
+    fields_lens: &mut [usize],
+    comment_lens: &mut [usize],
+    seconds: &mut [u32],
+    limited: &mut [u8],
+    confirm: &mut [u8],
+    comments: &mut [u8],
+    kept: Kept,
+    store: &mut [u8],
+    reading: Millis,
+) -> Kept
+    requires { ⌜ Roomy (columns (now numbers) (now readings) (now «blob_lens») (now «fields_lens») (now «comment_lens») (now seconds) (now limited) (now confirm)) (now comments) (now store) ⌝ }
+    ensures { λ r. ⌜ ((b : List ℕ) → Sound (held (columns (now (numbers .entry)) (now (readings .entry)) (now («blob_lens» .entry)) (now («fields_lens» .entry)) (now («comment_lens» .entry)) (now (seconds .entry)) (now (limited .entry)) (now (confirm .entry))) (now (comments .entry)) b kept) (now (store .entry)) → Means (held (columns (now (numbers .exit)) (now (readings .exit)) (now («blob_lens» .exit)) (now («fields_lens» .exit)) (now («comment_lens» .exit)) (now (seconds .exit)) (now (limited .exit)) (now (confirm .exit))) (now (comments .exit)) b r) (now (store .exit)) (advance reading (gatewayOf (held (columns (now (numbers .entry)) (now (readings .entry)) (now («blob_lens» .entry)) (now («fields_lens» .entry)) (now («comment_lens» .entry)) (now (seconds .entry)) (now (limited .entry)) (now (confirm .entry))) (now (comments .entry)) b kept) (now (store .entry))))) ⌝ }
+{
+    let before = kept.clock;
+    let clock = later(before, reading);
+    let mut i = 0;
+    while i < 8 {
+        expire(
+            numbers,
+            readings,
+            blob_lens,
+            fields_lens,
+            comment_lens,
+            seconds,
+            limited,
+            confirm,
+            comments,
+            store,
+            i,
+            clock,
+        );
+        i += 1;
+    }
+    Kept {
         clock,
-        next: state.next,
+        next: kept.next,
+        locked: kept.locked,
     }
 }
 
 // All places are free, and the store is zero.
-pub fn remove_all(state: State, store: &mut [u8]) -> State
-    requires { ⌜ Sound state (now store) ⌝ }
-    ensures { λ r. ⌜ Means r (now (store .exit)) (withoutAll (gatewayOf state (now (store .entry)))) ⌝ }
+pub fn remove_all(
+    numbers: &mut [u64],
+    readings: &mut [u64],
+    blob_lens: &mut [usize],
+    fields_lens: &mut [usize],
+    comment_lens: &mut [usize],
+    seconds: &mut [u32],
+    limited: &mut [u8],
+    confirm: &mut [u8],
+    comments: &mut [u8],
+    store: &mut [u8],
+)
+    requires { ⌜ Roomy (columns (now numbers) (now readings) (now «blob_lens») (now «fields_lens») (now «comment_lens») (now seconds) (now limited) (now confirm)) (now comments) (now store) ⌝ }
+    ensures { λ r. ⌜ ((s : State) → s .columns ≡ (columns (now (numbers .entry)) (now (readings .entry)) (now («blob_lens» .entry)) (now («fields_lens» .entry)) (now («comment_lens» .entry)) (now (seconds .entry)) (now (limited .entry)) (now (confirm .entry))) → s .comments ≡ now (comments .entry) → Sound s (now (store .entry)) → Means (withTable (columns (now (numbers .exit)) (now (readings .exit)) (now («blob_lens» .exit)) (now («fields_lens» .exit)) (now («comment_lens» .exit)) (now (seconds .exit)) (now (limited .exit)) (now (confirm .exit))) (now (comments .exit)) s) (now (store .exit)) (withoutAll (gatewayOf s (now (store .entry))))) ⌝ }
 {
-    wipe(store);
-    let e = free_entry();
-    let lock = state.lock;
-    let clock = state.clock;
-    State {
-        entries: [e; 8],
-        lock,
-        clock,
-        next: state.next,
+    let mut i = 0;
+    while i < 8 {
+        remove(
+            numbers,
+            readings,
+            blob_lens,
+            fields_lens,
+            comment_lens,
+            seconds,
+            limited,
+            confirm,
+            comments,
+            store,
+            i,
+        );
+        i += 1;
     }
 }
 
-// What an entry keeps of its lifetime: a flag, and seconds.
+// What is kept of a lifetime: a flag, and seconds.
 fn limited_flag(lifetime: Lifetime) -> u8
     ensures { λ r. ⌜ r ≡ limitedFlag lifetime ⌝ }
 {
@@ -150,28 +250,33 @@ fn kept_seconds(lifetime: Lifetime) -> Seconds
     }
 }
 
-// The entry of a new key.
-fn held_entry(number: u64, reading: Millis, payload: &[u8], carried: Carried, blob: &[u8]) -> Entry
-    requires { ⌜ length (brought (now payload) carried (now blob) .comment) ≤ commentLimit ⌝ }
-    ensures { λ r. ⌜ r ≡ entryFor (some (newEntry number reading (brought (now (payload .entry)) carried (now (blob .entry))))) ⌝ }
+// The figures of a new key.
+fn held_figures(
+    number: u64,
+    reading: Millis,
+    payload: &[u8],
+    carried: Carried,
+    blob: &[u8],
+) -> Figures
+    ensures { λ r. ⌜ r ≡ figuresFor (some (newEntry number reading (brought (now (payload .entry)) carried (now (blob .entry))))) ⌝ }
 {
     let lifetime = carried.lifetime;
     let fields = cut(payload, 1, carried.places.end);
     let comment = cut(payload, carried.comment.from, carried.comment.to);
-    Entry {
+    Figures {
         number,
         reading,
-        limited: limited_flag(lifetime),
-        seconds: kept_seconds(lifetime),
-        confirm: flag_of(carried.confirm),
         blob_len: blob.len(),
         fields_len: fields.len(),
-        comment: kept_comment(comment),
+        comment_len: comment.len(),
+        seconds: kept_seconds(lifetime),
+        limited: limited_flag(lifetime),
+        confirm: flag_of(carried.confirm),
     }
 }
 
 // The bytes of a key's place: the blob and zeros up to 1,024, the fields and zeros up to the end.
-fn fill_place(p: &mut [u8], blob: &[u8], fields: &[u8])
+fn fill(p: &mut [u8], blob: &[u8], fields: &[u8])
     requires { ⌜ (length (now p) ≡ placeSize) × (length (now blob) ≤ blobLimit) × (length (now fields) ≤ fieldsLimit) ⌝ }
     ensures { λ r. ⌜ now (p .exit) ≡ heldBytes (now (blob .entry)) (now (fields .entry)) ⌝ }
 {
@@ -179,30 +284,58 @@ fn fill_place(p: &mut [u8], blob: &[u8], fields: &[u8])
     pad(&mut p[limits::FIELDS_AT..], fields);
 }
 
+fn fill_place(store: &mut [u8], i: usize, blob: &[u8], fields: &[u8])
+    requires { ⌜ (i < 8) × (length (now store) ≡ storeSize) × (length (now blob) ≤ blobLimit) × (length (now fields) ≤ fieldsLimit) ⌝ }
+    ensures { λ r. ⌜ now (store .exit) ≡ write (now (store .entry)) (i * placeSize) (heldBytes (now (blob .entry)) (now (fields .entry))) ⌝ }
+{
+    let from = start_of(i);
+    let to = start_of(i + 1);
+    fill(&mut store[from..to], blob, fields);
+}
+
 // Place i takes a key, with the next number and the kept clock. Who adds has tested lengths and number, and has i from `places::place_for`.
 pub fn put(
-    state: State,
+    numbers: &mut [u64],
+    readings: &mut [u64],
+    blob_lens: &mut [usize],
+    fields_lens: &mut [usize],
+    comment_lens: &mut [usize],
+    seconds: &mut [u32],
+    limited: &mut [u8],
+    confirm: &mut [u8],
+    comments: &mut [u8],
+    kept: Kept,
     store: &mut [u8],
     i: usize,
     payload: &[u8],
     carried: Carried,
     blob: &[u8],
-) -> State
-    requires { ⌜ MayPut state (now store) i (brought (now payload) carried (now blob)) ⌝ }
-    ensures { λ r. ⌜ Means r (now (store .exit)) (withEntry i (entryOf (gatewayOf state (now (store .entry))) (now (payload .entry)) carried (now (blob .entry))) (gatewayOf state (now (store .entry)))) ⌝ }
+) -> Kept
+    requires { ⌜ (i < 8) × (kept .next < lastNumber) × NewFits (brought (now payload) carried (now blob)) × Roomy (columns (now numbers) (now readings) (now «blob_lens») (now «fields_lens») (now «comment_lens») (now seconds) (now limited) (now confirm)) (now comments) (now store) ⌝ }
+    ensures { λ r. ⌜ ((b : List ℕ) → MayPut (held (columns (now (numbers .entry)) (now (readings .entry)) (now («blob_lens» .entry)) (now («fields_lens» .entry)) (now («comment_lens» .entry)) (now (seconds .entry)) (now (limited .entry)) (now (confirm .entry))) (now (comments .entry)) b kept) (now (store .entry)) i (brought (now (payload .entry)) carried (now (blob .entry))) → Means (held (columns (now (numbers .exit)) (now (readings .exit)) (now («blob_lens» .exit)) (now («fields_lens» .exit)) (now («comment_lens» .exit)) (now (seconds .exit)) (now (limited .exit)) (now (confirm .exit))) (now (comments .exit)) b r) (now (store .exit)) (withEntry i (entryOf (gatewayOf (held (columns (now (numbers .entry)) (now (readings .entry)) (now («blob_lens» .entry)) (now («fields_lens» .entry)) (now («comment_lens» .entry)) (now (seconds .entry)) (now (limited .entry)) (now (confirm .entry))) (now (comments .entry)) b kept) (now (store .entry))) (now (payload .entry)) carried (now (blob .entry))) (gatewayOf (held (columns (now (numbers .entry)) (now (readings .entry)) (now («blob_lens» .entry)) (now («fields_lens» .entry)) (now («comment_lens» .entry)) (now (seconds .entry)) (now (limited .entry)) (now (confirm .entry))) (now (comments .entry)) b kept) (now (store .entry))))) ⌝ }
 {
-    let from = start_of(i);
-    let to = start_of(i + 1);
-    let fields = cut(payload, 1, carried.places.end);
-    fill_place(&mut store[from..to], blob, fields);
-    let clock = state.clock;
-    let mut es = state.entries;
-    es[i] = held_entry(state.next, clock, payload, carried, blob);
-    let lock = state.lock;
-    State {
-        entries: es,
-        lock,
+    let clock = kept.clock;
+    fill_place(store, i, blob, cut(payload, 1, carried.places.end));
+    keep_comment(
+        comments,
+        i,
+        cut(payload, carried.comment.from, carried.comment.to),
+    );
+    set_figures(
+        numbers,
+        readings,
+        blob_lens,
+        fields_lens,
+        comment_lens,
+        seconds,
+        limited,
+        confirm,
+        i,
+        held_figures(kept.next, clock, payload, carried, blob),
+    );
+    Kept {
         clock,
-        next: state.next + 1,
+        next: kept.next + 1,
+        locked: kept.locked,
     }
 }

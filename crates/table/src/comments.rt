@@ -1,48 +1,51 @@
-// The comment of an entry: kept, and tested.
-use crate::Comment;
-use crate::bytes::copy_in;
+// The comments: where that of a place lies, kept, and tested.
 use crate::bytes::is_zero;
+use crate::bytes::pad;
 use wire::limits;
 ghost use mathlib.Core.Path.{_≡_};
-ghost use Prim.Native.Nat.{_≤_};
-ghost use lib.ListN.{length, replicate};
+ghost use Prim.Native.Nat.{_*_, _≤_, _<_};
+ghost use lib.ListN.{length};
 ghost use Rattle.wire.specs.Limits.{commentLimit};
-ghost use Rattle.table.specs.Meaning.{keptComment};
-ghost use Rattle.table.specs.Soundness.{soundComment, zeroComment};
+ghost use Rattle.wire.specs.Write.{write};
+ghost use Rattle.table.specs.Bytes.{padded};
+ghost use Rattle.table.specs.Entries.{commentPart, commentsSize};
+ghost use Rattle.table.specs.Soundness.{soundComment};
 
-fn zeros() -> [u8; limits::COMMENT_LIMIT]
-    ensures { λ r. ⌜ r ≡ replicate commentLimit 0 ⌝ }
+// Where the comment of place i begins; that of the last ends where a ninth would begin.
+fn comment_start(i: usize) -> usize
+    requires { ⌜ i ≤ 8 ⌝ }
+    ensures { λ r. ⌜ r ≡ i * commentLimit ⌝ }
 {
-    [0u8; limits::COMMENT_LIMIT]
+    i * limits::COMMENT_LIMIT
 }
 
-// The comment's bytes, and zeros behind them. Who adds has tested the length.
-pub(crate) fn kept_comment(c: &[u8]) -> Comment
-    requires { ⌜ length (now c) ≤ commentLimit ⌝ }
-    ensures { λ r. ⌜ r ≡ keptComment (now (c .entry)) ⌝ }
+// The 255 bytes for the comment of place i.
+pub fn comment_bytes(comments: &[u8], i: usize) -> &[u8]
+    requires { ⌜ (i < 8) × (length (now comments) ≡ commentsSize) ⌝ }
+    ensures { λ r. ⌜ now r ≡ commentPart (now (comments .entry)) i ⌝ }
 {
-    let mut bytes = zeros();
-    let len = c.len();
-    copy_in(&mut bytes[..len], c);
-    Comment { bytes, len }
+    let from = comment_start(i);
+    let to = comment_start(i + 1);
+    &comments[from..to]
 }
 
-pub(crate) fn is_comment_sound(c: Comment) -> bool
-    ensures { λ r. ⌜ r ≡ soundComment c ⌝ }
+// Place i keeps this comment, with zeros behind it. Who adds has tested the length.
+pub(crate) fn keep_comment(comments: &mut [u8], i: usize, comment: &[u8])
+    requires { ⌜ (i < 8) × (length (now comments) ≡ commentsSize) × (length (now comment) ≤ commentLimit) ⌝ }
+    ensures { λ r. ⌜ now (comments .exit) ≡ write (now (comments .entry)) (i * commentLimit) (padded commentLimit (now (comment .entry))) ⌝ }
 {
-    let n = c.len;
-    if limits::COMMENT_LIMIT < n {
+    let from = comment_start(i);
+    let to = comment_start(i + 1);
+    pad(&mut comments[from..to], comment);
+}
+
+// Is the length within the 255 bytes, and zero what is behind it?
+pub(crate) fn is_comment_sound(bytes: &[u8], len: usize) -> bool
+    requires { ⌜ length (now bytes) ≡ commentLimit ⌝ }
+    ensures { λ r. ⌜ r ≡ soundComment (record { bytes = now (bytes .entry); len = len }) ⌝ }
+{
+    if limits::COMMENT_LIMIT < len {
         return false;
     }
-    let b = c.bytes;
-    is_zero(&b[n..])
-}
-
-pub(crate) fn is_comment_zero(c: Comment) -> bool
-    ensures { λ r. ⌜ r ≡ zeroComment c ⌝ }
-{
-    if !is_comment_sound(c) {
-        return false;
-    }
-    c.len == 0
+    is_zero(&bytes[len..])
 }

@@ -1,5 +1,5 @@
-// The gateway's state by value and its key store lent: eight places of 4,096 bytes, the lock record, the kept clock, the next number.
-// No crate above names an offset in the store or the size of a place.
+// The gateway's state and its key store: eight places of 4,096 bytes, their figures in columns, the lock record, the kept clock, the next number.
+// Columns and store are lent to what works on them. No crate above names an offset in the store or the size of a place.
 pub mod bytes;
 pub mod changes;
 pub mod comments;
@@ -12,27 +12,37 @@ use wire::Seconds;
 use wire::limits;
 ghost use mathlib.Core.Path.{_≡_};
 ghost use mathlib.Core.Option.{none};
+ghost use Prim.Native.Nat.{_<_};
 ghost use Rattle.rule.specs.Gateway.{fresh as freshGateway};
-ghost use Rattle.table.specs.Meaning.{isSet, flagOf, entryFor, stateOf};
+ghost use Rattle.table.specs.Entries.{columns, figuresAt, figuresSet, Eight};
+ghost use Rattle.table.specs.Meaning.{isSet, flagOf, figuresFor, stateOf};
 
-// A comment and its length; the rest is zero.
-#[repr(C)]
-pub struct Comment {
-    pub bytes: [u8; limits::COMMENT_LIMIT],
-    pub len: usize,
-}
+// The comments of eight places, 255 bytes for each.
+pub const COMMENTS_SIZE: usize = 8 * limits::COMMENT_LIMIT;
 
-// What is kept of a place beside its bytes; `limited` and `confirm` are 0 or 1. A free place is all zero.
-#[repr(C)]
-pub struct Entry {
+// What the columns have at one index; `limited` and `confirm` are 0 or 1. Those of a free place are all zero.
+pub struct Figures {
     pub number: u64,
     pub reading: Millis,
-    pub limited: u8,
-    pub seconds: Seconds,
-    pub confirm: u8,
     pub blob_len: usize,
     pub fields_len: usize,
-    pub comment: Comment,
+    pub comment_len: usize,
+    pub seconds: Seconds,
+    pub limited: u8,
+    pub confirm: u8,
+}
+
+// What is kept of each place beside its bytes and its comment. Readings count milliseconds.
+#[repr(C)]
+pub struct Columns {
+    pub numbers: [u64; 8],
+    pub readings: [u64; 8],
+    pub blob_lens: [usize; 8],
+    pub fields_lens: [usize; 8],
+    pub comment_lens: [usize; 8],
+    pub seconds: [u32; 8],
+    pub limited: [u8; 8],
+    pub confirm: [u8; 8],
 }
 
 // The passphrase and its length; the rest is zero. A length of 0 is open.
@@ -42,12 +52,21 @@ pub struct LockRecord {
     pub len: usize,
 }
 
+// Behind a comment its 255 bytes are zero.
 #[repr(C)]
 pub struct State {
-    pub entries: [Entry; 8],
+    pub columns: Columns,
+    pub comments: [u8; COMMENTS_SIZE],
     pub lock: LockRecord,
     pub clock: Millis,
     pub next: u64,
+}
+
+// What goes by value where the rest of a state is lent: the kept clock, the next number, the passphrase's length.
+pub struct Kept {
+    pub clock: Millis,
+    pub next: u64,
+    pub locked: usize,
 }
 
 // What a flag says.
@@ -66,33 +85,95 @@ fn flag_of(yes: bool) -> u8
     0
 }
 
-// The entry of a free place.
-fn free_entry() -> Entry
-    ensures { λ r. ⌜ r ≡ entryFor none ⌝ }
+// The figures of a free place.
+fn no_figures() -> Figures
+    ensures { λ r. ⌜ r ≡ figuresFor none ⌝ }
 {
-    Entry {
+    Figures {
         number: 0,
         reading: Millis { count: 0 },
-        limited: 0,
-        seconds: Seconds { count: 0 },
-        confirm: 0,
         blob_len: 0,
         fields_len: 0,
-        comment: Comment {
-            bytes: [0u8; limits::COMMENT_LIMIT],
-            len: 0,
-        },
+        comment_len: 0,
+        seconds: Seconds { count: 0 },
+        limited: 0,
+        confirm: 0,
     }
+}
+
+// The figures of place i, in the number types that 01 keeps apart.
+pub fn figures_at(
+    numbers: &[u64],
+    readings: &[u64],
+    blob_lens: &[usize],
+    fields_lens: &[usize],
+    comment_lens: &[usize],
+    seconds: &[u32],
+    limited: &[u8],
+    confirm: &[u8],
+    i: usize,
+) -> Figures
+    requires { ⌜ (i < 8) × Eight (columns (now numbers) (now readings) (now «blob_lens») (now «fields_lens») (now «comment_lens») (now seconds) (now limited) (now confirm)) ⌝ }
+    ensures { λ r. ⌜ r ≡ figuresAt (columns (now (numbers .entry)) (now (readings .entry)) (now («blob_lens» .entry)) (now («fields_lens» .entry)) (now («comment_lens» .entry)) (now (seconds .entry)) (now (limited .entry)) (now (confirm .entry))) i ⌝ }
+{
+    Figures {
+        number: numbers[i],
+        reading: Millis { count: readings[i] },
+        blob_len: blob_lens[i],
+        fields_len: fields_lens[i],
+        comment_len: comment_lens[i],
+        seconds: Seconds { count: seconds[i] },
+        limited: limited[i],
+        confirm: confirm[i],
+    }
+}
+
+// Place i has these figures.
+fn set_figures(
+    numbers: &mut [u64],
+    readings: &mut [u64],
+    blob_lens: &mut [usize],
+    fields_lens: &mut [usize],
+    comment_lens: &mut [usize],
+    seconds: &mut [u32],
+    limited: &mut [u8],
+    confirm: &mut [u8],
+    i: usize,
+    f: Figures,
+)
+    requires { ⌜ (i < 8) × Eight (columns (now numbers) (now readings) (now «blob_lens») (now «fields_lens») (now «comment_lens») (now seconds) (now limited) (now confirm)) ⌝ }
+    ensures { λ r. ⌜ (columns (now (numbers .exit)) (now (readings .exit)) (now («blob_lens» .exit)) (now («fields_lens» .exit)) (now («comment_lens» .exit)) (now (seconds .exit)) (now (limited .exit)) (now (confirm .exit))) ≡ figuresSet i f (columns (now (numbers .entry)) (now (readings .entry)) (now («blob_lens» .entry)) (now («fields_lens» .entry)) (now («comment_lens» .entry)) (now (seconds .entry)) (now (limited .entry)) (now (confirm .entry))) ⌝ }
+{
+    numbers[i] = f.number;
+    readings[i] = f.reading.count;
+    blob_lens[i] = f.blob_len;
+    fields_lens[i] = f.fields_len;
+    comment_lens[i] = f.comment_len;
+    seconds[i] = f.seconds.count;
+    limited[i] = f.limited;
+    confirm[i] = f.confirm;
 }
 
 // All zero, next insertion number 1.
 pub fn fresh() -> State
     ensures { λ r. ⌜ r ≡ stateOf freshGateway ⌝ }
 {
-    let e = free_entry();
     State {
-        entries: [e; 8],
-        lock: locks::locked_by(&[]),
+        columns: Columns {
+            numbers: [0u64; 8],
+            readings: [0u64; 8],
+            blob_lens: [0usize; 8],
+            fields_lens: [0usize; 8],
+            comment_lens: [0usize; 8],
+            seconds: [0u32; 8],
+            limited: [0u8; 8],
+            confirm: [0u8; 8],
+        },
+        comments: [0u8; COMMENTS_SIZE],
+        lock: LockRecord {
+            bytes: [0u8; limits::PASSPHRASE_LIMIT],
+            len: 0,
+        },
         clock: Millis { count: 0 },
         next: 1,
     }

@@ -1,9 +1,7 @@
 // Reading the places: what each holds, and the searches over all of them. Only a call that has tested soundness comes here, and the test itself,
-// once the store's length is right. A place is below 8, since a search found it or a loop counts so far.
-use crate::Comment;
-use crate::Entry;
-use crate::State;
+// once lengths are right. A place is below 8, since a search found it or a loop counts so far.
 use crate::bytes::is_equal;
+use crate::comments::comment_bytes;
 use crate::is_set;
 use rule::Found;
 use wire::limits;
@@ -13,12 +11,13 @@ ghost use mathlib.Core.Option.{none};
 ghost use mathlib.Core.List.{List};
 ghost use Prim.Native.Nat.{ℕ, _+_, _*_, _≤_, _<_};
 ghost use lib.ListN.{length, getD};
-ghost use Rattle.wire.specs.Limits.{placeSize, storeSize, fieldsAt};
+ghost use Rattle.wire.specs.Limits.{placeSize, storeSize, blobLimit, fieldsAt, commentLimit};
 ghost use Rattle.wire.specs.Parts.{PartOf};
 ghost use Rattle.rule.specs.Gateway.{seek, holds, isFree, placeFor};
-ghost use Rattle.table.specs.declared.Entry.{Entry};
-ghost use Rattle.table.specs.Meaning.{isSet, gatewayOf, placeOf, numberIn, confirmIn, blobIn, commentIn, noEntry, startOf, partAt, keptComment};
-ghost use Rattle.table.specs.Soundness.{Sound};
+ghost use Rattle.table.specs.declared.State.{State};
+ghost use Rattle.table.specs.Entries.{Entry, commentsSize};
+ghost use Rattle.table.specs.Meaning.{isSet, gatewayOf, placeOf, numberIn, confirmIn, blobIn, commentIn, entriesOf, startOf, partAt};
+ghost use Rattle.table.specs.Soundness.{Sound, Housed};
 
 // Where the bytes of place i begin; those of the last end where a ninth place would begin.
 pub fn start_of(i: usize) -> usize
@@ -47,79 +46,68 @@ pub fn bytes_at(store: &[u8], i: usize) -> &[u8]
 }
 
 // Does a place hold a key?
-pub fn is_held(state: State, i: usize) -> bool
-    requires { ⌜ i < 8 ⌝ }
-    ensures { λ r. ⌜ ((x : List ℕ) → r ≡ not (isFree (getD (gatewayOf state x .places) i none))) ⌝ }
+pub fn is_held(numbers: &[u64], i: usize) -> bool
+    requires { ⌜ (i < 8) × (length (now numbers) ≡ 8) ⌝ }
+    ensures { λ r. ⌜ ((s : State) (x : List ℕ) → s .columns .numbers ≡ now (numbers .entry) → r ≡ not (isFree (getD (gatewayOf s x .places) i none))) ⌝ }
 {
-    let es = state.entries;
-    let e = es[i];
-    e.number != 0
+    numbers[i] != 0
 }
 
 // The insertion number of a place's key, 0 where it is free.
-pub fn number_at(state: State, i: usize) -> u64
-    requires { ⌜ i < 8 ⌝ }
-    ensures { λ r. ⌜ ((x : List ℕ) → r ≡ numberIn (getD (gatewayOf state x .places) i none)) ⌝ }
+pub fn number_at(numbers: &[u64], i: usize) -> u64
+    requires { ⌜ (i < 8) × (length (now numbers) ≡ 8) ⌝ }
+    ensures { λ r. ⌜ ((s : State) (x : List ℕ) → s .columns .numbers ≡ now (numbers .entry) → r ≡ numberIn (getD (gatewayOf s x .places) i none)) ⌝ }
 {
-    let es = state.entries;
-    let e = es[i];
-    e.number
+    numbers[i]
 }
 
 // Does a place's key have Confirm?
-pub fn confirm_at(state: State, i: usize) -> bool
-    requires { ⌜ i < 8 ⌝ }
-    ensures { λ r. ⌜ (r ≡ isSet (getD (state .entries) i noEntry .confirm)) × ((x : List ℕ) → Sound state x → r ≡ confirmIn (getD (gatewayOf state x .places) i none)) ⌝ }
+pub fn confirm_at(confirm: &[u8], i: usize) -> bool
+    requires { ⌜ (i < 8) × (length (now confirm) ≡ 8) ⌝ }
+    ensures { λ r. ⌜ (r ≡ isSet (getD (now (confirm .entry)) i 0)) × ((s : State) (x : List ℕ) → s .columns .confirm ≡ now (confirm .entry) → Sound s x → r ≡ confirmIn (getD (gatewayOf s x .places) i none)) ⌝ }
 {
-    let es = state.entries;
-    let e = es[i];
-    is_set(e.confirm)
+    is_set(confirm[i])
 }
 
 // The blob of a place's key, empty where the place is free; it begins where the place does.
-pub fn blob_at(state: State, store: &[u8], i: usize) -> &[u8]
-    requires { ⌜ (i < 8) × Sound state (now store) ⌝ }
-    ensures { λ r. ⌜ PartOf (store .entry) (startOf (state .entries) i) (blobIn (getD (gatewayOf state (now (store .entry)) .places) i none)) r ⌝ }
+pub fn blob_at<'a>(blob_lens: &[usize], store: &'a [u8], i: usize) -> &'a [u8]
+    requires { ⌜ (i < 8) × (length (now store) ≡ storeSize) × (length (now «blob_lens») ≡ 8) × (getD (now «blob_lens») i 0 ≤ blobLimit) ⌝ }
+    ensures { λ r. ⌜ ((s : State) → s .columns .«blob_lens» ≡ now («blob_lens» .entry) → Sound s (now (store .entry)) → PartOf (store .entry) (startOf (entriesOf s) i) (blobIn (getD (gatewayOf s (now (store .entry)) .places) i none)) r) ⌝ }
 {
-    let es = state.entries;
-    let e = es[i];
     let p = bytes_at(store, i);
-    let n = e.blob_len;
+    let n = blob_lens[i];
     &p[..n]
 }
 
 // The comment of a place's key, empty where the place is free.
-pub fn comment_at(state: State, i: usize) -> Comment
-    requires { ⌜ i < 8 ⌝ }
-    ensures { λ r. ⌜ (r ≡ getD (state .entries) i noEntry .comment) × ((x : List ℕ) → Sound state x → r ≡ keptComment (commentIn (getD (gatewayOf state x .places) i none))) ⌝ }
+pub fn comment_at<'a>(comment_lens: &[usize], comments: &'a [u8], i: usize) -> &'a [u8]
+    requires { ⌜ (i < 8) × (length (now comments) ≡ commentsSize) × (length (now «comment_lens») ≡ 8) × (getD (now «comment_lens») i 0 ≤ commentLimit) ⌝ }
+    ensures { λ r. ⌜ ((s : State) (x : List ℕ) → s .columns .«comment_lens» ≡ now («comment_lens» .entry) → s .comments ≡ now (comments .entry) → Sound s x → now r ≡ commentIn (getD (gatewayOf s x .places) i none)) ⌝ }
 {
-    let es = state.entries;
-    let e = es[i];
-    e.comment
+    let bytes = comment_bytes(comments, i);
+    let n = comment_lens[i];
+    &bytes[..n]
 }
 
-// Does the place of this entry and these bytes hold the blob?
-fn is_holding(e: Entry, p: &[u8], blob: &[u8]) -> bool
-    requires { ⌜ e .«blob_len» ≤ length (now p) ⌝ }
-    ensures { λ r. ⌜ r ≡ holds (now (blob .entry)) (placeOf e (now (p .entry))) ⌝ }
+// Does the place with this number, this length of a blob and these bytes hold the blob? Lengths are told apart before a byte is read.
+fn is_holding(number: u64, n: usize, p: &[u8], blob: &[u8]) -> bool
+    requires { ⌜ n ≤ length (now p) ⌝ }
+    ensures { λ r. ⌜ ((e : Entry) → e .number ≡ number → e .«blob_len» ≡ n → r ≡ holds (now (blob .entry)) (placeOf e (now (p .entry)))) ⌝ }
 {
-    if e.number == 0 {
+    if number == 0 {
         return false;
     }
-    let n = e.blob_len;
     is_equal(&p[..n], blob)
 }
 
 // The place that holds the blob.
-pub fn find(state: State, store: &[u8], blob: &[u8]) -> Found
-    requires { ⌜ Sound state (now store) ⌝ }
-    ensures { λ r. ⌜ r ≡ seek (holds (now (blob .entry))) 0 (gatewayOf state (now (store .entry)) .places) ⌝ }
+pub fn find(numbers: &[u64], blob_lens: &[usize], store: &[u8], blob: &[u8]) -> Found
+    requires { ⌜ Housed (now numbers) (now «blob_lens») (now store) ⌝ }
+    ensures { λ r. ⌜ ((s : State) → s .columns .numbers ≡ now (numbers .entry) → s .columns .«blob_lens» ≡ now («blob_lens» .entry) → r ≡ seek (holds (now (blob .entry))) 0 (gatewayOf s (now (store .entry)) .places)) ⌝ }
 {
-    let es = state.entries;
     let mut i = 0;
     while i < 8 {
-        let e = es[i];
-        if is_holding(e, bytes_at(store, i), blob) {
+        if is_holding(numbers[i], blob_lens[i], bytes_at(store, i), blob) {
             return Found::At(i);
         }
         i += 1;
@@ -128,14 +116,13 @@ pub fn find(state: State, store: &[u8], blob: &[u8]) -> Found
 }
 
 // The lowest free place.
-fn lowest_free(state: State) -> Found
-    ensures { λ r. ⌜ ((x : List ℕ) → r ≡ seek isFree 0 (gatewayOf state x .places)) ⌝ }
+fn lowest_free(numbers: &[u64]) -> Found
+    requires { ⌜ length (now numbers) ≡ 8 ⌝ }
+    ensures { λ r. ⌜ ((s : State) (x : List ℕ) → s .columns .numbers ≡ now (numbers .entry) → r ≡ seek isFree 0 (gatewayOf s x .places)) ⌝ }
 {
-    let es = state.entries;
     let mut i = 0;
     while i < 8 {
-        let e = es[i];
-        if e.number == 0 {
+        if numbers[i] == 0 {
             return Found::At(i);
         }
         i += 1;
@@ -144,12 +131,12 @@ fn lowest_free(state: State) -> Found
 }
 
 // The place for a key with this blob: the one that holds it, else the lowest free one.
-pub fn place_for(state: State, store: &[u8], blob: &[u8]) -> Found
-    requires { ⌜ Sound state (now store) ⌝ }
-    ensures { λ r. ⌜ r ≡ placeFor (now (blob .entry)) (gatewayOf state (now (store .entry)) .places) ⌝ }
+pub fn place_for(numbers: &[u64], blob_lens: &[usize], store: &[u8], blob: &[u8]) -> Found
+    requires { ⌜ Housed (now numbers) (now «blob_lens») (now store) ⌝ }
+    ensures { λ r. ⌜ ((s : State) → s .columns .numbers ≡ now (numbers .entry) → s .columns .«blob_lens» ≡ now («blob_lens» .entry) → r ≡ placeFor (now (blob .entry)) (gatewayOf s (now (store .entry)) .places)) ⌝ }
 {
-    match find(state, store, blob) {
+    match find(numbers, blob_lens, store, blob) {
         Found::At(i) => Found::At(i),
-        Found::Nothing => lowest_free(state),
+        Found::Nothing => lowest_free(numbers),
     }
 }

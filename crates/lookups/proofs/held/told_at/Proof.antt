@@ -1,54 +1,44 @@
--- The entry is written as its key is, and starts and lengths give the parts. Assumes nothing.
-use native.Mathlib.Omega.{arith}
-use mathlib.Core.Path.{sym, _∙_}
-use lib.ListN.{length}
-use Prim.Native.Nat.{_≤_}
+-- The entry of a held place is written as its key is. Assumes nothing.
 use borrow.Author.Needs.{needs}
-use Rattle.table.proofs.SizeLaws.{place-start, fields-start}
-use Rattle.lookups.proofs.EntryLaws.{entry-kept, entry-is, told-is}
+use mathlib.Core.Path.{refl, ap, _∙_}
+use lib.ListN.{length}
+use Rattle.table.proofs.ReadLaws.{comment-part-size}
+use Rattle.table.specs.Entries.{entryBy}
+use Rattle.lookups.specs.declared.Comment.{Comment}
+use Rattle.lookups.proofs.EntryLaws.{entry-kept, entry-is}
 use Rattle.lookups.proofs.held.told_at.Statement.{statement}
 use Rattle.lookups.proofs.held.told_at.Tie as tie
 
-left-at-requires : tie.Need-left-at-requires
-left-at-requires c κs =
+copied-requires : tie.Need-copied-requires
+copied-requires c κs =
     let start : tie.Start = search in
-    entry-kept (start .args .state) (start .args .store .now) (start .pre .1) (start .args .i) (start .pre .0) .reading-past
+    ap length (c .before .comment-bytes .ensures) ∙ comment-part-size (start .args .state .comments) (start .pre .1 .comments-size) (start .args .i) (start .pre .0)
 
-add-blob-to : tie.Need-add-blob-to
-add-blob-to c =
+told-requires : tie.Need-told-requires
+told-requires c κs =
+    let read : tie.After-figures-in = search in
     let start : tie.Start = search in
     let kept = entry-kept (start .args .state) (start .args .store .now) (start .pre .1) (start .args .i) (start .pre .0) in
-    omega arith
-
-add-fields-to : tie.Need-add-fields-to
-add-fields-to c =
-    let start : tie.Start = search in
-    let kept = entry-kept (start .args .state) (start .args .store .now) (start .pre .1) (start .args .i) (start .pre .0) in
-    omega arith
+    rw (read .figures-in .ensures) (start .pre .0, kept .blob-fits, kept .fields-fit)
 
 returns : tie.Need-returns
 returns c k there =
-    let fields = c .before .fields-start in
-    let begun : tie.After-start-of = search in
-    let left : tie.After-left-at = search in
+    let copied : tie.After-copied = search in
+    let cut : tie.After-comment-bytes = search in
+    let read : tie.After-figures-in = search in
     let start : tie.Start = search in
     let s = start .args .state in
-    let i = start .args .i in
-    let S = start .pre .1 in
-    let inside : i ≤ length (s .entries) = omega (arith, S .eight-entries) in
-    told-is s i _ _ _ _ k (entry-is s (start .args .store .now) S i (start .pre .0) k there) (left .left-at .ensures)
-    (begun .start-of .ensures ∙ sym (place-start (s .entries) i inside))
-    (fields .ensures ∙ sym (fields-start (s .entries) i inside))
+    let bytes = ap (λ (t : Comment). t .bytes) (copied .copied .ensures) ∙ cut .comment-bytes .ensures in
+    c .told .ensures s k refl (ap (λ (t : Comment). t .len) (copied .copied .ensures))
+    ((λ j. entryBy (read .figures-in .ensures j) (bytes j)) ∙ entry-is s (start .args .store .now) (start .pre .1) (start .args .i) (start .pre .0) k there)
 
 pub told-at-spec : {M : Type 1} → statement M
 told-at-spec =
     tie.close
     (tie.spec
-    (λ c. search needs)
-    (λ c. search needs)
-    left-at-requires
     (λ c κs. search needs)
-    add-blob-to
+    (λ c. search needs)
     (λ c κs. search needs)
-    add-fields-to
+    copied-requires
+    told-requires
     returns)

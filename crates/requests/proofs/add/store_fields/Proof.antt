@@ -2,10 +2,9 @@
 use Prim.Native.Nat.{ℕ}
 use lib.ListN.{length-replicate}
 use Rattle.wire.specs.Limits.{blobLimit}
-use Rattle.rule.specs.Rule.{storing}
-use Rattle.requests.proofs.EndSteps.{answering}
-use Rattle.requests.proofs.AddSteps.{adds, blob-over, blob-stands, stored-as}
 use borrow.Author.Needs.{needs}
+use Rattle.table.specs.Entries.{columns}
+use Rattle.requests.proofs.AddSteps.{blob-unfit, blob-over, blob-stands, unfit-ends, stored-as}
 use Rattle.requests.proofs.add.store_fields.Statement.{statement}
 use Rattle.requests.proofs.add.store_fields.Tie as tie
 
@@ -21,24 +20,35 @@ size c =
     let blob : tie.After-put-blob = search in
     (blob-stands _ _ _ _ _ (blob .put-blob .ensures .0) _ _ (blob .put-blob .ensures .1) (len .n .given .1)) .size
 
+-- A search over all that is known at the end stops before the entry, so it is taken from where the blob was derived.
+begun : tie.After-put-blob → tie.Start
+begun c = search
+
 returns : tie.Need-returns
-unfolding storing
+unfolding begun
 returns c =
     let failed : tie.After-failure = search in
     let told : tie.After-enum-told = search in
     let blob : tie.After-put-blob = search in
-    let start : tie.Start = search in
     let over = blob-over _ _ _ _ _ (blob .put-blob .ensures .0) blobLimit (length-replicate {A = ℕ} blobLimit 0) (told .enum-told .given .1) in
-    λ a e. search (adds, answering (failed .failure .ensures), over, start .pre .1) depth 16
+    let a = begun blob .args in
+    let t = columns (a .numbers .now) (a .readings .now) (a .blob-lens .now) (a .fields-lens .now) (a .comment-lens .now) (a .seconds .now) (a .limited .now) (a .confirm .now) in
+    unfit-ends t (a .comments .now) (a .store .now) (a .kept) (a .check) (a .reply .now) (a .payload .now) (a .carried) _ _ _ (blob-unfit _ _ _ over) (failed .failure .ensures)
 
 returns-2 : tie.Need-returns-2
+unfolding begun
 returns-2 c =
     let stored : tie.After-store-key = search in
     let len : tie.After-n = search in
     let blob : tie.After-put-blob = search in
-    let start : tie.Start = search in
     let stands = (blob-stands _ _ _ _ _ (blob .put-blob .ensures .0) _ _ (blob .put-blob .ensures .1) (len .n .given .1)) in
-    λ a e. stored-as _ _ _ _ _ _ _ (start .args .carried) _ _ _ (stands .blob) (stored .store-key .ensures a e)
+    let a = begun blob .args in
+    let t = columns (a .numbers .now) (a .readings .now) (a .blob-lens .now) (a .fields-lens .now) (a .comment-lens .now) (a .seconds .now) (a .limited .now) (a .confirm .now) in
+    let w = stored .store-key .last in
+    let u = columns (w .0) (w .1 .0) (w .1 .1 .0) (w .1 .1 .1 .0) (w .1 .1 .1 .1 .0) (w .1 .1 .1 .1 .1 .0) (w .1 .1 .1 .1 .1 .1 .0) (w .1 .1 .1 .1 .1 .1 .1 .0) in
+    let rest = w .1 .1 .1 .1 .1 .1 .1 .1 in
+    stored-as t (a .comments .now) (a .store .now) (a .kept) (a .check) (a .reply .now) (a .payload .now) (a .carried)
+    _ _ _ (rest .1 .1 .1 .1 .1 .1 .1 .0) u (rest .0) (rest .1 .1 .0) _ (stands .blob) (stored .store-key .ensures)
 
 pub store-fields-spec : {M : Type 1} → statement M
 store-fields-spec =
@@ -54,6 +64,15 @@ store-fields-spec =
     (λ c κs. search needs)
     (λ c. search needs)
     returns
+    (λ c. search needs)
+    (λ c. search needs)
+    (λ c. search needs)
+    (λ c. search needs)
+    (λ c. search needs)
+    (λ c. search needs)
+    (λ c. search needs)
+    (λ c. search needs)
+    (λ c. search needs)
     (λ c. search needs)
     (λ c. search needs)
     returns-2)

@@ -7,10 +7,16 @@ use Rattle.requests.proofs.list.count_at.Statement.{statement}
 use Rattle.requests.proofs.list.count_at.Tie as tie
 
 returns : tie.Need-returns
-returns c = let a = c .before .before .args in ((λ x. held-counts (gatewayOf (a .state) x) (a .i) _ (c .before .is-held .ensures x) (c .if1 .taken)), omega arith)
+returns c =
+    let at-is-held : tie.After-is-held = search in
+    let start : tie.Start = search in
+    ((λ s x is. held-counts (gatewayOf s x) (start .args .i) _ (at-is-held .is-held .ensures s x is) (c .if1 .taken)), omega arith)
 
 returns-2 : tie.Need-returns-2
-returns-2 c = let a = c .before .before .args in ((λ x. free-counts (gatewayOf (a .state) x) (a .i) _ (c .before .is-held .ensures x) (c .if1 .left)), omega arith)
+returns-2 c =
+    let at-is-held : tie.After-is-held = search in
+    let start : tie.Start = search in
+    ((λ s x is. free-counts (gatewayOf s x) (start .args .i) _ (at-is-held .is-held .ensures s x is) (c .if1 .left)), omega arith)
 
 pub count-at-spec : {M : Type 1} → statement M
 count-at-spec =

@@ -1,5 +1,4 @@
 -- The first i places are counted. Assumes nothing.
-use Rattle.table.proofs.ArrayLaws.{eight-of}
 use borrow.Author.Needs.{needs}
 use Prim.Native.Nat.{_-_}
 use native.Mathlib.Omega.{arith}
@@ -8,23 +7,22 @@ use Rattle.requests.proofs.list.live_count.Statement.{statement}
 use Rattle.requests.proofs.list.live_count.Tie as tie
 
 abbrev Inv-loop : tie.InvT-loop
-Inv-loop state n₀ i₀ n i = Counted state i n
+Inv-loop numbers n₀ i₀ n i = Counted numbers i n
 
 abbrev μ-loop : tie.MeasureT-loop
-μ-loop state n₀ i₀ n i = 8 - i
+μ-loop numbers n₀ i₀ n i = 8 - i
 
 loop-holds : tie.Need-loop-holds Inv-loop μ-loop
 loop-holds c = none-counted _
 
 loop-again : tie.Need-loop-again Inv-loop μ-loop
 loop-again c =
-    let start : tie.Start Inv-loop μ-loop = search in
-    one-counted _ (eight-of (start .args .state) _ (start .good .0)) _ _ (c .before .before .loop .inv) _ (omega arith) (c .count-at .ensures .0) (c .count-at .ensures .1)
+    let at-count : tie.After-count-at Inv-loop μ-loop = search in
+    let turn : tie.At-loop Inv-loop μ-loop = search in
+    one-counted _ _ _ (turn .loop .inv) _ (omega arith) (at-count .count-at .ensures .0) (at-count .count-at .ensures .1)
 
 returns : tie.Need-returns Inv-loop μ-loop
-returns c =
-    let start : tie.Start Inv-loop μ-loop = search in
-    all-counted _ (eight-of (start .args .state) _ (start .good .0)) _ _ (c .before .loop .inv) (omega arith)
+returns c = all-counted _ _ _ (c .before .loop .inv) (omega arith)
 
 pub live-count-spec : {M : Type 1} → statement M
 live-count-spec =

@@ -2,63 +2,90 @@
 use Rattle.table.specs.Meaning.{gatewayOf}
 use Rattle.table.proofs.WritingLaws.{sound-meaning}
 use native.Mathlib.Omega.{arith}
-use Rattle.requests.proofs.ListSteps.{free-item, held-item, blob-room, comment-room, comment-taken}
+use Rattle.requests.proofs.ListSteps.{list-fits, free-item, held-item, blob-room, comment-room}
 use borrow.Author.Needs.{needs}
 use Rattle.requests.proofs.list.put_item.Statement.{statement}
 use Rattle.requests.proofs.list.put_item.Tie as tie
 
+-- where the function began, which is too far back for a search from its end
+abbrev began : tie.After-is-held → tie.Start
+began p = search
+
+is-held-requires : tie.Need-is-held-requires
+is-held-requires c κs =
+    let start : tie.Start = search in
+    (start .pre .0, list-fits (start .pre .1) .eight-numbers)
+
 returns : tie.Need-returns
 returns c =
+    let at-is-held : tie.After-is-held = search in
     let start : tie.Start = search in
     let a = start .args in
-    free-item (gatewayOf (a .state) (a .store .now)) (a .i) _ (c .before .is-held .ensures _) _ _ (c .if1 .taken)
+    λ s shows S. free-item (gatewayOf s (a .store .now)) (a .i) _ (at-is-held .is-held .ensures s _ (shows .numbers-are)) _ _ (c .if1 .taken)
 
-blob-fits : tie.Need-put-string-requires
-blob-fits c κs =
+blob-at-requires : tie.Need-blob-at-requires
+blob-at-requires c κs =
+    let start : tie.Start = search in
+    let fits = list-fits (start .pre .1) in
+    (start .pre .0, fits .store-size, fits .eight-blobs, fits .blobs-fit _ (start .pre .0))
+
+put-string-requires : tie.Need-put-string-requires
+put-string-requires c κs =
     let start : tie.Start = search in
     let a = start .args in
-    let room = blob-room (gatewayOf (a .state) (a .store .now)) (a .i) (sound-meaning _ _ (start .pre .1)) _ (c .blob-at .ensures .bytes) in
+    let w = start .pre .1 in
+    let is = c .blob-at .ensures (w .state) (w .shows .blobs-are) (w .sound) .bytes in
+    let room = blob-room (gatewayOf (w .state) (a .store .now)) (a .i) (sound-meaning _ _ (w .sound)) _ is in
     (omega arith, omega arith)
 
-comment-fits : tie.Need-put-comment-requires
-comment-fits c κs =
+comment-at-requires : tie.Need-comment-at-requires
+comment-at-requires c κs =
+    let start : tie.Start = search in
+    let fits = list-fits (start .pre .1) in
+    (start .pre .0, fits .comments-size, fits .eight-lens, fits .lens-fit _ (start .pre .0))
+
+put-string-requires-2 : tie.Need-put-string-requires-2
+put-string-requires-2 c κs =
     let string : tie.After-put-string = search in
     let blob : tie.After-blob-at = search in
     let start : tie.Start = search in
     let a = start .args in
-    let g = gatewayOf (a .state) (a .store .now) in
-    let sound = sound-meaning _ _ (start .pre .1) in
-    let room = blob-room g (a .i) sound _ (blob .blob-at .ensures .bytes) in
-    let kept = c .before .comment-at .ensures .1 (a .store .now) (start .pre .1) in
-    (comment-room g (a .i) sound _ kept, omega (arith, string .put-string .ensures .0))
+    let w = start .pre .1 in
+    let g = gatewayOf (w .state) (a .store .now) in
+    let sound = sound-meaning _ _ (w .sound) in
+    let room = blob-room g (a .i) sound _ (blob .blob-at .ensures (w .state) (w .shows .blobs-are) (w .sound) .bytes) in
+    let short = comment-room g (a .i) sound _ (c .comment-at .ensures (w .state) _ (w .shows .lens-are) (w .shows .comments-are) (w .sound)) in
+    (omega arith, omega (arith, string .put-string .ensures .0))
 
 returns-2 : tie.Need-returns-2
 returns-2 c =
-    let written : tie.After-put-comment = search in
+    let written : tie.After-put-string2 = search in
     let taken : tie.After-comment-at = search in
     let string : tie.After-put-string = search in
     let blob : tie.After-blob-at = search in
     let tested : tie.Else1 = search in
     let at-is-held : tie.After-is-held = search in
-    let start : tie.Start = search in
+    let start = began at-is-held in
     let a = start .args in
-    let g = gatewayOf (a .state) (a .store .now) in
-    let sound = sound-meaning _ _ (start .pre .1) in
-    let room = blob-room g (a .i) sound _ (blob .blob-at .ensures .bytes) in
-    let kept = taken .comment-at .ensures .1 (a .store .now) (start .pre .1) in
-    let short = comment-taken g (a .i) sound _ kept in
-    held-item g (a .i) _ (at-is-held .is-held .ensures _) _ _ _ _ _ _ _ _ (tested .if1 .left) (blob .blob-at .ensures .bytes) kept
-    (string .put-string .ensures .1) (string .put-string .ensures .0) (written .put-comment .ensures .1) (written .put-comment .ensures .0) (omega arith)
+    λ s shows S.
+    let g = gatewayOf s (a .store .now) in
+    let sound = sound-meaning s (a .store .now) S in
+    let bytes = blob .blob-at .ensures s (shows .blobs-are) S .bytes in
+    let kept = taken .comment-at .ensures s (a .store .now) (shows .lens-are) (shows .comments-are) S in
+    let room = blob-room g (a .i) sound _ bytes in
+    let short = comment-room g (a .i) sound _ kept in
+    held-item g (a .i) _ (at-is-held .is-held .ensures s _ (shows .numbers-are)) _ _ _ _ _ _ _ _ (tested .if1 .left) bytes kept
+    (string .put-string .ensures .1) (string .put-string .ensures .0) (written .put-string2 .ensures .1) (written .put-string2 .ensures .0) (omega arith)
 
 pub put-item-spec : {M : Type 1} → statement M
 put-item-spec =
     tie.close
     (tie.spec
-    (λ c κs. search needs)
+    is-held-requires
     returns
-    (λ c κs. search needs)
-    blob-fits
-    (λ c κs. search needs)
-    comment-fits
+    blob-at-requires
+    put-string-requires
+    comment-at-requires
+    put-string-requires-2
     (λ c. search needs)
     returns-2)

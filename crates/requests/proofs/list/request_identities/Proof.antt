@@ -8,9 +8,10 @@ use Rattle.requests.proofs.list.request_identities.Tie as tie
 
 returns : tie.Need-returns
 unfolding listing
-returns c =
-    let start : tie.Start = search in
-    λ a. landed _ _ _ _ _ _ _ _ (replied _ _ _ _ _ _ _ _ refl (c .before .before .put-list .ensures .0) (c .before .before .put-list .ensures .1) (means-itself _ _ (start .pre .0)))
+returns c s shows S a =
+    let at-put-list : tie.After-put-list = search in
+    let put = at-put-list .put-list .ensures s shows S in
+    landed _ _ _ _ _ _ _ _ (replied _ _ _ _ _ s _ _ refl (put .0) (put .1) (means-itself s _ S))
 
 pub request-identities-spec : {M : Type 1} → statement M
 request-identities-spec =

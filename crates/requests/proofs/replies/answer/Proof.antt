@@ -8,7 +8,7 @@ use Rattle.requests.proofs.replies.answer.Tie as tie
 returns : tie.Need-returns
 returns c =
     let at-put-number : tie.After-put-number = search in
-    five _ _ _ _ _ _ _ (at-put-number .put-number .ensures .1) (at-put-number .put-number .ensures .0) (c .before .before .put-byte .ensures .1) (c .before .before .put-byte .ensures .0) (omega arith)
+    five _ _ _ _ _ _ (at-put-number .put-number .ensures .1) (at-put-number .put-number .ensures .0) (c .before .before .put-byte .ensures .1) (c .before .before .put-byte .ensures .0) (omega arith)
 
 pub answer-spec : {M : Type 1} → statement M
 answer-spec =

@@ -7,7 +7,7 @@ use Rattle.requests.proofs.sign.consent.Tie as tie
 
 returns : tie.Need-returns
 unfolding agreed
-returns c = λ x S. let asked = c .before .confirm-at in rw (← asked .ensures .1 x S, not-true (asked .result) (c .if1 .taken))
+returns c = λ s x n f S. let asked = c .before .confirm-at in rw (← asked .ensures .1 s x f S, not-true (asked .result) (c .if1 .taken))
 
 returns-2 : tie.Need-returns-2
 unfolding agreed
@@ -16,7 +16,7 @@ returns-2 c =
     let number = c .before .number-at in
     let tested : tie.Else1 = search in
     let asked = at-confirm-at .confirm-at in
-    λ x S. rw (← asked .ensures .1 x S, not-false (asked .result) (tested .if1 .left), ← number .ensures x) (c .confirmed-for .ensures)
+    λ s x n f S. rw (← asked .ensures .1 s x f S, not-false (asked .result) (tested .if1 .left), ← number .ensures s x n) (c .confirmed-for .ensures)
 
 pub consent-spec : {M : Type 1} → statement M
 consent-spec =

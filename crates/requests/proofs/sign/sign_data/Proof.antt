@@ -12,11 +12,11 @@ began p = search
 
 returns : tie.Need-returns
 unfolding signingData
-returns c = search (signs, closing (c .closed .ensures)) depth 16
+returns c = λ s x S. search (signs, closing) depth 16
 
 returns-2 : tie.Need-returns-2
 unfolding signingData
-returns-2 c = search (signs, closing (c .closed2 .ensures)) depth 16
+returns-2 c = λ s x S. search (signs, closing) depth 16
 
 put-reply-requires : tie.Need-put-reply-requires
 put-reply-requires c κs =
@@ -28,7 +28,7 @@ put-reply-requires c κs =
 
 returns-3 : tie.Need-returns-3
 unfolding signingData
-returns-3 c = search signs depth 16
+returns-3 c = λ s x S. search signs depth 16
 
 returns-4 : tie.Need-returns-4
 unfolding signingData
@@ -39,22 +39,20 @@ returns-4 c =
     let number : tie.After-number = search in
     let part : tie.After-from = search in
     let read : tie.After-string = search in
-    let start : tie.Start = search in
-    search (
+    λ s x S. search (
       signs,
-      closing (c .closed3 .ensures),
+      closing,
       said .enum-told4 .given .1,
       signed .signed-for .ensures,
       flags .flags .given .1,
       number .number .ensures,
       part .from .given .1,
       read .string .ensures,
-      start .pre .2,
     ) depth 16
 
 returns-5 : tie.Need-returns-5
 unfolding signingData
-returns-5 c = search signs depth 16
+returns-5 c = λ s x S. search signs depth 16
 
 pub sign-data-spec : {M : Type 1} → statement M
 sign-data-spec =
@@ -63,18 +61,15 @@ sign-data-spec =
     (λ c κs. search needs)
     (λ c. search needs)
     (λ c. search needs)
-    (λ c κs. search needs)
     returns
     (λ c κs. search needs)
     (λ c. search needs)
     (λ c. search needs)
-    (λ c κs. search needs)
     returns-2
     (λ c κs. search needs)
     (λ c κs. search needs)
     (λ c. search needs)
     (λ c. search needs)
-    (λ c κs. search needs)
     (λ c. search needs)
     put-reply-requires
     returns-3

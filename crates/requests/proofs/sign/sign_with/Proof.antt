@@ -8,30 +8,27 @@ use Rattle.requests.proofs.sign.sign_with.Tie as tie
 returns : tie.Need-returns
 returns c =
     let at-number-at : tie.After-number-at = search in
-    λ k there.
+    λ s x n f S k there.
     let asked : tie.After-consent = search in
-    let start : tie.Start = search in
-    search (signs, c .enum-told .given .1, there, asked .consent .ensures _ (start .pre .3), at-number-at .number-at .ensures (start .args .store .now), start .pre .3) depth 16
+    search (signs, c .enum-told .given .1, there, asked .consent .ensures s x n f S, at-number-at .number-at .ensures s x n) depth 16
 
 returns-2 : tie.Need-returns-2
 returns-2 c =
     let at-number-at : tie.After-number-at = search in
-    λ k there.
+    λ s x n f S k there.
     let failed : tie.After-failure = search in
     let said : tie.After-enum-told2 = search in
     let asked : tie.After-consent = search in
-    let start : tie.Start = search in
-    search (signs, answering (failed .failure .ensures), said .enum-told2 .given .1, there, asked .consent .ensures _ (start .pre .3), at-number-at .number-at .ensures (start .args .store .now), start .pre .3) depth 16
+    search (signs, answering (failed .failure .ensures), said .enum-told2 .given .1, there, asked .consent .ensures s x n f S, at-number-at .number-at .ensures s x n) depth 16
 
 returns-3 : tie.Need-returns-3
 returns-3 c =
     let at-number-at : tie.After-number-at = search in
-    λ k there.
+    λ s x n f S k there.
     let signed : tie.After-sign-data = search in
     let said : tie.After-enum-told3 = search in
     let asked : tie.After-consent = search in
-    let start : tie.Start = search in
-    search (signs, signed .sign-data .ensures, said .enum-told3 .given .1, there, asked .consent .ensures _ (start .pre .3), at-number-at .number-at .ensures (start .args .store .now)) depth 16
+    search (signs, signed .sign-data .ensures s x S, said .enum-told3 .given .1, there, asked .consent .ensures s x n f S, at-number-at .number-at .ensures s x n) depth 16
 
 pub sign-with-spec : {M : Type 1} → statement M
 sign-with-spec =

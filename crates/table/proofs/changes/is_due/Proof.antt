@@ -16,7 +16,7 @@ returns-2 c =
     let left : tie.Else1 = search in
     let at-is-set : tie.After-is-set = search in
     let asked = at-is-set .is-set in
-    rw (← asked .ensures, not-false (asked .result) (left .if1 .left), at-millis-of .millis-of .ensures)
+    rw (← asked .ensures, not-false (asked .result) (left .if1 .left), c .before .past .ensures, at-millis-of .millis-of .ensures)
 
 pub is-due-spec : {M : Type 1} → statement M
 is-due-spec =

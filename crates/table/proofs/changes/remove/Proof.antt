@@ -1,26 +1,49 @@
--- The place's bytes are wiped and its entry is a free place's. Assumes nothing.
+-- The place's bytes and its comment are zeros, and its figures are a free place's. Assumes nothing.
 use borrow.Author.Needs.{needs}
-use Rattle.table.proofs.SizeLaws.{spanning}
-use Rattle.table.proofs.WritingLaws.{view-fits, view-eight}
-use Rattle.table.proofs.ChangeLaws.{removed}
+use Rattle.table.specs.Entries.{columns}
+use Rattle.table.proofs.ChangeLaws.{still-roomy, place-removed}
 use Rattle.table.proofs.changes.remove.Statement.{statement}
 use Rattle.table.proofs.changes.remove.Tie as tie
 
-returns : tie.Need-returns
-returns c =
-    let free : tie.After-free-entry = search in
-    let wiped : tie.After-wipe = search in
-    let ends : tie.After-start-of2 = search in
-    let begins : tie.After-start-of = search in
+-- A search over all that is known at the end stops before these, so each is taken from one nearer: where the bytes were wiped, the entry, and where the comment was kept.
+wiped : tie.After-no-figures → tie.After-wipe-place
+wiped c = search
+
+begun : tie.After-wipe-place → tie.Start
+begun c = search
+
+commented : tie.After-no-figures → tie.After-keep-comment
+commented c = search
+
+figures-room : tie.Need-set-figures-requires
+figures-room c κs =
     let start : tie.Start = search in
-    let s = start .args .state in
-    let x = start .args .store .now in
-    let S = start .pre .1 in
-    let from = begins .start-of in
-    let to = ends .start-of2 in
-    removed s x S (start .args .i) (from .result) (to .result) (start .pre .0)
-    (spanning _ (view-fits s x S) (view-eight s x S) (start .args .i) _ _ (start .pre .0) (from .ensures) (to .ensures))
-    (free .free-entry .result) (wiped .wipe .last .0) (free .free-entry .ensures) (wiped .wipe .ensures)
+    (start .pre .0, start .pre .1 .eight)
+
+store-length : tie.Need-same-length-10
+unfolding wiped
+store-length c =
+    let at-free : tie.After-no-figures = search in
+    wiped at-free .wipe-place .kept .0
+
+returns : tie.Need-returns
+unfolding wiped begun commented
+returns c =
+    let at-set : tie.After-set-figures = search in
+    let at-free : tie.After-no-figures = search in
+    let at-wipe = wiped at-free in
+    let start = begun at-wipe in
+    let a = start .args in
+    let set = at-set .set-figures in
+    let free = at-free .no-figures in
+    let comment = commented at-free .keep-comment in
+    let zeros = at-wipe .wipe-place in
+    let t = columns (a .numbers .now) (a .readings .now) (a .blob-lens .now) (a .fields-lens .now) (a .comment-lens .now) (a .seconds .now) (a .limited .now) (a .confirm .now) in
+    let w = set .last in
+    let u = columns (w .0) (w .1 .0) (w .1 .1 .0) (w .1 .1 .1 .0) (w .1 .1 .1 .1 .0) (w .1 .1 .1 .1 .1 .0) (w .1 .1 .1 .1 .1 .1 .0) (w .1 .1 .1 .1 .1 .1 .1 .0) in (
+      place-removed t _ _ u _ _ (a .i) (free .result) (start .pre .0) (free .ensures) (set .ensures) (comment .ensures) (zeros .ensures),
+      still-roomy t _ _ u _ _ (a .i) (free .result) (start .pre .1) (set .ensures) (comment .kept .0) (zeros .kept .0),
+    )
 
 pub remove-spec : {M : Type 1} → statement M
 remove-spec =
@@ -29,12 +52,16 @@ remove-spec =
     (λ c κs. search needs)
     (λ c. search needs)
     (λ c κs. search needs)
-    (λ c. search needs)
-    (λ c. search needs)
-    (λ c. search needs)
     (λ c κs. search needs)
-    (λ c κs. search needs)
+    figures-room
     (λ c. search needs)
     (λ c. search needs)
     (λ c. search needs)
+    (λ c. search needs)
+    (λ c. search needs)
+    (λ c. search needs)
+    (λ c. search needs)
+    (λ c. search needs)
+    (λ c. search needs)
+    store-length
     returns)

@@ -11,8 +11,6 @@ use lib.ListN.{length, take, getD}
 use lib.Seq.{length-take-le, getD-take}
 use Rattle.wire.specs.Read.{same}
 use Rattle.wire.proofs.Reading.{same-long}
-use Rattle.table.specs.Meaning.{gatewayOf}
-use Rattle.table.proofs.ArrayLaws.{record-of}
 use Rattle.table.proofs.ByteLaws.{sameAlong, equal-step, equal-end}
 use Rattle.table.proofs.locks.is_passphrase.Statement.{statement}
 use Rattle.table.proofs.locks.is_passphrase.Tie as tie
@@ -56,36 +54,31 @@ module _ (n : ℕ) (bytes p : List ℕ) (within : n ≤ length bytes) where
   decision given i d h = equal-end (take n bytes) p i (eqb d 0) (omega (arith, front)) (omega arith)
 
 abbrev Inv-loop : tie.InvT-loop
-Inv-loop p bytes len differences₀ i₀ differences i = (i ≤ len) × (same (take len bytes) p ≡ sameAlong (eqb differences 0) i (take len bytes) p)
+Inv-loop bytes len p differences₀ i₀ differences i = (i ≤ len) × (same (take len bytes) p ≡ sameAlong (eqb differences 0) i (take len bytes) p)
 
 abbrev μ-loop : tie.MeasureT-loop
-μ-loop p bytes len differences₀ i₀ differences i = len - i
+μ-loop bytes len p differences₀ i₀ differences i = len - i
 
 lengths-differ : tie.Need-returns Inv-loop μ-loop
-unfolding gatewayOf
-lengths-differ c x =
+lengths-differ c =
     let start : tie.Start Inv-loop μ-loop = search in
-    let s = start .args .state in
-    let size = record-of s _ (start .good .0) in
-    another-length (s .lock .len) (s .lock .bytes) (start .args .p .now) (omega arith) (c .if1 .taken)
+    let a = start .args in
+    another-length (a .len) (a .bytes .now) (a .p .now) (omega arith) (c .if1 .taken)
 
 loop-again : tie.Need-loop-again Inv-loop μ-loop
 loop-again c =
     let turned : tie.At-loop Inv-loop μ-loop = search in
     let l = turned .loop in
     let start : tie.Start Inv-loop μ-loop = search in
-    let s = start .args .state in
-    let size = record-of s _ (start .good .0) in
-    (omega arith, l .inv .1 ∙ turn (s .lock .len) (s .lock .bytes) (start .args .p .now) (omega arith) (omega arith) (l .i) (l .differences) (omega arith))
+    let a = start .args in
+    (omega arith, l .inv .1 ∙ turn (a .len) (a .bytes .now) (a .p .now) (omega arith) (omega arith) (l .i) (l .differences) (omega arith))
 
 decides : tie.Need-returns-2 Inv-loop μ-loop
-unfolding gatewayOf
-decides c x =
+decides c =
     let l = c .before .loop in
     let start : tie.Start Inv-loop μ-loop = search in
-    let s = start .args .state in
-    let size = record-of s _ (start .good .0) in
-    sym (l .inv .1 ∙ decision (s .lock .len) (s .lock .bytes) (start .args .p .now) (omega arith) (omega arith) (l .i) (l .differences) (omega arith))
+    let a = start .args in
+    sym (l .inv .1 ∙ decision (a .len) (a .bytes .now) (a .p .now) (omega arith) (omega arith) (l .i) (l .differences) (omega arith))
 
 pub is-passphrase-spec : {M : Type 1} → statement M
 is-passphrase-spec =

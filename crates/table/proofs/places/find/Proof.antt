@@ -2,72 +2,70 @@
 use native.Mathlib.Omega.{arith}
 use borrow.Author.Needs.{needs}
 use Prim.Native.Nat.{_≤_, _-_}
-use mathlib.Core.Path.{_≡_, refl, sym, ap, _∙_}
-use lib.ListN.{length, drop, getD}
+use mathlib.Core.Path.{_≡_, refl, sym, _∙_}
+use lib.ListN.{drop}
 use Rattle.rule.specs.Gateway.{seek, holds}
-use Rattle.table.specs.Meaning.{size, view, gatewayOf, noEntry}
-use Rattle.table.proofs.ReadLaws.{view-length, view-at, state-blob-fits}
-use Rattle.table.proofs.SizeLaws.{blob-room, in-store}
-use Rattle.table.proofs.SeekLaws.{seek-step, seek-stop, seek-end}
+use Rattle.table.specs.declared.State.{State}
+use Rattle.table.specs.Meaning.{entriesOf, gatewayOf}
+use Rattle.table.proofs.ReadLaws.{long, part-size, holds-at}
+use Rattle.table.proofs.SeekLaws.{places-length, seek-step, seek-stop, seek-end}
 use Rattle.table.proofs.places.find.Statement.{statement}
 use Rattle.table.proofs.places.find.Tie as tie
 
 abbrev Inv-loop : tie.InvT-loop
-Inv-loop store blob es i₀ i = (i ≤ 8) × (seek (holds blob) 0 (view es store) ≡ seek (holds blob) i (drop i (view es store)))
+Inv-loop numbers blob-lens store blob i₀ i =
+    (i ≤ 8)
+    × ((s : State) → s .columns .numbers ≡ numbers → s .columns .«blob_lens» ≡ blob-lens
+    → seek (holds blob) 0 (gatewayOf s store .places) ≡ seek (holds blob) i (drop i (gatewayOf s store .places)))
 
 abbrev μ-loop : tie.MeasureT-loop
-μ-loop store blob es i₀ i = 8 - i
+μ-loop numbers blob-lens store blob i₀ i = 8 - i
 
 is-holding-requires : tie.Need-is-holding-requires Inv-loop μ-loop
 is-holding-requires c κs =
     let turn : tie.At-loop Inv-loop μ-loop = search in
-    let loop = turn .loop in
+    let i = turn .loop .i in
     let start : tie.Start Inv-loop μ-loop = search in
-    let x = start .args .store .now in
-    let es = start .args .state .entries in
-    let S = start .pre in
-    let whole : length (c .bytes-at .result .now) ≡ size (getD es (loop .i) noEntry)
-    = ap length (c .bytes-at .ensures es (S .eight-entries) .bytes) ∙ in-store es x (S .eight-entries) (S .store-size) (loop .i) (omega arith) .whole in
-    let fits = state-blob-fits (start .args .state) x (start .pre) (loop .i) (omega arith) in
-    omega (arith, blob-room (getD es (loop .i) noEntry))
+    let whole = part-size (start .args .store .now) (c .bytes-at .result .now) (start .pre .store-size) i (omega arith) (λ es eight. c .bytes-at .ensures es eight .bytes) in
+    let fits = start .pre .blobs-fit i (omega arith) in
+    omega arith
 
 returns : tie.Need-returns Inv-loop μ-loop
-unfolding gatewayOf
-returns c =
+returns c s same blobs =
     let turn : tie.At-loop Inv-loop μ-loop = search in
     let loop = turn .loop in
     let start : tie.Start Inv-loop μ-loop = search in
-    let s = start .args .state in
+    let at-bytes : tie.After-bytes-at Inv-loop μ-loop = search in
+    let at-holding : tie.After-is-holding Inv-loop μ-loop = search in
     let x = start .args .store .now in
-    let S = start .pre in
-    let long = view-length (s .entries) x (S .eight-entries) in
-    let test = holds (start .args .blob .now) in
-    let here = ap test (view-at (s .entries) x (S .eight-entries) (loop .i) (omega arith)) ∙ rw (← c .before .before .bytes-at .ensures (s .entries) (S .eight-entries) .bytes) (sym (c .before .is-holding .ensures)) ∙ c .if1 .taken in
-    sym (loop .inv .1 ∙ seek-stop test (view (s .entries) x) (loop .i) (omega arith) here)
+    let eight = places-length s x in
+    let part = at-bytes .bytes-at .ensures (entriesOf s) (long s x) .bytes in
+    let here = holds-at s x _ same (loop .i) (omega arith) _ blobs _ _ part _ (at-holding .is-holding .ensures) ∙ c .if1 .taken in
+    sym (loop .inv .1 s same blobs ∙ seek-stop _ (gatewayOf s x .places) (loop .i) (omega arith) here)
 
 loop-again : tie.Need-loop-again Inv-loop μ-loop
 loop-again c =
-    let turn : tie.At-loop Inv-loop μ-loop = search in
-    let loop = turn .loop in
-    let start : tie.Start Inv-loop μ-loop = search in
-    let s = start .args .state in
-    let x = start .args .store .now in
-    let S = start .pre in
-    let long = view-length (s .entries) x (S .eight-entries) in
-    let test = holds (start .args .blob .now) in
-    let here = ap test (view-at (s .entries) x (S .eight-entries) (loop .i) (omega arith)) ∙ rw (← c .before .before .bytes-at .ensures (s .entries) (S .eight-entries) .bytes) (sym (c .before .is-holding .ensures)) ∙ c .if1 .left in
-    (omega arith, loop .inv .1 ∙ seek-step test (view (s .entries) x) (loop .i) (omega arith) here)
+    let turn : tie.At-loop Inv-loop μ-loop = search in (
+      search needs,
+      λ s same blobs.
+          let loop = turn .loop in
+          let start : tie.Start Inv-loop μ-loop = search in
+          let at-bytes : tie.After-bytes-at Inv-loop μ-loop = search in
+          let at-holding : tie.After-is-holding Inv-loop μ-loop = search in
+          let x = start .args .store .now in
+          let eight = places-length s x in
+          let part = at-bytes .bytes-at .ensures (entriesOf s) (long s x) .bytes in
+          let here = holds-at s x _ same (loop .i) (omega arith) _ blobs _ _ part _ (at-holding .is-holding .ensures) ∙ c .if1 .left in
+          loop .inv .1 s same blobs ∙ seek-step _ (gatewayOf s x .places) (loop .i) (omega arith) here,
+    )
 
 returns-2 : tie.Need-returns-2 Inv-loop μ-loop
-unfolding gatewayOf
-returns-2 c =
+returns-2 c s same blobs =
     let loop = c .before .loop in
     let start : tie.Start Inv-loop μ-loop = search in
-    let s = start .args .state in
     let x = start .args .store .now in
-    let S = start .pre in
-    let long = view-length (s .entries) x (S .eight-entries) in
-    sym (loop .inv .1 ∙ seek-end (holds (start .args .blob .now)) (view (s .entries) x) (loop .i) (omega arith))
+    let eight = places-length s x in
+    sym (loop .inv .1 s same blobs ∙ seek-end _ (gatewayOf s x .places) (loop .i) (omega arith))
 
 pub find-spec : {M : Type 1} → statement M
 find-spec =
@@ -75,7 +73,9 @@ find-spec =
     (tie.spec
     Inv-loop
     μ-loop
-    (λ c. (search needs, refl))
+    (λ c. (search needs, λ s same blobs. refl))
+    (λ c. search needs)
+    (λ c. search needs)
     (λ c. search needs)
     (λ c. search needs)
     (λ c κs. search needs)

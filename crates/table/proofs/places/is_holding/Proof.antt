@@ -1,16 +1,15 @@
 -- A free place holds nothing; a held one's blob is the front of its bytes. Assumes nothing.
 use borrow.Author.Needs.{needs}
-use mathlib.Core.Path.{sym}
+use mathlib.Core.Path.{sym, _∙_}
 use lib.Seq.{length-take-le}
 use Rattle.table.proofs.ReadLaws.{place-free, place-held}
 use Rattle.table.proofs.places.is_holding.Statement.{statement}
 use Rattle.table.proofs.places.is_holding.Tie as tie
 
 returns : tie.Need-returns
-returns c =
+returns c e number length =
     let start : tie.Start = search in
-    let a = start .args in
-    rw (place-free (a .e) (a .p .now) (c .if1 .taken))
+    rw (place-free e (start .args .p .now) (number ∙ c .if1 .taken))
 
 front : tie.Need-slice-aggregate-is-equal
 front c =
@@ -18,10 +17,9 @@ front c =
     sym (length-take-le _ (start .args .p .now) (start .pre))
 
 returns-2 : tie.Need-returns-2
-returns-2 c =
+returns-2 c e number length =
     let start : tie.Start = search in
-    let a = start .args in
-    rw (place-held (a .e) (a .p .now) (c .before .before .if1 .left)) (c .is-equal .ensures)
+    rw (place-held e (start .args .p .now) (λ free. c .before .before .if1 .left (sym number ∙ free)), length) (c .is-equal .ensures)
 
 pub is-holding-spec : {M : Type 1} → statement M
 is-holding-spec =

@@ -6,15 +6,15 @@ use Rattle.table.proofs.places.place_for.Tie as tie
 
 returns : tie.Need-returns
 unfolding placeFor found
-returns c =
+returns c s same blobs =
     let at-find : tie.After-find = search in
-    rw (← at-find .find .ensures, c .before .i .given .1)
+    rw (← at-find .find .ensures s same blobs, c .before .i .given .1)
 
 returns-2 : tie.Need-returns-2
 unfolding placeFor found
-returns-2 c =
+returns-2 c s same blobs =
     let at-find : tie.After-find = search in
-    rw (← at-find .find .ensures, c .before .enum-told .given .1) (c .lowest-free .ensures _)
+    rw (← at-find .find .ensures s same blobs, c .before .enum-told .given .1) (c .lowest-free .ensures s _ same)
 
 pub place-for-spec : {M : Type 1} → statement M
 place-for-spec =

@@ -1,10 +1,21 @@
 -- A free place is apart from all; two held ones by number and blob. Assumes nothing.
 use borrow.Author.Needs.{needs}
-use mathlib.Core.Path.{sym}
+use mathlib.Core.Path.{sym, _∙_}
 use lib.Seq.{length-take-le}
 use Rattle.table.proofs.SoundnessLaws.{apart-free, apart-other-free, apart-number, apart-blob}
 use Rattle.table.proofs.soundness.is_apart.Statement.{statement}
 use Rattle.table.proofs.soundness.is_apart.Tie as tie
+
+returns-2 : tie.Need-returns-2
+returns-2 c e f n _ m _ =
+    let one : tie.Else1 = search in
+    apart-other-free _ _ _ _ (λ z. one .if1 .left (sym n ∙ z)) (m ∙ c .if2 .taken)
+
+returns-3 : tie.Need-returns-3
+returns-3 c e f n _ m _ =
+    let other : tie.Else2 = search in
+    let one : tie.Else1 = search in
+    apart-number _ _ _ _ (λ z. one .if1 .left (sym n ∙ z)) (λ z. other .if2 .left (sym m ∙ z)) (n ∙ c .if3 .taken ∙ sym m)
 
 front : tie.Need-slice-aggregate-is-equal
 front c =
@@ -16,25 +27,19 @@ front-2 c =
     let start : tie.Start = search in
     sym (length-take-le _ _ (start .pre .1))
 
-returns-3 : tie.Need-returns-3
-returns-3 c =
-    let other : tie.Else2 = search in
-    let one : tie.Else1 = search in
-    apart-number _ _ _ _ (one .if1 .left) (other .if2 .left) (c .if3 .taken)
-
 returns-4 : tie.Need-returns-4
-returns-4 c =
+returns-4 c e f n blob m blob-2 =
     let number : tie.Else3 = search in
     let other : tie.Else2 = search in
     let one : tie.Else1 = search in
-    apart-blob _ _ _ _ (one .if1 .left) (other .if2 .left) (number .if3 .left) _ (c .is-equal .ensures)
+    apart-blob _ _ _ _ (λ z. one .if1 .left (sym n ∙ z)) (λ z. other .if2 .left (sym m ∙ z)) (λ z. number .if3 .left (sym n ∙ z ∙ m)) _ _ blob blob-2 _ (c .is-equal .ensures)
 
 pub is-apart-spec : {M : Type 1} → statement M
 is-apart-spec =
     tie.close
     (tie.spec
-    (λ c. apart-free _ _ _ _ (c .if1 .taken))
-    (λ c. apart-other-free _ _ _ _ (c .before .before .if1 .left) (c .if2 .taken))
+    (λ c e f n _ _ _. apart-free _ _ _ _ (n ∙ c .if1 .taken))
+    returns-2
     returns-3
     front
     front-2

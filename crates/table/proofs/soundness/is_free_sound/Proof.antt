@@ -1,15 +1,16 @@
--- The definition makes the same tests. Assumes nothing.
+-- The definition makes the same tests, and one that the comment's length makes. Assumes nothing.
 use borrow.Author.Needs.{needs}
-use Rattle.table.specs.Soundness.{soundFree}
+use Rattle.table.specs.Soundness.{zeroComment, soundFree}
 use Rattle.table.proofs.SoundnessLaws.{tests}
 use Rattle.table.proofs.soundness.is_free_sound.Statement.{statement}
 use Rattle.table.proofs.soundness.is_free_sound.Tie as tie
 
 pub is-free-sound-spec : {M : Type 1} → statement M
-unfolding soundFree
+unfolding soundFree zeroComment
 is-free-sound-spec =
     tie.close
     (tie.spec
+    (λ c. search tests depth 16)
     (λ c. search tests depth 16)
     (λ c. search tests depth 16)
     (λ c. search tests depth 16)

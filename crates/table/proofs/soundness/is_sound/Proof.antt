@@ -6,38 +6,41 @@ use Prim.Native.Nat.{_≤_}
 use mathlib.Core.Path.{sym, _∙_}
 use Rattle.wire.specs.Limits.{lastNumber}
 use Rattle.table.specs.Soundness.{soundState}
-use Rattle.table.proofs.ArrayLaws.{eight-of}
 use Rattle.table.proofs.ReadLaws.{housed-by}
-use Rattle.table.proofs.SoundnessLaws.{tests}
+use Rattle.table.proofs.SoundnessLaws.{tests, last-test, eight-by}
 use Rattle.table.proofs.soundness.is_sound.Statement.{statement}
 use Rattle.table.proofs.soundness.is_sound.Tie as tie
-
-returns-3 : tie.Need-returns-3
-unfolding soundState
-returns-3 c =
-    let start : tie.Start = search in
-    let last : start .args .state .next ≤ lastNumber = omega arith in
-    search tests depth 16
-
-returns-4 : tie.Need-returns-4
-unfolding soundState
-returns-4 c =
-    let start : tie.Start = search in
-    let last : start .args .state .next ≤ lastNumber = omega arith in
-    search tests depth 16
-
-is-distinct-requires : tie.Need-is-distinct-requires
-is-distinct-requires c κs =
-    let sized : tie.Else1 = search in
-    let start : tie.Start = search in
-    housed-by _ _ _ _ (eight-of (start .args .state) _ (start .good .0)) (sized .if1 .left) (sym (c .before .are-places-sound .ensures) ∙ not-false _ (c .if4 .left))
 
 returns-5 : tie.Need-returns-5
 unfolding soundState
 returns-5 c =
     let start : tie.Start = search in
-    let last : start .args .state .next ≤ lastNumber = omega arith in
+    let last : start .args .kept .next ≤ lastNumber = omega arith in
     search tests depth 16
+
+are-places-sound-requires : tie.Need-are-places-sound-requires
+are-places-sound-requires c κs =
+    let passed : tie.Else3 = search in
+    let asked : tie.After-are-eight = search in
+    (eight-by _ _ (passed .if3 .left) (asked .are-eight .ensures), search needs, search needs)
+
+returns-6 : tie.Need-returns-6
+unfolding soundState
+returns-6 c =
+    let start : tie.Start = search in
+    let last : start .args .kept .next ≤ lastNumber = omega arith in
+    search tests depth 16
+
+is-distinct-requires : tie.Need-is-distinct-requires
+is-distinct-requires c κs =
+    let passed : tie.Else3 = search in
+    let asked : tie.After-are-eight = search in
+    let sized : tie.Else1 = search in
+    housed-by _ _ _ _ _ (eight-by _ _ (passed .if3 .left) (asked .are-eight .ensures)) (sized .if1 .left) (sym (c .before .are-places-sound .ensures) ∙ not-false _ (c .if6 .left))
+
+returns-7 : tie.Need-returns-7
+returns-7 c =
+    last-test _ _ (search needs) (search needs) (search tests) (search needs) (omega arith) _ (search tests) (search tests) (c .is-distinct .ensures)
 
 pub is-sound-spec : {M : Type 1} → statement M
 unfolding soundState
@@ -47,8 +50,11 @@ is-sound-spec =
     (λ c. search tests depth 16)
     (λ c. search tests depth 16)
     (λ c κs. search needs)
-    returns-3
+    (λ c. search tests depth 16)
+    (λ c. search tests depth 16)
     (λ c κs. search needs)
-    returns-4
+    returns-5
+    are-places-sound-requires
+    returns-6
     is-distinct-requires
-    returns-5)
+    returns-7)

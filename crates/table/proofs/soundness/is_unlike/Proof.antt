@@ -3,25 +3,26 @@ use borrow.Author.Needs.{needs}
 use native.Mathlib.Omega.{arith}
 use Prim.Native.Nat.{_≤_, _-_}
 use mathlib.Core.Path.{refl}
-use Rattle.table.proofs.SoundnessLaws.{OthersLeft, blob-inside, other-on, other-out, others-end}
+use Rattle.table.proofs.SoundnessLaws.{OthersLeft, PartIs, blob-inside, other-on, other-out, others-end}
 use Rattle.table.proofs.soundness.is_unlike.Statement.{statement}
 use Rattle.table.proofs.soundness.is_unlike.Tie as tie
 
 abbrev Inv-loop : tie.InvT-loop
-Inv-loop store i es e p j₀ j = (j ≤ 8) × OthersLeft es store i j
+Inv-loop numbers blob-lens store i number n p j₀ j = (j ≤ 8) × OthersLeft numbers blob-lens store i j
 
 abbrev μ-loop : tie.MeasureT-loop
-μ-loop store i es e p j₀ j = 8 - j
+μ-loop numbers blob-lens store i number n p j₀ j = 8 - j
 
 is-apart-requires : tie.Need-is-apart-requires Inv-loop μ-loop
 is-apart-requires c κs =
     let turn : tie.At-loop Inv-loop μ-loop = search in
     let first : tie.After-bytes-at Inv-loop μ-loop = search in
     let start : tie.Start Inv-loop μ-loop = search in
-    let es = start .args .t1 in
     let h = start .pre in
-    let l = turn .loop in
-    (blob-inside _ _ (h .1) _ _ (h .0) (first .bytes-at .ensures es (h .1 .eight-entries) .bytes), blob-inside _ _ (h .1) (l .j) _ (omega arith) (c .bytes-at2 .ensures es (h .1 .eight-entries) .bytes))
+    let l = turn .loop in (
+      blob-inside _ _ _ _ _ (h .0) (h .1) (λ es eight. first .bytes-at .ensures es eight .bytes),
+      blob-inside _ _ _ (l .j) _ (omega arith) (h .1) (λ es eight. c .bytes-at2 .ensures es eight .bytes),
+    )
 
 returns : tie.Need-returns Inv-loop μ-loop
 returns c =
@@ -30,10 +31,10 @@ returns c =
     let turn : tie.At-loop Inv-loop μ-loop = search in
     let first : tie.After-bytes-at Inv-loop μ-loop = search in
     let start : tie.Start Inv-loop μ-loop = search in
-    let es = start .args .t1 in
-    let h = start .pre in
+    let p-is : PartIs _ _ _ = λ es eight. first .bytes-at .ensures es eight .bytes in
+    let q-is : PartIs _ _ _ = λ es eight. second .bytes-at2 .ensures es eight .bytes in
     let l = turn .loop in
-    other-out _ _ (h .1) _ (l .j) _ _ _ (h .0) (omega arith) (first .bytes-at .ensures es (h .1 .eight-entries) .bytes) (second .bytes-at2 .ensures es (h .1 .eight-entries) .bytes) (asked .is-apart .ensures) (c .if1 .taken) (l .inv .1)
+    other-out _ _ _ _ (l .j) _ _ _ (start .pre .0) (omega arith) p-is q-is (asked .is-apart .ensures) (c .if1 .taken) (l .inv .1)
 
 loop-again : tie.Need-loop-again Inv-loop μ-loop
 loop-again c =
@@ -42,16 +43,13 @@ loop-again c =
     let turn : tie.At-loop Inv-loop μ-loop = search in
     let first : tie.After-bytes-at Inv-loop μ-loop = search in
     let start : tie.Start Inv-loop μ-loop = search in
-    let es = start .args .t1 in
-    let h = start .pre in
+    let p-is : PartIs _ _ _ = λ es eight. first .bytes-at .ensures es eight .bytes in
+    let q-is : PartIs _ _ _ = λ es eight. second .bytes-at2 .ensures es eight .bytes in
     let l = turn .loop in
-    (omega arith, other-on _ _ (h .1) _ (l .j) _ _ _ (h .0) (omega arith) (first .bytes-at .ensures es (h .1 .eight-entries) .bytes) (second .bytes-at2 .ensures es (h .1 .eight-entries) .bytes) (asked .is-apart .ensures) (c .if1 .left) (l .inv .1))
+    (omega arith, other-on _ _ _ _ (l .j) _ _ _ (start .pre .0) (omega arith) p-is q-is (asked .is-apart .ensures) (c .if1 .left) (l .inv .1))
 
 returns-2 : tie.Need-returns-2 Inv-loop μ-loop
-returns-2 c =
-    let start : tie.Start Inv-loop μ-loop = search in
-    let l = c .before .loop in
-    others-end _ _ (start .pre .1) _ (l .j) (omega arith) (l .inv .1)
+returns-2 c = let l = c .before .loop in others-end _ _ _ _ (l .j) (omega arith) (l .inv .1)
 
 pub is-unlike-spec : {M : Type 1} → statement M
 is-unlike-spec =
@@ -61,9 +59,13 @@ is-unlike-spec =
     μ-loop
     (λ c. search needs)
     (λ c. search needs)
+    (λ c. search needs)
+    (λ c. search needs)
     (λ c κs. search needs)
     (λ c. search needs)
-    (λ c. (omega arith, refl))
+    (λ c. (omega arith, λ t cs ns bs. refl))
+    (λ c. search needs)
+    (λ c. search needs)
     (λ c. search needs)
     (λ c. search needs)
     (λ c κs. search needs)
