@@ -13,7 +13,7 @@
  *   - the stack has room: a call takes up to 36 KB of it, a first call up to 40 KB (measured on both machines), a state by value 3.5 KB more.
  *
  * Of what state and store hold nothing is asked: every bit pattern of both is covered by the proof, and one that is not sound is refused (3).
- * The padding of a state is not defined and not read, so states are not to be compared by memcmp.
+ * A state has no padding: two are equal where their bytes are.
  */
 #ifndef KEY_AGENT_H
 #define KEY_AGENT_H
@@ -41,28 +41,18 @@ typedef struct {
     uint64_t count;
 } key_agent_millis;
 
-/* A lifetime in seconds. */
+/* Of each of the eight places: insertion number, 0 where it is free; reading at insertion, in milliseconds; lengths of blob, key fields and comment;
+ * lifetime in seconds; limited (has it a lifetime?) and confirm, 0 or 1, any other value is unsound. */
 typedef struct {
-    uint32_t count;
-} key_agent_seconds;
-
-/* The comment that the key was added with: its first len bytes; the rest is zero. Not ended by a zero byte, and may hold some. */
-typedef struct {
-    uint8_t bytes[KEY_AGENT_COMMENT_BYTES];
-    size_t len;
-} key_agent_comment;
-
-/* limited (has it a lifetime?) and confirm are 0 or 1; any other value is unsound. */
-typedef struct {
-    uint64_t number;
-    key_agent_millis reading;
-    uint8_t limited;
-    key_agent_seconds seconds;
-    uint8_t confirm;
-    size_t blob_len;
-    size_t fields_len;
-    key_agent_comment comment;
-} key_agent_entry;
+    uint64_t numbers[8];
+    uint64_t readings[8];
+    size_t blob_lens[8];
+    size_t fields_lens[8];
+    size_t comment_lens[8];
+    uint32_t seconds[8];
+    uint8_t limited[8];
+    uint8_t confirm[8];
+} key_agent_columns;
 
 typedef struct {
     uint8_t bytes[1024];
@@ -70,7 +60,8 @@ typedef struct {
 } key_agent_lock;
 
 typedef struct {
-    key_agent_entry entries[8];
+    key_agent_columns columns;
+    uint8_t comments[8 * KEY_AGENT_COMMENT_BYTES];
     key_agent_lock lock;
     key_agent_millis clock;
     uint64_t next;
@@ -153,6 +144,12 @@ typedef struct {
 } key_agent_split_result;
 
 /* ---- A held key ---- */
+
+/* The comment that the key was added with: its first len bytes; the rest is zero. Not ended by a zero byte, and may hold some. */
+typedef struct {
+    uint8_t bytes[KEY_AGENT_COMMENT_BYTES];
+    size_t len;
+} key_agent_comment;
 
 /* number is its insertion number; where it is 0 nothing is told, and every field is 0. confirm and limited (has it a lifetime?) are 0 or 1; left
  * is what is left of the lifetime at the kept clock, in milliseconds, 0 without one and where none is left. The public blob is
@@ -238,8 +235,8 @@ uint64_t key_agent_next(key_agent_state state, const uint8_t *store, size_t stor
 #ifdef __STDC_VERSION__
 #if __STDC_VERSION__ >= 201112L
 _Static_assert(sizeof(key_agent_comment) == 264 && offsetof(key_agent_comment, len) == 256, "layout of a comment");
-_Static_assert(sizeof(key_agent_entry) == 312 && offsetof(key_agent_entry, seconds) == 20 && offsetof(key_agent_entry, blob_len) == 32 && offsetof(key_agent_entry, comment) == 48, "layout of an entry");
-_Static_assert(sizeof(key_agent_state) == 3544 && offsetof(key_agent_state, lock) == 2496 && offsetof(key_agent_state, clock) == 3528 && offsetof(key_agent_state, next) == 3536, "layout of a state");
+_Static_assert(sizeof(key_agent_columns) == 368 && offsetof(key_agent_columns, blob_lens) == 128 && offsetof(key_agent_columns, seconds) == 320 && offsetof(key_agent_columns, confirm) == 360, "layout of the columns");
+_Static_assert(sizeof(key_agent_state) == 3456 && offsetof(key_agent_state, comments) == 368 && offsetof(key_agent_state, lock) == 2408 && offsetof(key_agent_state, clock) == 3440 && offsetof(key_agent_state, next) == 3448, "layout of a state");
 _Static_assert(sizeof(key_agent_answers) == 24 && offsetof(key_agent_answers, confirmation_number) == 8, "layout of answers");
 _Static_assert(sizeof(key_agent_outcome) == 32 && offsetof(key_agent_outcome, hash) == 2 && offsetof(key_agent_outcome, number) == 8, "layout of an outcome");
 _Static_assert(sizeof(key_agent_split_result) == 24 && offsetof(key_agent_split_result, from) == 8, "layout of a split");

@@ -577,8 +577,7 @@ impl fmt::Debug for Gateway {
 impl Drop for Gateway {
     // Keys, comments and passphrase do not stay in memory that is handed back.
     fn drop(&mut self) {
-        let raw::State { entries, lock, .. } = &mut *self.state;
-        let comments = entries.iter_mut().flat_map(|e| &mut e.comment.bytes);
+        let raw::State { comments, lock, .. } = &mut *self.state;
         for b in self.store.iter_mut().chain(comments).chain(&mut lock.bytes) {
             // SAFETY: a reference to one byte. Volatile, so that the write is not left out.
             unsafe { std::ptr::write_volatile(b, 0) };
@@ -646,10 +645,18 @@ fn self_test() {
         other => panic!("first: {other:?}"),
     };
     let fresh = *g.state;
-    let mut comment = raw::Comment { bytes: [0; 255], len: 0 };
-    let free = raw::Entry { number: 0, reading: 0, limited: 0, seconds: 0, confirm: 0, blob_len: 0, fields_len: 0, comment };
+    let columns = raw::Columns {
+        numbers: [0; 8],
+        readings: [0; 8],
+        blob_lens: [0; 8],
+        fields_lens: [0; 8],
+        comment_lens: [0; 8],
+        seconds: [0; 8],
+        limited: [0; 8],
+        confirm: [0; 8],
+    };
     let lock = raw::LockRecord { bytes: [0; 1024], len: 0 };
-    assert_eq!(fresh, raw::State { entries: [free; 8], lock, clock: 0, next: 1 }, "layout of State: fresh");
+    assert_eq!(fresh, raw::State { columns, comments: [0; 2040], lock, clock: 0, next: 1 }, "layout of State: fresh");
     // a P-256 key with every field of its entry set: 25, lifetime 0x01020304, Confirm
     let blob = [string(b"ecdsa-sha2-nistp256"), string(b"nistp256"), string(&[4; 65])].concat();
     let fields = [blob.clone(), string(&[5; 32])].concat();
@@ -671,21 +678,28 @@ fn self_test() {
     assert_eq!(g.call(add, 78, &a, &mut reply), Outcome::Reply, "add");
     assert_eq!(reply.bytes(), [0, 0, 0, 1, 6], "reply");
     let mut want = fresh;
-    comment.bytes[..4].copy_from_slice(b"shed");
-    comment.len = 4;
-    want.entries[0] =
-        raw::Entry { number: 1, reading: 78, limited: 1, seconds: 0x0102_0304, confirm: 1, blob_len: blob.len(), fields_len: fields.len(), comment };
+    want.columns.numbers[0] = 1;
+    want.columns.readings[0] = 78;
+    want.columns.blob_lens[0] = blob.len();
+    want.columns.fields_lens[0] = fields.len();
+    want.columns.comment_lens[0] = 4;
+    want.columns.seconds[0] = 0x0102_0304;
+    want.columns.limited[0] = 1;
+    want.columns.confirm[0] = 1;
+    want.comments[..4].copy_from_slice(b"shed");
     want.clock = 78;
     want.next = 2;
     assert_eq!(*g.state, want, "layout of State: an entry");
     let held = g.told(1);
     let left = 0x0102_0304 * 1_000;
+    let mut comment = raw::Comment { bytes: [0; 255], len: 4 };
+    comment.bytes[..4].copy_from_slice(b"shed");
     let told = raw::HeldKey { number: 1, confirm: 1, limited: 1, left, comment, ..held };
     assert_eq!(held, told, "layout of HeldKey");
     assert!(g.store[held.blob_from..held.blob_to] == blob[..] && g.store[held.fields_from..held.fields_to] == fields[..], "the store's parts");
     assert!(g.next_held(0) == Some(1) && g.next_held(1).is_none() && g.key(2).is_none(), "next");
-    g.state.entries[0].limited = 0;
-    g.state.entries[0].seconds = 0;
+    g.state.columns.limited[0] = 0;
+    g.state.columns.seconds[0] = 0;
     assert_eq!(g.told(1), raw::HeldKey { limited: 0, left: 0, ..held }, "layout of HeldKey: no lifetime");
     *g.state = want;
     let sign = [&[13][..], &string(&blob), &string(b"data"), &[0, 0, 0, 4]].concat();
