@@ -17,23 +17,27 @@ static const kind ED = {"ssh-ed25519", 51, 119, 10}, P256 = {"ecdsa-sha2-nistp25
 static key_agent_state state;
 static uint8_t store[KEY_AGENT_STORE_BYTES];
 
-/* `late`: the blobs differ in their last byte alone */
-static void hold(size_t i, kind k, int late) {
+/* where the blobs differ: behind their type, in the last byte alone, or in the first byte behind the type alone */
+enum { ALL, LAST, FIRST };
+static void hold(size_t i, kind k, int where) {
     uint8_t *blob = store + i * 4096, mark = (uint8_t)(i + 1);
     size_t n = strlen(k.type);
-    memset(blob, late ? 1 : mark, k.blob);
+    memset(blob, where == ALL ? mark : 1, k.blob);
     memset(blob, 0, 4);
     blob[3] = (uint8_t)n;
     memcpy(blob + 4, k.type, n);
-    blob[k.blob - 1] = mark;
+    blob[where == FIRST ? 4 + n : k.blob - 1] = mark;
     memset(blob + 1024, mark, k.fields);
-    state.entries[i] = (key_agent_entry){.number = i + 1, .blob_len = k.blob, .fields_len = k.fields, .comment.len = k.comment};
-    memset(state.entries[i].comment.bytes, mark, k.comment);
+    state.columns.numbers[i] = i + 1;
+    state.columns.blob_lens[i] = k.blob;
+    state.columns.fields_lens[i] = k.fields;
+    state.columns.comment_lens[i] = k.comment;
+    memset(state.comments + i * KEY_AGENT_COMMENT_BYTES, mark, k.comment);
     state.next = i + 2;
 }
 
-static void hold_all(kind k, int late) {
-    for (size_t i = 0; i < 8; i++) hold(i, k, late);
+static void hold_all(kind k, int where) {
+    for (size_t i = 0; i < 8; i++) hold(i, k, where);
 }
 
 static int make(const char *name) {
@@ -41,14 +45,15 @@ static int make(const char *name) {
     if (!strcmp(name, "fresh")) return 1;
     if (!strcmp(name, "all-kinds")) {
         const kind kinds[8] = {ED, ED, P256, P384, P521, R2, R3, R4};
-        for (size_t i = 0; i < 8; i++) hold(i, kinds[i], 0);
-    } else if (!strcmp(name, "ed25519")) hold_all(ED, 0);
-    else if (!strcmp(name, "p521")) hold_all(P521, 0);
-    else if (!strcmp(name, "rsa-4096")) hold_all(R4, 0);
-    else if (!strcmp(name, "full")) hold_all(FULL, 0);
-    else if (!strcmp(name, "full-late")) hold_all(FULL, 1);
+        for (size_t i = 0; i < 8; i++) hold(i, kinds[i], ALL);
+    } else if (!strcmp(name, "ed25519")) hold_all(ED, ALL);
+    else if (!strcmp(name, "p521")) hold_all(P521, ALL);
+    else if (!strcmp(name, "rsa-4096")) hold_all(R4, ALL);
+    else if (!strcmp(name, "full")) hold_all(FULL, ALL);
+    else if (!strcmp(name, "full-late")) hold_all(FULL, LAST);
+    else if (!strcmp(name, "full-early")) hold_all(FULL, FIRST);
     else if (!strcmp(name, "late")) {
-        hold_all(LATE, 1);
+        hold_all(LATE, LAST);
         state.lock.bytes[0] = 97;
         state.lock.len = 1;
     } else return 0;
@@ -57,7 +62,7 @@ static int make(const char *name) {
 
 int main(int words, char **word) {
     if (words != 3) {
-        puts("fresh all-kinds ed25519 p521 rsa-4096 full full-late late");
+        puts("fresh all-kinds ed25519 p521 rsa-4096 full full-late full-early late");
         return words != 1;
     }
     if (!make(word[1])) return 2;

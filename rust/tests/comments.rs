@@ -171,8 +171,16 @@ impl Open {
         // SAFETY: a vector's pointer and length; nothing is written.
         unsafe { raw::key_agent_is_sound(self.state, self.store.as_ptr(), self.store.len()) }
     }
+    fn comment(&self, place: usize) -> raw::Comment {
+        let bytes = self.state.comments[255 * place..255 * (place + 1)].try_into().expect("255 bytes");
+        raw::Comment { bytes, len: self.state.columns.comment_lens[place] }
+    }
+    fn set_comment(&mut self, place: usize, c: raw::Comment) {
+        self.state.comments[255 * place..255 * (place + 1)].copy_from_slice(&c.bytes);
+        self.state.columns.comment_lens[place] = c.len;
+    }
     fn comments(&self) -> [raw::Comment; 8] {
-        self.state.entries.map(|e| e.comment)
+        std::array::from_fn(|i| self.comment(i))
     }
     /// Refused with 3, and nothing is altered.
     fn unsound(mut self, what: &str, place: usize) {
@@ -230,8 +238,9 @@ fn a_state_handed_in() {
     let held = Open::full(3, &[]);
     for place in 0..8 {
         let with = |change: fn(&mut raw::Comment, usize, u8), n: usize, value: u8| {
-            let mut o = held.clone();
-            change(&mut o.state.entries[place].comment, n, value);
+            let (mut o, mut c) = (held.clone(), held.comment(place));
+            change(&mut c, n, value);
+            o.set_comment(place, c);
             o
         };
         with(|_, _, _| (), 0, 0).sound("as it is", place);
@@ -259,14 +268,14 @@ fn a_state_handed_in() {
         free.clone().sound("free", place);
         for len in [1, 3, 255, 256, usize::MAX] {
             let mut o = free.clone();
-            o.state.entries[place].comment.len = len;
+            o.state.columns.comment_lens[place] = len;
             o.unsound(&format!("free, length {len}"), place);
         }
         for n in [0, 1, 2, 3, 7, 8, 63, 64, 127, 128, 191, 247, 253, 254] {
             for len in [0, n + 1] {
                 let mut o = free.clone();
-                o.state.entries[place].comment.bytes[n] = 1;
-                o.state.entries[place].comment.len = len;
+                o.state.comments[255 * place + n] = 1;
+                o.state.columns.comment_lens[place] = len;
                 o.unsound(&format!("free, byte {n} set, length {len}"), place);
             }
         }

@@ -31,12 +31,12 @@ fn a_flag_is_0_or_1() {
     assert_eq!(call(&mut held, &mut store, &add, &mut reply), (5, 0));
     reply.fill(7);
     // one held key, with neither flag; each flag of each place with each value
-    let flags: [(&str, fn(&mut raw::Entry) -> &mut u8); 2] = [("limited", |e| &mut e.limited), ("confirm", |e| &mut e.confirm)];
+    let flags: [(&str, fn(&mut raw::Columns) -> &mut [u8; 8]); 2] = [("limited", |c| &mut c.limited), ("confirm", |c| &mut c.confirm)];
     for (name, flag) in flags {
         for place in 0..8 {
             for value in 0..=255 {
                 let (mut state, mut bytes) = (held, store.clone());
-                *flag(&mut state.entries[place]) = value;
+                flag(&mut state.columns)[place] = value;
                 let (damaged, sound) = (state, value == 0 || value == 1 && place == 0);
                 assert_eq!(is_sound(&state, &bytes), sound, "{name} of place {place} is {value}");
                 let outcome = call(&mut state, &mut bytes, &sign, &mut reply);

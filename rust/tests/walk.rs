@@ -51,10 +51,11 @@ impl Fold {
         }
     }
     fn state(&mut self, s: &raw::State) {
-        for e in &s.entries {
-            let small = u64::from(e.limited) << 40 | u64::from(e.confirm) << 32 | u64::from(e.seconds);
-            self.words([e.number, e.reading, small, e.blob_len as u64, e.fields_len as u64, e.comment.len as u64]);
-            self.bytes(&e.comment.bytes);
+        let c = &s.columns;
+        for i in 0..8 {
+            let small = u64::from(c.limited[i]) << 40 | u64::from(c.confirm[i]) << 32 | u64::from(c.seconds[i]);
+            self.words([c.numbers[i], c.readings[i], small, c.blob_lens[i] as u64, c.fields_lens[i] as u64, c.comment_lens[i] as u64]);
+            self.bytes(&s.comments[255 * i..255 * (i + 1)]);
         }
         self.bytes(&s.lock.bytes);
         self.words([s.lock.len as u64, s.clock, s.next]);
@@ -81,22 +82,25 @@ fn lookups(s: &raw::State, b: &[u8], sound: bool) {
     // SAFETY: a slice's pointer and length; nothing is written.
     let told = |number| unsafe { raw::key_agent_key(*s, b.as_ptr(), b.len(), number) };
     let next = |after| unsafe { raw::key_agent_next(*s, b.as_ptr(), b.len(), after) };
-    let mut held: Vec<_> = s.entries.iter().enumerate().filter(|(_, e)| sound && e.number != 0).collect();
-    held.sort_by_key(|(_, e)| e.number);
+    let c = &s.columns;
+    let mut held: Vec<_> = (0..8).filter(|i| sound && c.numbers[*i] != 0).collect();
+    held.sort_by_key(|i| c.numbers[*i]);
     let mut after = 0;
-    for (place, e) in &held {
-        let left = if e.limited == 1 { (1_000 * u64::from(e.seconds)).saturating_sub(s.clock - e.reading) } else { 0 };
+    for place in held.iter().copied() {
+        let (number, confirm, limited) = (c.numbers[place], c.confirm[place], c.limited[place]);
+        let left = if limited == 1 { (1_000 * u64::from(c.seconds[place])).saturating_sub(s.clock - c.readings[place]) } else { 0 };
         let (blob_from, fields_from) = (4_096 * place, 4_096 * place + 1_024);
-        let (blob_to, fields_to) = (blob_from + e.blob_len, fields_from + e.fields_len);
-        let (number, confirm, limited, comment) = (e.number, e.confirm, e.limited, e.comment);
+        let (blob_to, fields_to) = (blob_from + c.blob_lens[place], fields_from + c.fields_lens[place]);
+        let bytes = s.comments[255 * place..255 * (place + 1)].try_into().expect("255 bytes");
+        let comment = raw::Comment { bytes, len: c.comment_lens[place] };
         let want = raw::HeldKey { number, confirm, limited, left, blob_from, blob_to, fields_from, fields_to, comment };
         assert_eq!(told(number), want);
         assert_eq!(next(after), number);
         after = number;
     }
     assert_eq!(next(after), 0);
-    for number in s.entries.iter().map(|e| e.number).chain([0, 1, s.next, u64::MAX]) {
-        assert!(held.iter().any(|(_, e)| e.number == number) || told(number) == UNTOLD, "nothing is told of {number}");
+    for number in c.numbers.into_iter().chain([0, 1, s.next, u64::MAX]) {
+        assert!(held.iter().any(|i| c.numbers[*i] == number) || told(number) == UNTOLD, "nothing is told of {number}");
     }
 }
 
@@ -219,17 +223,17 @@ fn one_walk() {
             let (e, n) = (r.below(8), r.below(1_024));
             let value = [r.next() >> r.below(64), r.below(5) as u64, u64::MAX][r.below(3)];
             match r.below(12) {
-                0 => s.entries[e].number = value,
-                1 => s.entries[e].reading = value,
-                2 => s.entries[e].limited ^= 1,
-                3 => s.entries[e].seconds = value as u32,
-                4 => s.entries[e].blob_len = value as usize,
-                5 => s.entries[e].fields_len = value as usize,
+                0 => s.columns.numbers[e] = value,
+                1 => s.columns.readings[e] = value,
+                2 => s.columns.limited[e] ^= 1,
+                3 => s.columns.seconds[e] = value as u32,
+                4 => s.columns.blob_lens[e] = value as usize,
+                5 => s.columns.fields_lens[e] = value as usize,
                 6 => s.lock.len = value as usize,
                 7 => s.next = value,
                 8 => s.lock.bytes[n] = value as u8,
-                9 => s.entries[e].comment.len = value as usize,
-                10 => s.entries[e].comment.bytes[n % 255] = value as u8,
+                9 => s.columns.comment_lens[e] = value as usize,
+                10 => s.comments[255 * e + n % 255] = value as u8,
                 _ => b[4_096 * e + 4 * n] ^= value as u8,
             }
             // SAFETY: as above.
