@@ -1,9 +1,8 @@
 // One value of a state or a store is set, and the whole tested for soundness.
-use table::Comment;
-use table::Entry;
+use table::Columns;
 use table::LockRecord;
 use table::State;
-use table::soundness::is_sound;
+use table::soundness::is_state_sound;
 use wire::limits;
 use wire::read::cut;
 ghost use mathlib.Core.Path.{_≡_};
@@ -16,15 +15,6 @@ fn zeros() -> [u8; 40960]
     [0; 40960]
 }
 
-fn with_comment_byte(c: Comment, place: usize, value: u8) -> Comment {
-    if limits::COMMENT_LIMIT <= place {
-        return c;
-    }
-    let mut bytes = c.bytes;
-    bytes[place] = value;
-    Comment { bytes, len: c.len }
-}
-
 fn byte_of(value: u32) -> u8 {
     if value < 256 {
         return value as u8;
@@ -32,53 +22,77 @@ fn byte_of(value: u32) -> u8 {
     255
 }
 
-// The parts of an entry are 1 to 7, 12 its comment's length, and 13 a byte of it, by 256 times its place and the byte.
-fn damaged_entry(e: Entry, part: u8, value: u32) -> Entry {
+// The parts of an entry are 1 to 7, and 12 its comment's length.
+fn damaged_columns(t: Columns, part: u8, place: usize, value: u32) -> Columns {
+    if 8 <= place {
+        return t;
+    }
     let number = value as u64;
     let length = value as usize;
     let byte = byte_of(value);
-    let mut d = e;
+    let mut numbers = t.numbers;
+    let mut readings = t.readings;
+    let mut blob_lens = t.blob_lens;
+    let mut fields_lens = t.fields_lens;
+    let mut comment_lens = t.comment_lens;
+    let mut seconds = t.seconds;
+    let mut limited = t.limited;
+    let mut confirm = t.confirm;
     match part {
         1 => {
-            d.number = number;
+            numbers[place] = number;
         }
         2 => {
-            d.reading.count = number;
+            readings[place] = number;
         }
         3 => {
-            d.limited = byte;
+            limited[place] = byte;
         }
         4 => {
-            d.seconds.count = value;
+            seconds[place] = value;
         }
         5 => {
-            d.confirm = byte;
+            confirm[place] = byte;
         }
         6 => {
-            d.blob_len = length;
+            blob_lens[place] = length;
         }
         12 => {
-            d.comment.len = length;
-        }
-        13 => {
-            d.comment = with_comment_byte(e.comment, length / 256, (value % 256) as u8);
+            comment_lens[place] = length;
         }
         _ => {
-            d.fields_len = length;
+            fields_lens[place] = length;
         }
     }
-    d
+    Columns {
+        numbers,
+        readings,
+        blob_lens,
+        fields_lens,
+        comment_lens,
+        seconds,
+        limited,
+        confirm,
+    }
 }
 
-fn with_entry(state: State, place: usize, part: u8, value: u32) -> State {
+fn with_columns(state: State, part: u8, place: usize, value: u32) -> State {
+    let mut out = state;
+    out.columns = damaged_columns(state.columns, part, place, value);
+    out
+}
+
+fn with_comment_byte(state: State, place: usize, i: usize, value: u8) -> State {
     if 8 <= place {
         return state;
     }
-    let mut es = state.entries;
-    let e = es[place];
-    es[place] = damaged_entry(e, part, value);
+    if limits::COMMENT_LIMIT <= i {
+        return state;
+    }
+    let mut comments = state.comments;
+    comments[place * limits::COMMENT_LIMIT + i] = value;
     let mut out = state;
-    out.entries = es;
+    out.comments = comments;
     out
 }
 
@@ -97,7 +111,8 @@ fn with_passphrase_byte(state: State, place: usize, value: u32) -> State {
     out
 }
 
-// Behind an entry's parts: the passphrase's length and bytes, the clock, the next number.
+// Behind an entry's parts: the passphrase's length and bytes, the clock, the next number; and a byte of a comment, by 256 times its place
+// and the byte.
 fn damaged(state: State, part: u8, place: usize, value: u32) -> State {
     let number = value as u64;
     let length = value as usize;
@@ -115,21 +130,24 @@ fn damaged(state: State, part: u8, place: usize, value: u32) -> State {
         11 => {
             out.next = number;
         }
+        13 => {
+            return with_comment_byte(state, place, length / 256, (value % 256) as u8);
+        }
         _ => {
-            return with_entry(state, place, part, value);
+            return with_columns(state, part, place, value);
         }
     }
     out
 }
 
-pub(crate) fn is_state_sound(
+pub(crate) fn is_damaged_sound(
     state: State,
     store: &[u8],
     part: u8,
     place: usize,
     value: u32,
 ) -> bool {
-    is_sound(damaged(state, part, place, value), store)
+    is_state_sound(damaged(state, part, place, value), store)
 }
 
 // A byte of the store is set, and set back.
@@ -139,7 +157,7 @@ pub(crate) fn is_store_sound(state: State, store: &mut [u8], place: usize, value
     }
     let kept = store[place];
     store[place] = byte_of(value);
-    let sound = is_sound(state, store);
+    let sound = is_state_sound(state, store);
     store[place] = kept;
     sound
 }
@@ -147,5 +165,5 @@ pub(crate) fn is_store_sound(state: State, store: &mut [u8], place: usize, value
 // A store of zeros with another length.
 pub(crate) fn is_length_sound(state: State, length: usize) -> bool {
     let room = zeros();
-    is_sound(state, cut(&room, 0, length))
+    is_state_sound(state, cut(&room, 0, length))
 }

@@ -1,26 +1,28 @@
-// A step is taken, and its answer compared. Nothing is done with a state that is not sound.
+// A step is taken on a state, and its answer compared.
 use crate::acts;
-use crate::acts::Done;
 use crate::damage;
+use crate::lent;
 use crate::steps::Task;
 use crate::steps::Tasked;
 use crate::steps::read_task;
-use keys::addition::Carried;
-use keys::addition::Piece;
-use keys::kinds::Places;
 use report::sections::Ran;
 use report::sections::ran_as;
+use table::Columns;
+use table::Kept;
+use table::LockRecord;
 use table::State;
 use table::bytes::wipe;
 use table::fresh;
-use table::soundness::is_sound;
 use wire::read::Cursor;
-use wire::read::cut;
-ghost use Rattle.table.specs.Soundness.{Sound};
 
 pub struct Judged {
     pub ran: Ran,
     pub state: State,
+}
+
+struct Taken {
+    answer: u64,
+    state: State,
 }
 
 // Each section begins with a fresh state.
@@ -32,91 +34,67 @@ pub(crate) fn begun(state: State, store: &mut [u8], ran: u32) -> State {
     state
 }
 
-fn less(a: usize, b: usize) -> usize {
-    if a < b {
-        return 0;
-    }
-    a - b
-}
-
-// Fields and comment lie in the record as in an add request, behind a first byte.
-fn request_start(t: Task) -> usize {
-    less(t.fields.from, 1)
-}
-
-fn carried(t: Task) -> Carried {
-    let start = request_start(t);
-    let x = t.subject;
-    Carried {
-        places: Places {
-            front: 0,
-            swap: 0,
-            back: 0,
-            end: less(t.fields.to, start),
-        },
-        comment: Piece {
-            from: less(t.comment.from, start),
-            to: less(t.comment.to, start),
-        },
-        lifetime: acts::lifetime_of(x.limited, x.value),
-        confirm: x.confirm,
-    }
-}
-
-fn change(s: &[u8], t: Task, state: State, store: &mut [u8]) -> Done
-    requires { ⌜ Sound state (now store) ⌝ }
-{
-    let x = t.subject;
-    let bytes = cut(s, t.bytes.from, t.bytes.to);
-    let op = t.op;
-    match op {
-        1 => acts::advance(state, store, x.value),
-        2 => acts::put(
-            state,
-            store,
-            cut(s, request_start(t), t.comment.to),
-            carried(t),
-            bytes,
-        ),
-        3 => acts::remove(state, store, x.place),
-        4 => acts::remove_all(state, store),
-        5 => acts::lock(state, bytes),
-        _ => acts::unanswered(state),
-    }
-}
-
-fn ask(s: &[u8], t: Task, state: State, store: &[u8]) -> u64
-    requires { ⌜ Sound state (now store) ⌝ }
-{
-    let x = t.subject;
-    let bytes = cut(s, t.bytes.from, t.bytes.to);
-    let op = t.op;
-    match op {
-        11 => acts::find(state, store, bytes),
-        12 => acts::entry_part(state, x.place, x.part),
-        13 => acts::is_place_zero(state, store, x.place),
-        14 => acts::is_passphrase(state, store, bytes),
-        15 => acts::lock_length(state),
-        16 => acts::is_comment(state, x.place, bytes),
-        _ => 99,
-    }
-}
-
-fn act_soundly(s: &[u8], t: Task, state: State, store: &mut [u8]) -> Done
-    requires { ⌜ Sound state (now store) ⌝ }
-{
-    if t.op < 11 {
-        return change(s, t, state, store);
-    }
-    let answer = ask(s, t, state, store);
-    Done { answer, state }
-}
-
-fn act(s: &[u8], t: Task, state: State, store: &mut [u8]) -> Done {
-    if is_sound(state, store) {
-        return act_soundly(s, t, state, store);
-    }
-    acts::unanswered(state)
+// The parts of the state are lent from locals, and make the new state.
+fn act(s: &[u8], t: Task, state: State, store: &mut [u8]) -> Taken {
+    let before = state.columns;
+    let mut numbers = before.numbers;
+    let mut readings = before.readings;
+    let mut blob_lens = before.blob_lens;
+    let mut fields_lens = before.fields_lens;
+    let mut comment_lens = before.comment_lens;
+    let mut seconds = before.seconds;
+    let mut limited = before.limited;
+    let mut confirm = before.confirm;
+    let mut comments = state.comments;
+    let lock = state.lock;
+    let mut passphrase = lock.bytes;
+    let clock = state.clock;
+    let kept = Kept {
+        clock,
+        next: state.next,
+        locked: lock.len,
+    };
+    let done = lent::act(
+        s,
+        t,
+        &mut numbers,
+        &mut readings,
+        &mut blob_lens,
+        &mut fields_lens,
+        &mut comment_lens,
+        &mut seconds,
+        &mut limited,
+        &mut confirm,
+        &mut comments,
+        &mut passphrase,
+        kept,
+        store,
+    );
+    let answer = done.answer;
+    let after = done.kept;
+    let columns = Columns {
+        numbers,
+        readings,
+        blob_lens,
+        fields_lens,
+        comment_lens,
+        seconds,
+        limited,
+        confirm,
+    };
+    let lock = LockRecord {
+        bytes: passphrase,
+        len: after.locked,
+    };
+    let clock = after.clock;
+    let state = State {
+        columns,
+        comments,
+        lock,
+        clock,
+        next: after.next,
+    };
+    Taken { answer, state }
 }
 
 // Whether a state is sound with one value set.
@@ -124,18 +102,18 @@ fn is_sound_with(t: Task, state: State, store: &mut [u8]) -> bool {
     let x = t.subject;
     let op = t.op;
     match op {
-        21 => damage::is_state_sound(state, store, x.part, x.place, x.value),
+        21 => damage::is_damaged_sound(state, store, x.part, x.place, x.value),
         22 => damage::is_store_sound(state, store, x.place, x.value),
         _ => damage::is_length_sound(state, x.place),
     }
 }
 
-fn take(s: &[u8], t: Task, state: State, store: &mut [u8]) -> Done {
+fn take(s: &[u8], t: Task, state: State, store: &mut [u8]) -> Taken {
     if t.op < 20 {
         return act(s, t, state, store);
     }
     let answer = acts::number_of(is_sound_with(t, state, store));
-    Done { answer, state }
+    Taken { answer, state }
 }
 
 pub(crate) fn judge(s: &[u8], c: Cursor, state: State, store: &mut [u8]) -> Judged {
@@ -145,10 +123,10 @@ pub(crate) fn judge(s: &[u8], c: Cursor, state: State, store: &mut [u8]) -> Judg
             state,
         };
     };
-    let done = take(s, t, state, store);
-    let after = done.state;
+    let taken = take(s, t, state, store);
+    let after = taken.state;
     Judged {
-        ran: ran_as(done.answer == t.want as u64, next),
+        ran: ran_as(taken.answer == t.want as u64, next),
         state: after,
     }
 }

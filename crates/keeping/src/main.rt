@@ -3,6 +3,7 @@
 mod acts;
 mod damage;
 mod judge;
+mod lent;
 mod steps;
 
 use judge::begun;

@@ -1,29 +1,15 @@
--- The length is within the array, whose type says its own. Assumes nothing.
-use native.Mathlib.Omega.{arith}
-use borrow.Author.Needs.{needs}
+-- The comment is cut off within its bytes. Assumes nothing.
 use mathlib.Core.Path.{sym}
 use lib.Seq.{length-take-le}
-use Rattle.table.proofs.ArrayLaws.{comment-of}
+use borrow.Author.Needs.{needs}
 use Rattle.keeping.proofs.acts.is_kept.Statement.{statement}
 use Rattle.keeping.proofs.acts.is_kept.Tie as tie
 
-behind : tie.Need-part-is-zero-end
-behind c =
+slice-aggregate-is-same : tie.Need-slice-aggregate-is-same
+slice-aggregate-is-same c =
+    let inside : tie.Else1 = search in
     let start : tie.Start = search in
-    let long = comment-of (start .args .c) _ (start .good .0) in
-    omega arith
-
-inside : tie.Need-array-share-prefix-bytes
-inside c =
-    let start : tie.Start = search in
-    let long = comment-of (start .args .c) _ (start .good .0) in
-    omega arith
-
-size : tie.Need-slice-aggregate-is-same
-size c =
-    let start : tie.Start = search in
-    let long = comment-of (start .args .c) _ (start .good .0) in
-    sym (length-take-le (start .args .c .len) (start .args .c .bytes) (omega arith))
+    sym (length-take-le (start .args .n) (start .args .bytes .now) (inside .if1 .left))
 
 pub is-kept-spec : {M : Type 1} → statement M
 is-kept-spec =
@@ -31,10 +17,10 @@ is-kept-spec =
     (tie.spec
     (λ c. search needs)
     (λ c. search needs)
-    behind
+    (λ c. search needs)
+    (λ c. search needs)
     (λ c κs. search needs)
     (λ c. search needs)
-    inside
-    size
+    slice-aggregate-is-same
     (λ c κs. search needs)
     (λ c. search needs))

@@ -1,15 +1,20 @@
--- The place for a blob within the limits may take it. Assumes nothing.
+-- The place for a blob is one of the eight, and the tests are the limits of a new key. Assumes nothing.
+use mathlib.Core.Path.{refl}
+use mathlib.Core.List.{[]}
+use Rattle.table.specs.Entries.{columns}
+use Rattle.table.specs.Meaning.{held}
+use Rattle.keeping.proofs.ActLaws.{place-below}
 use borrow.Author.Needs.{needs}
-use mathlib.Core.Path.{sym, ap, _∙_}
-use Rattle.rule.specs.Searches.{foundPlace}
-use Rattle.table.specs.Meaning.{gatewayOf}
-use Rattle.table.proofs.ChangeLaws.{place-for-put}
 use Rattle.keeping.proofs.acts.put.Statement.{statement}
 use Rattle.keeping.proofs.acts.put.Tie as tie
 
-may : tie.Need-put-requires
-unfolding gatewayOf
-may c κs =
+-- where the function began, which is too far back for a search from its end
+began : tie.After-cut → tie.Start
+began c = search
+
+put-requires : tie.Need-put-requires
+unfolding began
+put-requires c κs =
     let place : tie.After-i = search in
     let found : tie.After-place-for = search in
     let numbers : tie.Else6 = search in
@@ -20,18 +25,21 @@ may c κs =
     let blob-short : tie.Else1 = search in
     let text : tie.After-cut2 = search in
     let part : tie.After-cut = search in
-    let start : tie.Start = search in
+    let start = began part in
     let a = start .args in
-    let at = ap foundPlace (sym (found .place-for .ensures) ∙ place .i .given .1) in
-    place-for-put (a .state) (a .store .now) _ _ (start .pre) at
-    (record {
-      blob-some = blob-short .if1 .left;
-      blob-fits = blob-long .if2 .left;
-      fields-some = rw (← part .cut .ensures .bytes) (fields-short .if3 .left);
-      fields-fit = rw (← part .cut .ensures .bytes) (fields-long .if4 .left);
-      comment-fits = rw (← text .cut2 .ensures .bytes) (comment-long .if5 .left);
-    })
-    (numbers .if6 .left)
+    let t = columns (a .numbers .now) (a .readings .now) (a .blob-lens .now) (a .fields-lens .now) (a .comment-lens .now) (a .seconds .now) (a .limited .now) (a .confirm .now) in
+    let s = held t (a .comments .now) [] (a .kept) in (
+      place-below s (a .store .now) (a .blob .now) _ _ (place .i .given .1) (found .place-for .ensures s refl refl),
+      numbers .if6 .left,
+      record {
+        blob-some = blob-short .if1 .left;
+        blob-fits = blob-long .if2 .left;
+        fields-some = rw (← part .cut .ensures .bytes) (fields-short .if3 .left);
+        fields-fit = rw (← part .cut .ensures .bytes) (fields-long .if4 .left);
+        comment-fits = rw (← text .cut2 .ensures .bytes) (comment-long .if5 .left);
+      },
+      start .pre .1,
+    )
 
 pub put-spec : {M : Type 1} → statement M
 put-spec =
@@ -54,7 +62,18 @@ put-spec =
     (λ c κs. search needs)
     (λ c. search needs)
     (λ c. search needs)
-    may
+    put-requires
+    (λ c. search needs)
+    (λ c. search needs)
+    (λ c. search needs)
+    (λ c. search needs)
+    (λ c. search needs)
+    (λ c. search needs)
+    (λ c. search needs)
+    (λ c. search needs)
+    (λ c. search needs)
+    (λ c. search needs)
+    (λ c. search needs)
     (λ c. search needs)
     (λ c. search needs)
     (λ c. search needs)
