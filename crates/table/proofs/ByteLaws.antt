@@ -1,7 +1,7 @@
 -- Laws of zeros and padding, of a part put back, and one law for each turn and end of the loops over a part.
 use Prim.Native.Nat.{ℕ, zero, suc, _+_, _-_, _≤_, _<_, max}
 use mathlib.Core.Path.{_≡_, refl, sym, ap, _∙_}
-use mathlib.Core.Bool.{Bool, true, false, _&&_, and-assoc, and-true, and-false}
+use mathlib.Core.Bool.{Bool, true, false, _&&_}
 use mathlib.Core.List.{List, [], _∷_, _++_, append-nil, append-assoc}
 use mathlib.Core.Logic.{_↔_}
 use native.Mathlib.Omega.{arith}
@@ -14,6 +14,7 @@ use lib.ListN.{length, take, drop, getD, set, replicate, length-append, length-d
 use lib.Seq.{drop-cons, drop-drop, take-all, take-at, drop-at, length-take-le, take-append-seam, drop-append-seam}
 use Rattle.wire.specs.Read.{same}
 use Rattle.wire.specs.Write.{write}
+use Rattle.wire.proofs.Reading.{same-true}
 use Rattle.rule.proofs.Cases.{and-left, and-right}
 use Rattle.table.specs.Bytes.{allZero, Zeros, greatestByte, padded}
 
@@ -179,15 +180,19 @@ unfolding same
 equal-end a b i true h k = rw (drop-of-length-le a h, drop-of-length-le b k)
 equal-end a b i false h k = refl
 
--- two lists of one length are the same exactly where their fronts are and what is behind them
-same-split : (k : ℕ) (a b : List ℕ) → length a ≡ length b → same a b ≡ same (take k a) (take k b) && same (drop k a) (drop k b)
+-- lists that differ at one place are not the same
+pub differ-at : (a b : List ℕ) (i : ℕ) → (getD a i 0 ≡ getD b i 0 → ⊥) → false ≡ same a b
+differ-at a b i differ = by-test (same a b) refl
+  where
+    by-test : (v : Bool) → same a b ≡ v → false ≡ v
+    by-test false e = refl
+    by-test true e = absurd (differ (ap (λ (l : List ℕ). getD l i 0) (same-true a b e)))
+
+pub none-same : (a b : List ℕ) → length a ≡ 0 → length b ≡ 0 → true ≡ same a b
 unfolding same
-same-split zero a b l = refl
-same-split (suc k) [] [] l = refl
-same-split (suc k) [] (y ∷ b) l = absurd (omega arith)
-same-split (suc k) (x ∷ a) [] l = absurd (omega arith)
-same-split (suc k) (x ∷ a) (y ∷ b) l =
-    ap (λ (t : Bool). eqb x y && t) (same-split k a b (omega arith)) ∙ sym (and-assoc (eqb x y) (same (take k a) (take k b)) (same (drop k a) (drop k b)))
+none-same [] [] h k = refl
+none-same [] (y ∷ b) h k = absurd (omega arith)
+none-same (x ∷ a) b h k = absurd (omega arith)
 
 -- what is behind the first k
 abbrev pub behind : ℕ → List ℕ → List ℕ
@@ -204,13 +209,3 @@ module _ (h : ℕ) (bs : List ℕ) (l : h ≤ length bs) where
   pub windows-zero : length bs ≤ h + h → eqb (max (greatestByte (take h bs)) (greatestByte (behind (length bs - h) bs))) 0 ≡ allZero bs
   windows-zero m =
       ap (λ (x : List ℕ). eqb (max (greatestByte (take h bs)) (greatestByte x)) 0) (behind-all (length bs - h) bs) ∙ ap (λ (x : ℕ). eqb x 0) (greatest-covered h (length bs - h) bs (omega arith)) ∙ zero-greatest bs
-
-module _ (k : ℕ) (a b : List ℕ) (l : length a ≡ length b) where
-  pub sizes-before : k ≤ length a → length (take k a) ≡ length (take k b)
-  sizes-before h = length-take-le k a h ∙ sym (length-take-le k b (omega (arith, l)))
-
-  pub ends-differ : same (behind k a) (behind k b) ≡ false → false ≡ same a b
-  ends-differ e = sym (same-split k a b l ∙ rw (← behind-all k a, ← behind-all k b, e, and-false))
-
-  pub ends-alike : same (behind k a) (behind k b) ≡ true → same (take k a) (take k b) ≡ same a b
-  ends-alike e = sym (same-split k a b l ∙ rw (← behind-all k a, ← behind-all k b, e, and-true))

@@ -1,7 +1,7 @@
 // Whole parts: zeroed, copied, padded, tested for zero, compared.
 ghost use mathlib.Core.Path.{_≡_};
 ghost use mathlib.Core.Bool.{_&&_};
-ghost use Prim.Native.Nat.{_+_, _≤_, max, min};
+ghost use Prim.Native.Nat.{_+_, _≤_, max};
 ghost use lib.ListN.{length, replicate};
 ghost use Rattle.wire.specs.Read.{same};
 ghost use Rattle.table.specs.Bytes.{allZero, greatestByte, padded};
@@ -106,17 +106,7 @@ fn is_all_equal(a: &[u8], b: &[u8]) -> bool
     equal
 }
 
-// Up to 64 bytes: blobs of one length differ there at the latest, in the last bytes of their numbers.
-fn back_length(n: usize) -> usize
-    ensures { λ r. ⌜ r ≡ min n 64 ⌝ }
-{
-    if n < 64 {
-        return n;
-    }
-    64
-}
-
-// The last bytes first: it stops where they differ, and goes over all that is left where not.
+// The last bytes first: the blobs of two keys of one length differ there, but for one pair in 256. Else it goes over all bytes.
 pub(crate) fn is_equal(a: &[u8], b: &[u8]) -> bool
     ensures { λ r. ⌜ r ≡ same (now (a .entry)) (now (b .entry)) ⌝ }
 {
@@ -124,9 +114,11 @@ pub(crate) fn is_equal(a: &[u8], b: &[u8]) -> bool
     if n != b.len() {
         return false;
     }
-    let k = n - back_length(n);
-    if !is_all_equal(&a[k..], &b[k..]) {
+    if n == 0 {
+        return true;
+    }
+    if a[n - 1] != b[n - 1] {
         return false;
     }
-    is_all_equal(&a[..k], &b[..k])
+    is_all_equal(a, b)
 }
