@@ -1,11 +1,11 @@
 // The thin forms: the state is lent by the gateway's loop, and altered there.
+use byvalue::call;
+use engine::call::call_lent;
+use engine::first::first_lent;
 use requests::Answers;
 use requests::Outcome;
 use rule::Millis;
-use server::call::call;
-use server::call::call_lent;
 use server::first::First;
-use server::first::first_lent;
 use table::State;
 ghost use Rattle.server.specs.Calls.{Meets};
 ghost use Rattle.server.specs.First.{FirstMeets};

@@ -1,8 +1,8 @@
 // One value of a state or a store is set, and the whole tested for soundness.
+use soundness::is_state_sound;
 use table::Columns;
 use table::LockRecord;
 use table::State;
-use table::soundness::is_state_sound;
 use wire::limits;
 use wire::read::cut;
 ghost use mathlib.Core.Path.{_≡_};

@@ -1,7 +1,7 @@
 // The held numbers in order of insertion. What is told is tested first: any state, any store.
+use soundness::is_state_sound;
 use table::State;
 use table::places::number_at;
-use table::soundness::is_state_sound;
 ghost use mathlib.Core.Path.{_≡_};
 ghost use mathlib.Core.List.{List};
 ghost use Prim.Native.Nat.{ℕ};

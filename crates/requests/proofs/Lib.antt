@@ -4,5 +4,3 @@ pub mod EndLaws
 pub mod EndSteps
 pub mod ListSteps
 pub mod SignSteps
-pub mod AddSteps
-pub mod RemoveSteps

@@ -25,7 +25,7 @@ pub fn failure(reply: &mut [u8]) -> Outcome
     answer(msg::FAILURE, reply)
 }
 
-pub(crate) fn success(reply: &mut [u8]) -> Outcome
+pub fn success(reply: &mut [u8]) -> Outcome
     requires { ⌜ 5 ≤ length (now reply) ⌝ }
     ensures { λ r. ⌜ Answered 6 (now (reply .entry)) r (now (reply .exit)) ⌝ }
 {

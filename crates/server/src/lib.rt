@@ -1,4 +1,4 @@
-// The server: one call of the gateway. `call::call`, and `first::first_call` for the first call of a request, are the functions that other crates see,
-// and they require nothing.
+// What one call of the gateway is, and what is promised of it and of every run of calls; the decisions of a call that need no state. The call itself is
+// crate engine's.
 pub mod call;
 pub mod first;

@@ -10,4 +10,3 @@ pub mod FoundLaws
 pub mod ChangeLaws
 pub mod ReadLaws
 pub mod SeekLaws
-pub mod SoundnessLaws

@@ -30,7 +30,7 @@ pub fn copy_in(p: &mut [u8], src: &[u8])
 }
 
 // The bytes of `src`, and zeros behind them; whoever cuts the part cuts it long enough.
-pub(crate) fn pad(p: &mut [u8], src: &[u8])
+pub fn pad(p: &mut [u8], src: &[u8])
     requires { ⌜ length (now src) ≤ length (now p) ⌝ }
     ensures { λ r. ⌜ now (p .exit) ≡ padded (length (now (p .entry))) (now (src .entry)) ⌝ }
 {
@@ -107,7 +107,7 @@ fn is_all_equal(a: &[u8], b: &[u8]) -> bool
 }
 
 // The last bytes first: the blobs of two keys of one length differ there, but for one pair in 256. Else it goes over all bytes.
-pub(crate) fn is_equal(a: &[u8], b: &[u8]) -> bool
+pub fn is_equal(a: &[u8], b: &[u8]) -> bool
     ensures { λ r. ⌜ r ≡ same (now (a .entry)) (now (b .entry)) ⌝ }
 {
     let n = a.len();

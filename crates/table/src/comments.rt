@@ -1,5 +1,4 @@
-// The comments: where that of a place lies, kept, and tested.
-use crate::bytes::is_zero;
+// The comments: where that of a place lies, and kept.
 use crate::bytes::pad;
 use wire::limits;
 ghost use mathlib.Core.Path.{_≡_};
@@ -9,7 +8,6 @@ ghost use Rattle.wire.specs.Limits.{commentLimit};
 ghost use Rattle.wire.specs.Write.{write};
 ghost use Rattle.table.specs.Bytes.{padded};
 ghost use Rattle.table.specs.Entries.{commentPart, commentsSize};
-ghost use Rattle.table.specs.Soundness.{soundComment};
 
 // Where the comment of place i begins; that of the last ends where a ninth would begin.
 fn comment_start(i: usize) -> usize
@@ -30,22 +28,11 @@ pub fn comment_bytes(comments: &[u8], i: usize) -> &[u8]
 }
 
 // Place i keeps this comment, with zeros behind it. Who adds has tested the length.
-pub(crate) fn keep_comment(comments: &mut [u8], i: usize, comment: &[u8])
+pub fn keep_comment(comments: &mut [u8], i: usize, comment: &[u8])
     requires { ⌜ (i < 8) × (length (now comments) ≡ commentsSize) × (length (now comment) ≤ commentLimit) ⌝ }
     ensures { λ r. ⌜ now (comments .exit) ≡ write (now (comments .entry)) (i * commentLimit) (padded commentLimit (now (comment .entry))) ⌝ }
 {
     let from = comment_start(i);
     let to = comment_start(i + 1);
     pad(&mut comments[from..to], comment);
-}
-
-// Is the length within the 255 bytes, and zero what is behind it?
-pub(crate) fn is_comment_sound(bytes: &[u8], len: usize) -> bool
-    requires { ⌜ length (now bytes) ≡ commentLimit ⌝ }
-    ensures { λ r. ⌜ r ≡ soundComment (record { bytes = now (bytes .entry); len = len }) ⌝ }
-{
-    if limits::COMMENT_LIMIT < len {
-        return false;
-    }
-    is_zero(&bytes[len..])
 }

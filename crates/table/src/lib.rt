@@ -1,21 +1,17 @@
 // The gateway's state and its key store: eight places of 4,096 bytes, their figures in columns, the lock record, the kept clock, the next number.
 // Columns and store are lent to what works on them. No crate above names an offset in the store or the size of a place.
 pub mod bytes;
-pub mod changes;
+pub mod clock;
 pub mod comments;
 pub mod locks;
 pub mod places;
-pub mod soundness;
 
 use rule::Millis;
 use wire::Seconds;
 use wire::limits;
 ghost use mathlib.Core.Path.{_≡_};
-ghost use mathlib.Core.Option.{none};
-ghost use Prim.Native.Nat.{_<_};
 ghost use Rattle.rule.specs.Gateway.{fresh as freshGateway};
-ghost use Rattle.table.specs.Entries.{columns, figuresAt, figuresSet, Eight};
-ghost use Rattle.table.specs.Meaning.{isSet, flagOf, figuresFor, stateOf};
+ghost use Rattle.table.specs.Meaning.{isSet, stateOf};
 
 // The comments of eight places, 255 bytes for each.
 pub const COMMENTS_SIZE: usize = 8 * limits::COMMENT_LIMIT;
@@ -74,84 +70,6 @@ pub fn is_set(flag: u8) -> bool
     ensures { λ r. ⌜ r ≡ isSet flag ⌝ }
 {
     flag == 1
-}
-
-fn flag_of(yes: bool) -> u8
-    ensures { λ r. ⌜ r ≡ flagOf yes ⌝ }
-{
-    if yes {
-        return 1;
-    }
-    0
-}
-
-// The figures of a free place.
-fn no_figures() -> Figures
-    ensures { λ r. ⌜ r ≡ figuresFor none ⌝ }
-{
-    Figures {
-        number: 0,
-        reading: Millis { count: 0 },
-        blob_len: 0,
-        fields_len: 0,
-        comment_len: 0,
-        seconds: Seconds { count: 0 },
-        limited: 0,
-        confirm: 0,
-    }
-}
-
-// The figures of place i, in the number types that 01 keeps apart.
-pub fn figures_at(
-    numbers: &[u64],
-    readings: &[u64],
-    blob_lens: &[usize],
-    fields_lens: &[usize],
-    comment_lens: &[usize],
-    seconds: &[u32],
-    limited: &[u8],
-    confirm: &[u8],
-    i: usize,
-) -> Figures
-    requires { ⌜ (i < 8) × Eight (columns (now numbers) (now readings) (now «blob_lens») (now «fields_lens») (now «comment_lens») (now seconds) (now limited) (now confirm)) ⌝ }
-    ensures { λ r. ⌜ r ≡ figuresAt (columns (now (numbers .entry)) (now (readings .entry)) (now («blob_lens» .entry)) (now («fields_lens» .entry)) (now («comment_lens» .entry)) (now (seconds .entry)) (now (limited .entry)) (now (confirm .entry))) i ⌝ }
-{
-    Figures {
-        number: numbers[i],
-        reading: Millis { count: readings[i] },
-        blob_len: blob_lens[i],
-        fields_len: fields_lens[i],
-        comment_len: comment_lens[i],
-        seconds: Seconds { count: seconds[i] },
-        limited: limited[i],
-        confirm: confirm[i],
-    }
-}
-
-// Place i has these figures.
-fn set_figures(
-    numbers: &mut [u64],
-    readings: &mut [u64],
-    blob_lens: &mut [usize],
-    fields_lens: &mut [usize],
-    comment_lens: &mut [usize],
-    seconds: &mut [u32],
-    limited: &mut [u8],
-    confirm: &mut [u8],
-    i: usize,
-    f: Figures,
-)
-    requires { ⌜ (i < 8) × Eight (columns (now numbers) (now readings) (now «blob_lens») (now «fields_lens») (now «comment_lens») (now seconds) (now limited) (now confirm)) ⌝ }
-    ensures { λ r. ⌜ (columns (now (numbers .exit)) (now (readings .exit)) (now («blob_lens» .exit)) (now («fields_lens» .exit)) (now («comment_lens» .exit)) (now (seconds .exit)) (now (limited .exit)) (now (confirm .exit))) ≡ figuresSet i f (columns (now (numbers .entry)) (now (readings .entry)) (now («blob_lens» .entry)) (now («fields_lens» .entry)) (now («comment_lens» .entry)) (now (seconds .entry)) (now (limited .entry)) (now (confirm .entry))) ⌝ }
-{
-    numbers[i] = f.number;
-    readings[i] = f.reading.count;
-    blob_lens[i] = f.blob_len;
-    fields_lens[i] = f.fields_len;
-    comment_lens[i] = f.comment_len;
-    seconds[i] = f.seconds.count;
-    limited[i] = f.limited;
-    confirm[i] = f.confirm;
 }
 
 // All zero, next insertion number 1.

@@ -57,10 +57,10 @@ use Rattle.rule.proofs.Millis as Millis′
 use Rattle.rule.proofs.Millis.Laws as Millis″
 use Rattle.requests.proofs.Answers as Answers′
 use Rattle.requests.proofs.Answers.Laws as Answers″
-use Rattle.server.proofs.call.call as call
-use Rattle.server.proofs.call.call.Symbol as call-def
-use Rattle.server.proofs.call.call.Symbol.{name as #server·call}
-use Rattle.server.proofs.call.call.Met as call-thm
+use Rattle.byvalue.proofs.call as call
+use Rattle.byvalue.proofs.call.Symbol as call-def
+use Rattle.byvalue.proofs.call.Symbol.{name as #server·call}
+use Rattle.byvalue.proofs.call.Met as call-thm
 use Rattle.gateway.proofs.lent.serve.Key.{name as #gateway·serve}
 use Rattle.gateway.proofs.lent.serve as serve′
 use Rattle.gateway.proofs.lent.serve.Statement as stated
@@ -199,4 +199,4 @@ serve-spec 𝓤 H 𝓜 𝓖 𝓡 =
     entered 𝓤 H (tripleOf 𝓤 H (𝓖 .A) serve′.signature (serve′.spec 𝓤 H (𝓖 .A) (𝓜 .mem) (𝓡 .run)))
     (tables 𝓤 H 𝓜 𝓡 code.env .C) (tables 𝓤 H 𝓜 𝓡 code.env .Λ) #gateway·serve code.function (code.unfolded 𝓤 H 𝓜 𝓡)
     (meets 𝓤 H (𝓖 .A) (givenOf 𝓤 H 𝓜 𝓖) (𝓜 .mem) (𝓡 .run) (tablesOf 𝓤 H 𝓜 (tables 𝓤 H 𝓜 𝓡 code.env))
-    (cited 𝓤 H (Callee 𝓤 H (𝓖 .A) (𝓜 .mem) (𝓡 .run)) 𝓜 𝓡 code.env #server·call call-def.routine code.calls-server·call·call (call-thm.met 𝓤 H 𝓜 𝓖 𝓡)))
+    (cited 𝓤 H (Callee 𝓤 H (𝓖 .A) (𝓜 .mem) (𝓡 .run)) 𝓜 𝓡 code.env #server·call call-def.routine code.calls-byvalue·call (call-thm.met 𝓤 H 𝓜 𝓖 𝓡)))

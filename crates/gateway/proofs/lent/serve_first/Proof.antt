@@ -51,10 +51,10 @@ use Rattle.server.proofs.first.First.Laws as First″
 use Rattle.rule.proofs.Millis as Millis′
 use Rattle.rule.proofs.Millis.Laws as Millis″
 use Rattle.gateway.proofs.Lending.{R, Lfts, Names, at-columns-numbers, ref-columns-numbers, at-columns-readings, ref-columns-readings, at-columns-blob-lens, ref-columns-blob-lens, at-columns-fields-lens, ref-columns-fields-lens, at-columns-comment-lens, ref-columns-comment-lens, at-columns-seconds, ref-columns-seconds, at-columns-limited, ref-columns-limited, at-columns-confirm, ref-columns-confirm, at-comments, ref-comments, at-lock-bytes, ref-lock-bytes, at-lock-len, ref-lock-len, at-clock-count, ref-clock-count, at-next, ref-next, Refs, Kept, lends-all, comes-back}
-use Rattle.server.proofs.first.first_lent as first-lent′
-use Rattle.server.proofs.first.first_lent.Symbol as first-lent-def
-use Rattle.server.proofs.first.first_lent.Symbol.{name as #server·first-lent}
-use Rattle.server.proofs.first.first_lent.Met as first-lent-thm
+use Rattle.engine.proofs.first.first_lent as first-lent′
+use Rattle.engine.proofs.first.first_lent.Symbol as first-lent-def
+use Rattle.engine.proofs.first.first_lent.Symbol.{name as #engine·first-lent}
+use Rattle.engine.proofs.first.first_lent.Met as first-lent-thm
 use Rattle.gateway.proofs.lent.serve_first.Key.{name as #gateway·serve-first}
 use Rattle.gateway.proofs.lent.serve_first as serve-first′
 use Rattle.gateway.proofs.lent.serve_first.Statement as stated
@@ -110,7 +110,7 @@ module _ {M : Type 1} (𝓤 : URA M) (H : Heap 𝓤) (A : Atoms 𝓤) (W : Given
       says ! e $ join ! $ frame ! $ nothing ! $ move ! (4 ∷ 0 ∷ []) $ fjoin ! $ nothing ! $ fjoin ! $ nothing ! $ fjoin ! $ move ! (3 ∷ 0 ∷ []) $ fjoin ! $ move ! (1 ∷ 2 ∷ []) $ feqI ! (List Val) (vptr b o ∷ []) (vptr b o ∷ []) refl $ fjoin3 ! $ fjoin ! $ frame ! $
       owned ! First′.the-row (Is First′.the-row) (EL.makes First′.the-type First″.the-plain 𝓤 H A) r _ is $ done !
 
-  module _ (C : Calls 𝓤 H) (Λ : Loops 𝓤 H) (fm : FmC 𝓤 H (W .laws) C) (known : Triple 𝓤 (C #server·first-lent) (Callee 𝓤 H A at-mem run)) where
+  module _ (C : Calls 𝓤 H) (Λ : Loops 𝓤 H) (fm : FmC 𝓤 H (W .laws) C) (known : Triple 𝓤 (C #engine·first-lent) (Callee 𝓤 H A at-mem run)) where
     walk : Is (MutSlice (named 1) κ1 u8) store (v-store ∷ []) → Is (ShrSlice (named 2) κ2 u8) bytes (v-bytes ∷ []) → Is (Millis′.the-row) reading (LL.val Millis′.the-type Millis″.the-laws reading ∷ []) → Is (MutSlice (named 3) κ3 u8) reply (v-reply ∷ []) → ent 𝓤 (onEntry 𝓤 H A serve-first′.signature (κ, (κ1, (κ2, (κ3, tt)))) (q, (q1, (q2, (q3, tt)))) a vals) (WpFn 𝓤 H C Λ code.function (vptr b o ∷ v-store ∷ v-bytes ∷ LL.val Millis′.the-type Millis″.the-laws reading ∷ v-reply ∷ []) Post)
     walk is-store is-bytes is-reading is-reply =
         qed W ((‵ (flft κ q) ⊛ ‵ (flft κ1 q1) ⊛ ‵ (flft κ2 q2) ⊛ ‵ (flft κ3 q3) ⊛ ‵ ftrue) ∷ ‵ (owns (MutRef (named 0) κ R ∷ MutSlice (named 1) κ1 u8 ∷ ShrSlice (named 2) κ2 u8 ∷ Millis′.the-row ∷ MutSlice (named 3) κ3 u8 ∷ []) a vals) ∷ []) ∵ enter ! C Λ code.function (vptr b o ∷ v-store ∷ v-bytes ∷ LL.val Millis′.the-type Millis″.the-laws reading ∷ v-reply ∷ []) _ $
@@ -159,7 +159,7 @@ module _ {M : Type 1} (𝓤 : URA M) (H : Heap 𝓤) (A : Atoms 𝓤) (W : Given
         keep ! (2 ∷ 3 ∷ 0 ∷ 1 ∷ 5 ∷ 4 ∷ []) $ by ! (exits r (record { columns = record { numbers = zs .0; readings = zs .1 .0; «blob_lens» = zs .1 .1 .0; «fields_lens» = zs .1 .1 .1 .0; «comment_lens» = zs .1 .1 .1 .1 .0; seconds = zs .1 .1 .1 .1 .1 .0; limited = zs .1 .1 .1 .1 .1 .1 .0; confirm = zs .1 .1 .1 .1 .1 .1 .1 .0 }; comments = zs .1 .1 .1 .1 .1 .1 .1 .1 .0; lock = record { bytes = zs .1 .1 .1 .1 .1 .1 .1 .1 .1 .0; len = zs .1 .1 .1 .1 .1 .1 .1 .1 .1 .1 .0 }; clock = record { count = zs .1 .1 .1 .1 .1 .1 .1 .1 .1 .1 .1 .0 }; next = zs .1 .1 .1 .1 .1 .1 .1 .1 .1 .1 .1 .1 .0 }) (zs .1 .1 .1 .1 .1 .1 .1 .1 .1 .1 .1 .1 .1 .0) (zs .1 .1 .1 .1 .1 .1 .1 .1 .1 .1 .1 .1 .1 .1 .1 .1 .0) e l-store l-reply (EL.owes First′.the-type First″.the-laws r (EL.owed First′.the-type First″.the-laws r _ is)))))))))))))))))))))))))))))))))))))))))))))))
 
 module _ {M : Type 1} (𝓤 : URA M) (H : Heap 𝓤) (A : Atoms 𝓤) (W : Given 𝓤 H A) (at-mem : Memory → SProp 𝓤) (run : Routine → Fun 𝓤) where
-  walks : (C : Calls 𝓤 H) (Λ : Loops 𝓤 H) → FmC 𝓤 H (W .laws) C → Triple 𝓤 (C #server·first-lent) (Callee 𝓤 H A at-mem run) → Walks 𝓤 H A serve-first′.ended stayed (WpFn 𝓤 H C Λ code.function) (serve-first′.clauses 𝓤 H A at-mem run)
+  walks : (C : Calls 𝓤 H) (Λ : Loops 𝓤 H) → FmC 𝓤 H (W .laws) C → Triple 𝓤 (C #engine·first-lent) (Callee 𝓤 H A at-mem run) → Walks 𝓤 H A serve-first′.ended stayed (WpFn 𝓤 H C Λ code.function) (serve-first′.clauses 𝓤 H A at-mem run)
   walks C Λ fm known = walked 𝓤 H A serve-first′.ended stayed (serve-first′.clauses 𝓤 H A at-mem run) (WpFn 𝓤 H C Λ code.function) (λ κs. (ptr-vals, (slice-vals, (slice-vals, (LL.vals Millis′.the-type Millis″.the-laws, (slice-vals, tt))))))
       (λ κs. (mut-tells (named 0) (κs .0) R, (mut-slice-tells (named 1) (κs .1 .0) u8, (shr-slice-tells (named 2) (κs .1 .1 .0) u8, (LL.tells Millis′.the-type Millis″.the-laws, (mut-slice-tells (named 3) (κs .1 .1 .1 .0) u8, tt))))))
       (λ κs qs bounds a _ are. via 𝓤 _ (fst∗ 𝓤 _ (emp 𝓤)) (walk 𝓤 H A W at-mem run (κs .0) (κs .1 .0) (κs .1 .1 .0) (κs .1 .1 .1 .0) (qs .0) (qs .1 .0) (qs .1 .1 .0) (qs .1 .1 .1 .0) (a .0 .ptr .0) (a .0 .ptr .1) (a .0 .name) (a .0 .now) (a .1 .0) (a .1 .1 .0) (a .1 .1 .1 .0) (a .1 .1 .1 .1 .0) C Λ fm known (are .1 .0) (are .1 .1 .0) (are .1 .1 .1 .0) (are .1 .1 .1 .1 .0)))
@@ -167,7 +167,7 @@ module _ {M : Type 1} (𝓤 : URA M) (H : Heap 𝓤) (A : Atoms 𝓤) (W : Given
   all-go : AllGo 𝓤 H A W 4 (serve-first′.signature .params) (serve-first′.ended .kept) stayed
   all-go = (goes-ref 𝓤 H A W 4 0 tt (plain (λ _. R)), (goes-gave-slice 𝓤 H A W 4 1 tt (plain (λ _. u8)), (goes-dropped 𝓤 H A W 4 (shrSliceOf (2 ∷ []) tt (plain (λ _. u8))) yes (λ κs x f. refl), (goes-dropped 𝓤 H A W 4 (plain (λ _. Millis′.the-row)) yes (λ κs x f. refl), (goes-gave-slice 𝓤 H A W 4 3 tt (plain (λ _. u8)), tt)))))
 
-meets : {M : Type 1} (𝓤 : URA M) (H : Heap 𝓤) (A : Atoms 𝓤) → Given 𝓤 H A → (at-mem : Memory → SProp 𝓤) (run : Routine → Fun 𝓤) (𝓣 : Tables 𝓤 H) → Triple 𝓤 (𝓣 .C #server·first-lent) (Callee 𝓤 H A at-mem run)
+meets : {M : Type 1} (𝓤 : URA M) (H : Heap 𝓤) (A : Atoms 𝓤) → Given 𝓤 H A → (at-mem : Memory → SProp 𝓤) (run : Routine → Fun 𝓤) (𝓣 : Tables 𝓤 H) → Triple 𝓤 (𝓣 .C #engine·first-lent) (Callee 𝓤 H A at-mem run)
     → Meets 𝓤 H A serve-first′.signature (WpFn 𝓤 H (𝓣 .C) (𝓣 .Λ) code.function) (serve-first′.spec 𝓤 H A at-mem run)
 meets 𝓤 H A W at-mem run 𝓣 known =
     walk-meets 𝓤 H A serve-first′.ended stayed W (all-go 𝓤 H A W at-mem run) (serve-first′.clauses 𝓤 H A at-mem run)
@@ -179,4 +179,4 @@ serve-first-spec 𝓤 H 𝓜 𝓖 𝓡 =
     entered 𝓤 H (tripleOf 𝓤 H (𝓖 .A) serve-first′.signature (serve-first′.spec 𝓤 H (𝓖 .A) (𝓜 .mem) (𝓡 .run)))
     (tables 𝓤 H 𝓜 𝓡 code.env .C) (tables 𝓤 H 𝓜 𝓡 code.env .Λ) #gateway·serve-first code.function (code.unfolded 𝓤 H 𝓜 𝓡)
     (meets 𝓤 H (𝓖 .A) (givenOf 𝓤 H 𝓜 𝓖) (𝓜 .mem) (𝓡 .run) (tablesOf 𝓤 H 𝓜 (tables 𝓤 H 𝓜 𝓡 code.env))
-    (cited 𝓤 H (Callee 𝓤 H (𝓖 .A) (𝓜 .mem) (𝓡 .run)) 𝓜 𝓡 code.env #server·first-lent first-lent-def.routine code.calls-server·first·first-lent (first-lent-thm.met 𝓤 H 𝓜 𝓖 𝓡)))
+    (cited 𝓤 H (Callee 𝓤 H (𝓖 .A) (𝓜 .mem) (𝓡 .run)) 𝓜 𝓡 code.env #engine·first-lent first-lent-def.routine code.calls-engine·first·first-lent (first-lent-thm.met 𝓤 H 𝓜 𝓖 𝓡)))

@@ -54,10 +54,10 @@ use Rattle.rule.proofs.Millis.Laws as Millis″
 use Rattle.requests.proofs.Answers as Answers′
 use Rattle.requests.proofs.Answers.Laws as Answers″
 use Rattle.gateway.proofs.Lending.{R, Lfts, Names, at-columns-numbers, ref-columns-numbers, at-columns-readings, ref-columns-readings, at-columns-blob-lens, ref-columns-blob-lens, at-columns-fields-lens, ref-columns-fields-lens, at-columns-comment-lens, ref-columns-comment-lens, at-columns-seconds, ref-columns-seconds, at-columns-limited, ref-columns-limited, at-columns-confirm, ref-columns-confirm, at-comments, ref-comments, at-lock-bytes, ref-lock-bytes, at-lock-len, ref-lock-len, at-clock-count, ref-clock-count, at-next, ref-next, Refs, Kept, lends-all, comes-back}
-use Rattle.server.proofs.call.call_lent as call-lent′
-use Rattle.server.proofs.call.call_lent.Symbol as call-lent-def
-use Rattle.server.proofs.call.call_lent.Symbol.{name as #server·call-lent}
-use Rattle.server.proofs.call.call_lent.Met as call-lent-thm
+use Rattle.engine.proofs.call.call_lent as call-lent′
+use Rattle.engine.proofs.call.call_lent.Symbol as call-lent-def
+use Rattle.engine.proofs.call.call_lent.Symbol.{name as #engine·call-lent}
+use Rattle.engine.proofs.call.call_lent.Met as call-lent-thm
 use Rattle.gateway.proofs.lent.serve_lent.Key.{name as #gateway·serve-lent}
 use Rattle.gateway.proofs.lent.serve_lent as serve-lent′
 use Rattle.gateway.proofs.lent.serve_lent.Statement as stated
@@ -116,7 +116,7 @@ module _ {M : Type 1} (𝓤 : URA M) (H : Heap 𝓤) (A : Atoms 𝓤) (W : Given
       says ! e $ join ! $ frame ! $ nothing ! $ move ! (4 ∷ 0 ∷ []) $ fjoin ! $ nothing ! $ fjoin ! $ nothing ! $ fjoin ! $ nothing ! $ fjoin ! $ nothing ! $ fjoin ! $ move ! (3 ∷ 0 ∷ []) $ fjoin ! $ move ! (1 ∷ 2 ∷ []) $ feqI ! (List Val) (vptr b o ∷ []) (vptr b o ∷ []) refl $ fjoin3 ! $ fjoin ! $ frame ! $
       owned ! Outcome′.the-row (Is Outcome′.the-row) (EL.makes Outcome′.the-type Outcome″.the-plain 𝓤 H A) r _ is $ done !
 
-  module _ (C : Calls 𝓤 H) (Λ : Loops 𝓤 H) (fm : FmC 𝓤 H (W .laws) C) (known : Triple 𝓤 (C #server·call-lent) (Callee 𝓤 H A at-mem run)) where
+  module _ (C : Calls 𝓤 H) (Λ : Loops 𝓤 H) (fm : FmC 𝓤 H (W .laws) C) (known : Triple 𝓤 (C #engine·call-lent) (Callee 𝓤 H A at-mem run)) where
     walk : Is (MutSlice (named 1) κ1 u8) store (v-store ∷ []) → Is (ShrSlice (named 2) κ2 u8) payload (v-payload ∷ []) → Is (Millis′.the-row) reading (LL.val Millis′.the-type Millis″.the-laws reading ∷ []) → Is (Answers′.the-row) answers (LL.val Answers′.the-type Answers″.the-laws answers ∷ []) → Is (ShrSlice (named 3) κ3 u8) signature (v-signature ∷ []) → Is (MutSlice (named 4) κ4 u8) reply (v-reply ∷ []) → ent 𝓤 (onEntry 𝓤 H A serve-lent′.signature (κ, (κ1, (κ2, (κ3, (κ4, tt))))) (q, (q1, (q2, (q3, (q4, tt))))) a vals) (WpFn 𝓤 H C Λ code.function (vptr b o ∷ v-store ∷ v-payload ∷ LL.val Millis′.the-type Millis″.the-laws reading ∷ LL.val Answers′.the-type Answers″.the-laws answers ∷ v-signature ∷ v-reply ∷ []) Post)
     walk is-store is-payload is-reading is-answers is-signature is-reply =
         qed W ((‵ (flft κ q) ⊛ ‵ (flft κ1 q1) ⊛ ‵ (flft κ2 q2) ⊛ ‵ (flft κ3 q3) ⊛ ‵ (flft κ4 q4) ⊛ ‵ ftrue) ∷ ‵ (owns (MutRef (named 0) κ R ∷ MutSlice (named 1) κ1 u8 ∷ ShrSlice (named 2) κ2 u8 ∷ Millis′.the-row ∷ Answers′.the-row ∷ ShrSlice (named 3) κ3 u8 ∷ MutSlice (named 4) κ4 u8 ∷ []) a vals) ∷ []) ∵ enter ! C Λ code.function (vptr b o ∷ v-store ∷ v-payload ∷ LL.val Millis′.the-type Millis″.the-laws reading ∷ LL.val Answers′.the-type Answers″.the-laws answers ∷ v-signature ∷ v-reply ∷ []) _ $
@@ -167,7 +167,7 @@ module _ {M : Type 1} (𝓤 : URA M) (H : Heap 𝓤) (A : Atoms 𝓤) (W : Given
         keep ! (2 ∷ 3 ∷ 0 ∷ 1 ∷ 5 ∷ 4 ∷ []) $ by ! (exits r (record { columns = record { numbers = zs .0; readings = zs .1 .0; «blob_lens» = zs .1 .1 .0; «fields_lens» = zs .1 .1 .1 .0; «comment_lens» = zs .1 .1 .1 .1 .0; seconds = zs .1 .1 .1 .1 .1 .0; limited = zs .1 .1 .1 .1 .1 .1 .0; confirm = zs .1 .1 .1 .1 .1 .1 .1 .0 }; comments = zs .1 .1 .1 .1 .1 .1 .1 .1 .0; lock = record { bytes = zs .1 .1 .1 .1 .1 .1 .1 .1 .1 .0; len = zs .1 .1 .1 .1 .1 .1 .1 .1 .1 .1 .0 }; clock = record { count = zs .1 .1 .1 .1 .1 .1 .1 .1 .1 .1 .1 .0 }; next = zs .1 .1 .1 .1 .1 .1 .1 .1 .1 .1 .1 .1 .0 }) (zs .1 .1 .1 .1 .1 .1 .1 .1 .1 .1 .1 .1 .1 .0) (zs .1 .1 .1 .1 .1 .1 .1 .1 .1 .1 .1 .1 .1 .1 .1 .1 .1 .1 .0) e l-store l-reply (EL.owes Outcome′.the-type Outcome″.the-laws r (EL.owed Outcome′.the-type Outcome″.the-laws r _ is)))))))))))))))))))))))))))))))))))))))))))))))))
 
 module _ {M : Type 1} (𝓤 : URA M) (H : Heap 𝓤) (A : Atoms 𝓤) (W : Given 𝓤 H A) (at-mem : Memory → SProp 𝓤) (run : Routine → Fun 𝓤) where
-  walks : (C : Calls 𝓤 H) (Λ : Loops 𝓤 H) → FmC 𝓤 H (W .laws) C → Triple 𝓤 (C #server·call-lent) (Callee 𝓤 H A at-mem run) → Walks 𝓤 H A serve-lent′.ended stayed (WpFn 𝓤 H C Λ code.function) (serve-lent′.clauses 𝓤 H A at-mem run)
+  walks : (C : Calls 𝓤 H) (Λ : Loops 𝓤 H) → FmC 𝓤 H (W .laws) C → Triple 𝓤 (C #engine·call-lent) (Callee 𝓤 H A at-mem run) → Walks 𝓤 H A serve-lent′.ended stayed (WpFn 𝓤 H C Λ code.function) (serve-lent′.clauses 𝓤 H A at-mem run)
   walks C Λ fm known = walked 𝓤 H A serve-lent′.ended stayed (serve-lent′.clauses 𝓤 H A at-mem run) (WpFn 𝓤 H C Λ code.function) (λ κs. (ptr-vals, (slice-vals, (slice-vals, (LL.vals Millis′.the-type Millis″.the-laws, (LL.vals Answers′.the-type Answers″.the-laws, (slice-vals, (slice-vals, tt))))))))
       (λ κs. (mut-tells (named 0) (κs .0) R, (mut-slice-tells (named 1) (κs .1 .0) u8, (shr-slice-tells (named 2) (κs .1 .1 .0) u8, (LL.tells Millis′.the-type Millis″.the-laws, (LL.tells Answers′.the-type Answers″.the-laws, (shr-slice-tells (named 3) (κs .1 .1 .1 .0) u8, (mut-slice-tells (named 4) (κs .1 .1 .1 .1 .0) u8, tt))))))))
       (λ κs qs bounds a _ are. via 𝓤 _ (fst∗ 𝓤 _ (emp 𝓤)) (walk 𝓤 H A W at-mem run (κs .0) (κs .1 .0) (κs .1 .1 .0) (κs .1 .1 .1 .0) (κs .1 .1 .1 .1 .0) (qs .0) (qs .1 .0) (qs .1 .1 .0) (qs .1 .1 .1 .0) (qs .1 .1 .1 .1 .0) (a .0 .ptr .0) (a .0 .ptr .1) (a .0 .name) (a .0 .now) (a .1 .0) (a .1 .1 .0) (a .1 .1 .1 .0) (a .1 .1 .1 .1 .0) (a .1 .1 .1 .1 .1 .0) (a .1 .1 .1 .1 .1 .1 .0) C Λ fm known (are .1 .0) (are .1 .1 .0) (are .1 .1 .1 .0) (are .1 .1 .1 .1 .0) (are .1 .1 .1 .1 .1 .0) (are .1 .1 .1 .1 .1 .1 .0)))
@@ -175,7 +175,7 @@ module _ {M : Type 1} (𝓤 : URA M) (H : Heap 𝓤) (A : Atoms 𝓤) (W : Given
   all-go : AllGo 𝓤 H A W 5 (serve-lent′.signature .params) (serve-lent′.ended .kept) stayed
   all-go = (goes-ref 𝓤 H A W 5 0 tt (plain (λ _. R)), (goes-gave-slice 𝓤 H A W 5 1 tt (plain (λ _. u8)), (goes-dropped 𝓤 H A W 5 (shrSliceOf (2 ∷ []) tt (plain (λ _. u8))) yes (λ κs x f. refl), (goes-dropped 𝓤 H A W 5 (plain (λ _. Millis′.the-row)) yes (λ κs x f. refl), (goes-dropped 𝓤 H A W 5 (plain (λ _. Answers′.the-row)) yes (λ κs x f. refl), (goes-dropped 𝓤 H A W 5 (shrSliceOf (3 ∷ []) tt (plain (λ _. u8))) yes (λ κs x f. refl), (goes-gave-slice 𝓤 H A W 5 4 tt (plain (λ _. u8)), tt)))))))
 
-meets : {M : Type 1} (𝓤 : URA M) (H : Heap 𝓤) (A : Atoms 𝓤) → Given 𝓤 H A → (at-mem : Memory → SProp 𝓤) (run : Routine → Fun 𝓤) (𝓣 : Tables 𝓤 H) → Triple 𝓤 (𝓣 .C #server·call-lent) (Callee 𝓤 H A at-mem run)
+meets : {M : Type 1} (𝓤 : URA M) (H : Heap 𝓤) (A : Atoms 𝓤) → Given 𝓤 H A → (at-mem : Memory → SProp 𝓤) (run : Routine → Fun 𝓤) (𝓣 : Tables 𝓤 H) → Triple 𝓤 (𝓣 .C #engine·call-lent) (Callee 𝓤 H A at-mem run)
     → Meets 𝓤 H A serve-lent′.signature (WpFn 𝓤 H (𝓣 .C) (𝓣 .Λ) code.function) (serve-lent′.spec 𝓤 H A at-mem run)
 meets 𝓤 H A W at-mem run 𝓣 known =
     walk-meets 𝓤 H A serve-lent′.ended stayed W (all-go 𝓤 H A W at-mem run) (serve-lent′.clauses 𝓤 H A at-mem run)
@@ -187,4 +187,4 @@ serve-lent-spec 𝓤 H 𝓜 𝓖 𝓡 =
     entered 𝓤 H (tripleOf 𝓤 H (𝓖 .A) serve-lent′.signature (serve-lent′.spec 𝓤 H (𝓖 .A) (𝓜 .mem) (𝓡 .run)))
     (tables 𝓤 H 𝓜 𝓡 code.env .C) (tables 𝓤 H 𝓜 𝓡 code.env .Λ) #gateway·serve-lent code.function (code.unfolded 𝓤 H 𝓜 𝓡)
     (meets 𝓤 H (𝓖 .A) (givenOf 𝓤 H 𝓜 𝓖) (𝓜 .mem) (𝓡 .run) (tablesOf 𝓤 H 𝓜 (tables 𝓤 H 𝓜 𝓡 code.env))
-    (cited 𝓤 H (Callee 𝓤 H (𝓖 .A) (𝓜 .mem) (𝓡 .run)) 𝓜 𝓡 code.env #server·call-lent call-lent-def.routine code.calls-server·call·call-lent (call-lent-thm.met 𝓤 H 𝓜 𝓖 𝓡)))
+    (cited 𝓤 H (Callee 𝓤 H (𝓖 .A) (𝓜 .mem) (𝓡 .run)) 𝓜 𝓡 code.env #engine·call-lent call-lent-def.routine code.calls-engine·call·call-lent (call-lent-thm.met 𝓤 H 𝓜 𝓖 𝓡)))

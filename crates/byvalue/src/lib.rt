@@ -1,0 +1,159 @@
+// A call, and the first call of a request, on a state by value.
+use engine::call::call_lent;
+use engine::first::first_lent;
+use requests::Answers;
+use requests::Called;
+use rule::Millis;
+use server::first::First;
+use table::Columns;
+use table::LockRecord;
+use table::State;
+ghost use Rattle.server.specs.Calls.{Meets};
+ghost use Rattle.server.specs.First.{FirstMeets};
+
+pub struct FirstCalled {
+    pub first: First,
+    pub state: State,
+}
+
+// By value: the parts of the state are lent from locals, and make the new state.
+pub fn call(
+    state: State,
+    store: &mut [u8],
+    payload: &[u8],
+    reading: Millis,
+    answers: Answers,
+    signature: &[u8],
+    reply: &mut [u8],
+) -> Called
+    ensures { λ r. ⌜ Meets state (now (store .entry)) (now (payload .entry)) reading answers (now (signature .entry)) (now (reply .entry)) (r .outcome) (r .state) (now (store .exit)) (now (reply .exit)) ⌝ }
+{
+    let t = state.columns;
+    let mut numbers = t.numbers;
+    let mut readings = t.readings;
+    let mut blob_lens = t.blob_lens;
+    let mut fields_lens = t.fields_lens;
+    let mut comment_lens = t.comment_lens;
+    let mut seconds = t.seconds;
+    let mut limited = t.limited;
+    let mut confirm = t.confirm;
+    let mut comments = state.comments;
+    let lock = state.lock;
+    let mut passphrase = lock.bytes;
+    let mut locked = lock.len;
+    let kept = state.clock;
+    let mut clock = kept.count;
+    let mut next = state.next;
+    let outcome = call_lent(
+        &mut numbers,
+        &mut readings,
+        &mut blob_lens,
+        &mut fields_lens,
+        &mut comment_lens,
+        &mut seconds,
+        &mut limited,
+        &mut confirm,
+        &mut comments,
+        &mut passphrase,
+        &mut locked,
+        &mut clock,
+        &mut next,
+        store,
+        payload,
+        reading,
+        answers,
+        signature,
+        reply,
+    );
+    let columns = Columns {
+        numbers,
+        readings,
+        blob_lens,
+        fields_lens,
+        comment_lens,
+        seconds,
+        limited,
+        confirm,
+    };
+    let lock = LockRecord {
+        bytes: passphrase,
+        len: locked,
+    };
+    let state = State {
+        columns,
+        comments,
+        lock,
+        clock: Millis { count: clock },
+        next,
+    };
+    Called { outcome, state }
+}
+
+// By value: the parts of the state are lent from locals, and make the new state.
+pub fn first_call(
+    state: State,
+    store: &mut [u8],
+    bytes: &[u8],
+    reading: Millis,
+    reply: &mut [u8],
+) -> FirstCalled
+    ensures { λ r. ⌜ FirstMeets state (now (store .entry)) (now (bytes .entry)) reading (now (reply .entry)) (r .first) (r .state) (now (store .exit)) (now (reply .exit)) ⌝ }
+{
+    let t = state.columns;
+    let mut numbers = t.numbers;
+    let mut readings = t.readings;
+    let mut blob_lens = t.blob_lens;
+    let mut fields_lens = t.fields_lens;
+    let mut comment_lens = t.comment_lens;
+    let mut seconds = t.seconds;
+    let mut limited = t.limited;
+    let mut confirm = t.confirm;
+    let mut comments = state.comments;
+    let lock = state.lock;
+    let mut passphrase = lock.bytes;
+    let mut locked = lock.len;
+    let kept = state.clock;
+    let mut clock = kept.count;
+    let mut next = state.next;
+    let first = first_lent(
+        &mut numbers,
+        &mut readings,
+        &mut blob_lens,
+        &mut fields_lens,
+        &mut comment_lens,
+        &mut seconds,
+        &mut limited,
+        &mut confirm,
+        &mut comments,
+        &mut passphrase,
+        &mut locked,
+        &mut clock,
+        &mut next,
+        store,
+        bytes,
+        reading,
+        reply,
+    );
+    let columns = Columns {
+        numbers,
+        readings,
+        blob_lens,
+        fields_lens,
+        comment_lens,
+        seconds,
+        limited,
+        confirm,
+    };
+    let lock = LockRecord {
+        bytes: passphrase,
+        len: locked,
+    };
+    let state = State {
+        columns,
+        comments,
+        lock,
+        clock: Millis { count: clock },
+        next,
+    };
+    FirstCalled { first, state }
+}

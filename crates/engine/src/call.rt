@@ -1,0 +1,336 @@
+// Derived from keys/agent/server.rs of russh 0.65.0 (Apache-2.0), and changed: see NOTICE.
+// One call over lent columns: its refusals, the clock, the row of its first byte, and the request's function.
+use changes::advance;
+use requests::Answers;
+use requests::Landed;
+use requests::Outcome;
+use requests::list::request_identities;
+use requests::lock::lock;
+use requests::lock::unlock;
+use requests::replies::failure;
+use requests::sign::try_sign;
+use rule::Millis;
+use server::call::Row;
+use server::call::lent_length;
+use server::call::row_in;
+use soundness::is_sound;
+use table::COMMENTS_SIZE;
+use table::Kept;
+use table::locks::is_locked;
+use turnover::add::add_key;
+use turnover::remove::remove_all_identities;
+use turnover::remove::remove_identity;
+use wire::limits;
+ghost use mathlib.Core.Path.{_≡_};
+ghost use Prim.Native.Nat.{_≤_};
+ghost use lib.ListN.{length};
+ghost use Rattle.wire.specs.Limits.{signatureLimit, replyRoom};
+ghost use Rattle.rule.specs.Calls.{lentLength, served};
+ghost use Rattle.table.specs.Entries.{columns};
+ghost use Rattle.table.specs.Meaning.{gatewayOf, held};
+ghost use Rattle.table.specs.Soundness.{Sound};
+ghost use Rattle.requests.specs.Outcomes.{lentOf};
+ghost use Rattle.requests.specs.Ends.{Ends};
+ghost use Rattle.server.specs.Calls.{Meets};
+
+// The request served on the present state, its clock raised.
+fn respond(
+    numbers: &mut [u64],
+    readings: &mut [u64],
+    blob_lens: &mut [usize],
+    fields_lens: &mut [usize],
+    comment_lens: &mut [usize],
+    seconds: &mut [u32],
+    limited: &mut [u8],
+    confirm: &mut [u8],
+    comments: &mut [u8],
+    passphrase: &mut [u8],
+    kept: Kept,
+    store: &mut [u8],
+    payload: &[u8],
+    answers: Answers,
+    signature: &[u8],
+    reply: &mut [u8],
+) -> Landed
+    requires { ⌜ (replyRoom ≤ length (now reply)) × (lentLength (lentOf answers (now signature) .signature) ≤ signatureLimit) × Sound (held (columns (now numbers) (now readings) (now «blob_lens») (now «fields_lens») (now «comment_lens») (now seconds) (now limited) (now confirm)) (now comments) (now passphrase) kept) (now store) ⌝ }
+    ensures { λ r. ⌜ Ends (now (reply .entry)) (record { outcome = r .outcome; state = (held (columns (now (numbers .exit)) (now (readings .exit)) (now («blob_lens» .exit)) (now («fields_lens» .exit)) (now («comment_lens» .exit)) (now (seconds .exit)) (now (limited .exit)) (now (confirm .exit))) (now (comments .exit)) (now (passphrase .exit)) (r .kept)) }) (now (store .exit)) (now (reply .exit)) (served (gatewayOf (held (columns (now (numbers .entry)) (now (readings .entry)) (now («blob_lens» .entry)) (now («fields_lens» .entry)) (now («comment_lens» .entry)) (now (seconds .entry)) (now (limited .entry)) (now (confirm .entry))) (now (comments .entry)) (now (passphrase .entry)) kept) (now (store .entry))) (record { payload = now (payload .entry) }) (lentOf answers (now (signature .entry)))) ⌝ }
+{
+    let locked = is_locked(kept.locked);
+    let gate = answers.gate;
+    let check = answers.check;
+    match row_in(payload, locked, gate) {
+        Row::Fails => Landed {
+            outcome: failure(reply),
+            kept,
+        },
+        Row::Asks(class) => Landed {
+            outcome: Outcome::Gate { class },
+            kept,
+        },
+        Row::List => Landed {
+            outcome: request_identities(numbers, blob_lens, comment_lens, comments, store, reply),
+            kept,
+        },
+        Row::Add(constrained) => add_key(
+            numbers,
+            readings,
+            blob_lens,
+            fields_lens,
+            comment_lens,
+            seconds,
+            limited,
+            confirm,
+            comments,
+            kept,
+            store,
+            payload,
+            constrained,
+            check,
+            reply,
+        ),
+        Row::Remove => Landed {
+            outcome: remove_identity(
+                numbers,
+                readings,
+                blob_lens,
+                fields_lens,
+                comment_lens,
+                seconds,
+                limited,
+                confirm,
+                comments,
+                store,
+                payload,
+                reply,
+            ),
+            kept,
+        },
+        Row::RemoveAll => Landed {
+            outcome: remove_all_identities(
+                numbers,
+                readings,
+                blob_lens,
+                fields_lens,
+                comment_lens,
+                seconds,
+                limited,
+                confirm,
+                comments,
+                store,
+                reply,
+            ),
+            kept,
+        },
+        Row::Sign => Landed {
+            outcome: try_sign(
+                numbers,
+                confirm,
+                blob_lens,
+                store,
+                payload,
+                answers,
+                signature,
+                reply,
+            ),
+            kept,
+        },
+        Row::Lock => lock(passphrase, kept, payload, reply),
+        Row::Unlock => unlock(passphrase, kept, payload, reply),
+    }
+}
+
+fn refused(number: u8, kept: Kept) -> Landed
+    ensures { λ r. ⌜ r ≡ record { outcome = Outcome.Refused number; kept = kept } ⌝ }
+{
+    Landed {
+        outcome: Outcome::Refused { number },
+        kept,
+    }
+}
+
+// A call on a state and store that are known to be sound, as `call_core` finds out first: refusals 2 and 3 cannot occur.
+fn call_sound(
+    numbers: &mut [u64],
+    readings: &mut [u64],
+    blob_lens: &mut [usize],
+    fields_lens: &mut [usize],
+    comment_lens: &mut [usize],
+    seconds: &mut [u32],
+    limited: &mut [u8],
+    confirm: &mut [u8],
+    comments: &mut [u8],
+    passphrase: &mut [u8],
+    kept: Kept,
+    store: &mut [u8],
+    payload: &[u8],
+    reading: Millis,
+    answers: Answers,
+    signature: &[u8],
+    reply: &mut [u8],
+) -> Landed
+    requires { ⌜ Sound (held (columns (now numbers) (now readings) (now «blob_lens») (now «fields_lens») (now «comment_lens») (now seconds) (now limited) (now confirm)) (now comments) (now passphrase) kept) (now store) ⌝ }
+    ensures { λ r. ⌜ Meets (held (columns (now (numbers .entry)) (now (readings .entry)) (now («blob_lens» .entry)) (now («fields_lens» .entry)) (now («comment_lens» .entry)) (now (seconds .entry)) (now (limited .entry)) (now (confirm .entry))) (now (comments .entry)) (now (passphrase .entry)) kept) (now (store .entry)) (now (payload .entry)) reading answers (now (signature .entry)) (now (reply .entry)) (r .outcome) (held (columns (now (numbers .exit)) (now (readings .exit)) (now («blob_lens» .exit)) (now («fields_lens» .exit)) (now («comment_lens» .exit)) (now (seconds .exit)) (now (limited .exit)) (now (confirm .exit))) (now (comments .exit)) (now (passphrase .exit)) (r .kept)) (now (store .exit)) (now (reply .exit)) ⌝ }
+{
+    if reply.len() < limits::REPLY_ROOM {
+        return refused(1, kept);
+    }
+    if limits::PAYLOAD_LIMIT < payload.len() {
+        return refused(4, kept);
+    }
+    let given = answers.signature;
+    if limits::SIGNATURE_LIMIT < lent_length(given, signature) {
+        return refused(5, kept);
+    }
+    let raised = advance(
+        numbers,
+        readings,
+        blob_lens,
+        fields_lens,
+        comment_lens,
+        seconds,
+        limited,
+        confirm,
+        comments,
+        kept,
+        store,
+        reading,
+    );
+    respond(
+        numbers,
+        readings,
+        blob_lens,
+        fields_lens,
+        comment_lens,
+        seconds,
+        limited,
+        confirm,
+        comments,
+        passphrase,
+        raised,
+        store,
+        payload,
+        answers,
+        signature,
+        reply,
+    )
+}
+
+// The core: columns, comments and passphrase are lent, and what is no column goes by value.
+fn call_core(
+    numbers: &mut [u64],
+    readings: &mut [u64],
+    blob_lens: &mut [usize],
+    fields_lens: &mut [usize],
+    comment_lens: &mut [usize],
+    seconds: &mut [u32],
+    limited: &mut [u8],
+    confirm: &mut [u8],
+    comments: &mut [u8],
+    passphrase: &mut [u8],
+    kept: Kept,
+    store: &mut [u8],
+    payload: &[u8],
+    reading: Millis,
+    answers: Answers,
+    signature: &[u8],
+    reply: &mut [u8],
+) -> Landed
+    ensures { λ r. ⌜ Meets (held (columns (now (numbers .entry)) (now (readings .entry)) (now («blob_lens» .entry)) (now («fields_lens» .entry)) (now («comment_lens» .entry)) (now (seconds .entry)) (now (limited .entry)) (now (confirm .entry))) (now (comments .entry)) (now (passphrase .entry)) kept) (now (store .entry)) (now (payload .entry)) reading answers (now (signature .entry)) (now (reply .entry)) (r .outcome) (held (columns (now (numbers .exit)) (now (readings .exit)) (now («blob_lens» .exit)) (now («fields_lens» .exit)) (now («comment_lens» .exit)) (now (seconds .exit)) (now (limited .exit)) (now (confirm .exit))) (now (comments .exit)) (now (passphrase .exit)) (r .kept)) (now (store .exit)) (now (reply .exit)) ⌝ }
+{
+    if reply.len() < limits::REPLY_ROOM {
+        return refused(1, kept);
+    }
+    if store.len() != limits::STORE_SIZE {
+        return refused(2, kept);
+    }
+    if !is_sound(
+        numbers,
+        readings,
+        blob_lens,
+        fields_lens,
+        comment_lens,
+        seconds,
+        limited,
+        confirm,
+        comments,
+        passphrase,
+        kept,
+        store,
+    ) {
+        return refused(3, kept);
+    }
+    call_sound(
+        numbers,
+        readings,
+        blob_lens,
+        fields_lens,
+        comment_lens,
+        seconds,
+        limited,
+        confirm,
+        comments,
+        passphrase,
+        kept,
+        store,
+        payload,
+        reading,
+        answers,
+        signature,
+        reply,
+    )
+}
+
+// One call on a lent state, whose parts are altered where they lie: outcome, state, store and reply buffer are what `callOf` says.
+pub fn call_lent(
+    numbers: &mut [u64; 8],
+    readings: &mut [u64; 8],
+    blob_lens: &mut [usize; 8],
+    fields_lens: &mut [usize; 8],
+    comment_lens: &mut [usize; 8],
+    seconds: &mut [u32; 8],
+    limited: &mut [u8; 8],
+    confirm: &mut [u8; 8],
+    comments: &mut [u8; COMMENTS_SIZE],
+    passphrase: &mut [u8; limits::PASSPHRASE_LIMIT],
+    locked: &mut usize,
+    clock: &mut u64,
+    next: &mut u64,
+    store: &mut [u8],
+    payload: &[u8],
+    reading: Millis,
+    answers: Answers,
+    signature: &[u8],
+    reply: &mut [u8],
+) -> Outcome
+    ensures { λ r. ⌜ Meets (held (columns (now (numbers .entry)) (now (readings .entry)) (now («blob_lens» .entry)) (now («fields_lens» .entry)) (now («comment_lens» .entry)) (now (seconds .entry)) (now (limited .entry)) (now (confirm .entry))) (now (comments .entry)) (now (passphrase .entry)) (record { clock = record { count = now (clock .entry) }; next = now (next .entry); locked = now (locked .entry) })) (now (store .entry)) (now (payload .entry)) reading answers (now (signature .entry)) (now (reply .entry)) r (held (columns (now (numbers .exit)) (now (readings .exit)) (now («blob_lens» .exit)) (now («fields_lens» .exit)) (now («comment_lens» .exit)) (now (seconds .exit)) (now (limited .exit)) (now (confirm .exit))) (now (comments .exit)) (now (passphrase .exit)) (record { clock = record { count = now (clock .exit) }; next = now (next .exit); locked = now (locked .exit) })) (now (store .exit)) (now (reply .exit)) ⌝ }
+{
+    let before = Kept {
+        clock: Millis { count: *clock },
+        next: *next,
+        locked: *locked,
+    };
+    let r = call_core(
+        numbers,
+        readings,
+        blob_lens,
+        fields_lens,
+        comment_lens,
+        seconds,
+        limited,
+        confirm,
+        comments,
+        passphrase,
+        before,
+        store,
+        payload,
+        reading,
+        answers,
+        signature,
+        reply,
+    );
+    let after = r.kept;
+    *clock = after.clock.count;
+    *next = after.next;
+    *locked = after.locked;
+    r.outcome
+}

@@ -1,0 +1,70 @@
+// Derived from keys/agent/server.rs of russh 0.65.0 (Apache-2.0), and changed: see NOTICE.
+// The first call of a request over lent columns: the splitter, and once a frame is whole the call on its payload with nothing lent.
+use crate::call::call_lent;
+use rule::Millis;
+use server::first::First;
+use server::first::first_in;
+use server::first::nothing_lent;
+use table::COMMENTS_SIZE;
+use wire::frame::Split;
+use wire::frame::frame_payload;
+use wire::frame::read_frame;
+use wire::limits;
+use wire::read::cut;
+ghost use Rattle.table.specs.Entries.{columns};
+ghost use Rattle.table.specs.Meaning.{held};
+ghost use Rattle.server.specs.First.{FirstMeets};
+
+// What the bytes that no request has used come to, on a lent state; state, store and reply buffer as `firstOf` says.
+pub fn first_lent(
+    numbers: &mut [u64; 8],
+    readings: &mut [u64; 8],
+    blob_lens: &mut [usize; 8],
+    fields_lens: &mut [usize; 8],
+    comment_lens: &mut [usize; 8],
+    seconds: &mut [u32; 8],
+    limited: &mut [u8; 8],
+    confirm: &mut [u8; 8],
+    comments: &mut [u8; COMMENTS_SIZE],
+    passphrase: &mut [u8; limits::PASSPHRASE_LIMIT],
+    locked: &mut usize,
+    clock: &mut u64,
+    next: &mut u64,
+    store: &mut [u8],
+    bytes: &[u8],
+    reading: Millis,
+    reply: &mut [u8],
+) -> First
+    ensures { λ r. ⌜ FirstMeets (held (columns (now (numbers .entry)) (now (readings .entry)) (now («blob_lens» .entry)) (now («fields_lens» .entry)) (now («comment_lens» .entry)) (now (seconds .entry)) (now (limited .entry)) (now (confirm .entry))) (now (comments .entry)) (now (passphrase .entry)) (record { clock = record { count = now (clock .entry) }; next = now (next .entry); locked = now (locked .entry) })) (now (store .entry)) (now (bytes .entry)) reading (now (reply .entry)) r (held (columns (now (numbers .exit)) (now (readings .exit)) (now («blob_lens» .exit)) (now («fields_lens» .exit)) (now («comment_lens» .exit)) (now (seconds .exit)) (now (limited .exit)) (now (confirm .exit))) (now (comments .exit)) (now (passphrase .exit)) (record { clock = record { count = now (clock .exit) }; next = now (next .exit); locked = now (locked .exit) })) (now (store .exit)) (now (reply .exit)) ⌝ }
+{
+    match read_frame(bytes) {
+        Split::MoreNeeded => First::MoreNeeded,
+        Split::TooLong => First::TooLong,
+        Split::Frame { from: _, to } => {
+            let payload = frame_payload(bytes);
+            let signature = cut(bytes, 0, 0);
+            let outcome = call_lent(
+                numbers,
+                readings,
+                blob_lens,
+                fields_lens,
+                comment_lens,
+                seconds,
+                limited,
+                confirm,
+                comments,
+                passphrase,
+                locked,
+                clock,
+                next,
+                store,
+                payload,
+                reading,
+                nothing_lent(),
+                signature,
+                reply,
+            );
+            first_in(to, outcome)
+        }
+    }
+}
