@@ -10,7 +10,8 @@
  *   - store, reply and state are written: they overlap neither each other nor payload, bytes, signature or the result, and nobody else reads
  *     or writes them while a call runs. So: one call at a time on one state. Payload, bytes and signature are only read, and may overlap;
  *   - state and store belong together: keep, copy and restore them as a pair;
- *   - the stack has room: a call takes up to 36 KB of it, a first call up to 40 KB (measured on both machines), a state by value 3.5 KB more.
+ *   - the stack has room: a call and a first call take up to 7 KB of it, a function that takes a state by value up to 14 KB with that state (measured on
+ *     x86-64).
  *
  * Of what state and store hold nothing is asked: every bit pattern of both is covered by the proof, and one that is not sound is refused (3).
  * A state has no padding: two are equal where their bytes are.

@@ -50,7 +50,8 @@ pub struct Core {
 
 const SUCCESS: [u8; 5] = [0, 0, 0, 1, 6];
 
-/// May a call on it leave key fields or a passphrase on the stack? An add, LOCK or UNLOCK; any other may while locked, as the state goes by value.
+/// May a call on it leave key fields or a passphrase on the stack? An add, LOCK or UNLOCK; any other may while locked, as lookups take the
+/// state by value.
 fn has_secrets(payload: Payload<'_>) -> bool {
     matches!(payload.bytes().first(), Some(17 | 22 | 23 | 25))
 }

@@ -14,8 +14,8 @@ const ROOMS: [usize; 3] = [8 << 10, 64 << 10, 260 << 10];
 const KEPT: [usize; 3] = [64, 4, 4];
 /// What rooms above the first may take in all; above it who needs one is turned away. The first is there for everybody.
 const MOST: usize = 128 << 20;
-/// A first call takes up to 40 KB of stack (include/key_agent.h), and what calls it some more.
-const STACK: usize = 48 * 1024;
+/// A call of the core takes up to 14 KB of stack with a state by value (include/key_agent.h), and what calls it some more.
+const STACK: usize = 24 * 1024;
 
 static UNLOCKED: AtomicBool = AtomicBool::new(false);
 static TAKEN: AtomicUsize = AtomicUsize::new(0);
