@@ -10,6 +10,7 @@
 mod head;
 mod say;
 
+use byvalue::call;
 use gateway::flat::answers_of;
 use gateway::flat::flat_of;
 use head::Head;
@@ -21,7 +22,6 @@ use head::read_length;
 use say::say_line;
 use say::say_malformed;
 use say::say_outcome;
-use server::call::call;
 use table::State;
 use table::bytes::wipe;
 use table::fresh;
