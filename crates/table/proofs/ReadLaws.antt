@@ -13,7 +13,7 @@ use Rattle.wire.specs.Limits.{placeSize, storeSize, blobLimit, fieldsLimit, fie
 use Rattle.wire.specs.Read.{cutOf}
 use Rattle.wire.proofs.Reading.{cut-there}
 use Rattle.rule.specs.declared.Millis.{Millis}
-use Rattle.rule.specs.Gateway.{isFree, holds}
+use Rattle.rule.specs.Gateway.{Entry as Key, isFree, holds}
 use Rattle.rule.proofs.Cases.{cond-cases}
 use Rattle.table.specs.declared.Columns.{Columns}
 use Rattle.table.specs.declared.State.{State}
@@ -23,9 +23,10 @@ use Rattle.table.specs.Entries.{Entry, Eight, entriesIn, entryAt, commen
 use Rattle.table.specs.Meaning.{size, isSet, commentOf, keyOf, placeOf, numberIn, confirmIn, blobIn, commentIn, entriesOf, view, gatewayOf, noEntry, startOf, fieldsStart, partAt, keptComment, entryFor}
 use Rattle.table.specs.Soundness.{soundPlace, soundPlaces, SoundPlace, free, held, Housed, Sound}
 use Rattle.table.specs.Changes.{Roomy}
+use Rattle.table.specs.Promises.{KeySays, PlaceSays, StateRule}
 use Rattle.table.proofs.EachLaws.{each-length, each-at, every-at, each-says}
 use Rattle.table.proofs.EntryLaws.{entries-length, entries-at}
-use Rattle.table.proofs.SizeLaws.{size-is, blob-room, fields-room, InStore, in-store}
+use Rattle.table.proofs.SizeLaws.{size-is, place-start, blob-room, fields-room, InStore, in-store}
 use Rattle.table.proofs.TestLaws.{place-says}
 use Rattle.table.proofs.WritingLaws.{Seen, seen-free, seen-held, seen, comment-back}
 
@@ -109,7 +110,7 @@ housed-by clock next t cs x eight size-x t-sound =
       blobs-fit = λ i h. rw (entries-at t cs i noEntry h) at (sound-blob-fits _ _ _ _ (sound-at es x long clock next i h every));
     }
 
--- ## Of a sound state and store
+-- ## Of a state and its store
 
 module _ (s : State) (x : List ℕ) where
   pub long : length (entriesOf s) ≡ 8
@@ -119,6 +120,40 @@ module _ (s : State) (x : List ℕ) where
   pub state-place : (i : ℕ) → i < 8 → getD (gatewayOf s x .places) i none ≡ placeOf (entryAt (s .columns) (s .comments) i) (partAt (entriesOf s) x i)
   unfolding gatewayOf
   state-place i h = view-at (entriesOf s) x long i h ∙ ap (λ e. placeOf e (partAt (entriesOf s) x i)) (entries-at (s .columns) (s .comments) i noEntry h)
+
+  module _ (i : ℕ) (h : i < 8) where
+    abbrev key-in : Key
+    key-in = keyOf (entryAt (s .columns) (s .comments) i) (take placeSize (drop (i * placeSize) x))
+
+    part-in : partAt (entriesOf s) x i ≡ take placeSize (drop (i * placeSize) x)
+    part-in =
+        let starts = place-start (entriesOf s) i (omega (arith, long)) in
+        λ j. take (size-is (getD (entriesOf s) i noEntry) j) (drop (starts j) x)
+
+    key-said : KeySays s x i key-in
+    key-said = record {
+      number = refl;
+      reading = refl;
+      lifetime = λ f. rw f;
+      no-lifetime = λ f. rw f;
+      confirm = λ f. rw f;
+      no-confirm = λ f. rw f;
+      blob = refl;
+      fields = refl;
+      comment = refl;
+    }
+
+    place-said : PlaceSays s x i
+    place-said = record {
+      free = λ z. state-place i h ∙ place-free _ _ z;
+      held = λ n. (key-in, state-place i h ∙ place-held _ _ n ∙ ap (λ (p : List ℕ). some (keyOf (entryAt (s .columns) (s .comments) i) p)) part-in, key-said);
+    }
+
+pub state-rule : StateRule
+unfolding gatewayOf
+state-rule s x = record { eight = view-length (entriesOf s) x (long s x); places = place-said s x; lock = refl; clock = refl; next = refl }
+
+-- ## Of a sound state and store
 
 module _ (s : State) (x : List ℕ) (S : Sound s x) (i : ℕ) (h : i < 8) where
   abbrev here-in : Entry

@@ -25,16 +25,13 @@ use Rattle.table.specs.Each.{each, Each, offset}
 use Rattle.table.specs.Entries.{Comment, Entry, entriesIn, columnsOf, commentsOf}
 use Rattle.table.specs.Meaning.{size, isSet, lifetimeOf, commentOf, keyOf, placeOf, entriesOf, view, passphrase, gatewayOf, noEntry, flagOf, limitedFlag, keptSeconds, keptComment, heldBytes, entryFor, bytesFor, laid, lockOf, stateOf, layout}
 use Rattle.table.specs.Soundness.{Flag, SoundComment, SoundPlace, free, held, SoundLock, Sound, Means}
-use Rattle.table.specs.Promises.{FlagRule, SoundMeaning, SoundCanonical, OneWriting, EveryGateway, FreshMeans}
+use Rattle.table.specs.Promises.{SoundMeaning, SoundCanonical, OneWriting, EveryGateway, FreshMeans}
 use Rattle.table.proofs.ByteLaws.{padded-size, padded-front, padded-rest, zeros-padded}
 use Rattle.table.proofs.EachLaws.{each-length}
 use Rattle.table.proofs.EntryLaws.{entries-length, Sized, Rewritten, columns-written, comments-written, entries-shown, columns-eight, comments-long}
 use Rattle.table.proofs.SizeLaws.{size-is, entries-end, KeyFits, free-size, key-size, free-zeros, laid-zeros, laid-store}
 
 -- ## One place
-
-pub flag-rule : FlagRule
-flag-rule e p = record { confirm = λ h. rw h; no-confirm = λ h. rw h; lifetime = λ h. rw h; no-lifetime = λ h. rw h }
 
 -- a sound flag is written as what it says
 flag-kept : (flag : ℕ) → Flag flag → flag ≡ flagOf (isSet flag)

@@ -1,12 +1,12 @@
 -- What the table promises, as statements; the proofs are in proofs/.
-use Prim.Native.Nat.{ℕ, _<_}
+use Prim.Native.Nat.{ℕ, _*_, _<_}
 use mathlib.Core.Path.{_≡_}
 use mathlib.Core.Bool.{true, false}
 use mathlib.Core.List.{List}
 use mathlib.Core.Logic.{_↔_, _⊎_, _≢_}
 use mathlib.Core.Option.{Option, none, some}
-use lib.ListN.{length, getD, replicate}
-use Rattle.wire.specs.Limits.{storeSize, lastNumber}
+use lib.ListN.{length, take, drop, getD, replicate}
+use Rattle.wire.specs.Limits.{placeSize, storeSize, fieldsAt, commentLimit, lastNumber}
 use Rattle.wire.specs.Promises.{OneToOne}
 use Rattle.keys.specs.declared.constraints.Lifetime.the-variants.{Forever, For}
 use Rattle.rule.specs.declared.Found.{Found}
@@ -15,8 +15,7 @@ use Rattle.rule.specs.Searches.{foundPlace}
 use Rattle.rule.specs.Soundness as rule
 use Rattle.rule.specs.Soundness.{Fits}
 use Rattle.table.specs.declared.State.{State}
-use Rattle.table.specs.Entries.{Entry}
-use Rattle.table.specs.Meaning.{keyOf, gatewayOf, stateOf, layout}
+use Rattle.table.specs.Meaning.{gatewayOf, stateOf, layout}
 use Rattle.table.specs.Soundness.{soundState, Sound, Means}
 use Rattle.table.specs.Changes.{MayPut}
 
@@ -24,15 +23,33 @@ use Rattle.table.specs.Changes.{MayPut}
 abbrev pub SoundStateRule : Type 0
 SoundStateRule = (s : State) (x : List ℕ) → (soundState s x ≡ true) ↔ Sound s x
 
--- what an entry's flags say: 1 is yes, 0 is no
-pub record FlagsSay (e : Entry) (p : List ℕ) : Type 0 where
-  pub confirm : e .confirm ≡ 1 → keyOf e p .confirm ≡ true
-  pub no-confirm : e .confirm ≡ 0 → keyOf e p .confirm ≡ false
-  pub lifetime : e .limited ≡ 1 → keyOf e p .lifetime ≡ For (e .seconds)
-  pub no-lifetime : e .limited ≡ 0 → keyOf e p .lifetime ≡ Forever
+-- what a held place says of its key, by the columns, the comments and the store; a flag of 1 is yes, of 0 no
+pub record KeySays (s : State) (x : List ℕ) (i : ℕ) (k : Key) : Type 0 where
+  pub number : k .number ≡ getD (s .columns .numbers) i 0
+  pub reading : k .reading .count ≡ getD (s .columns .readings) i 0
+  pub lifetime : getD (s .columns .limited) i 0 ≡ 1 → k .lifetime ≡ For (record { count = getD (s .columns .seconds) i 0 })
+  pub no-lifetime : getD (s .columns .limited) i 0 ≡ 0 → k .lifetime ≡ Forever
+  pub confirm : getD (s .columns .confirm) i 0 ≡ 1 → k .confirm ≡ true
+  pub no-confirm : getD (s .columns .confirm) i 0 ≡ 0 → k .confirm ≡ false
+  pub blob : k .blob ≡ take (getD (s .columns .«blob_lens») i 0) (take placeSize (drop (i * placeSize) x))
+  pub fields : k .fields ≡ take (getD (s .columns .«fields_lens») i 0) (drop fieldsAt (take placeSize (drop (i * placeSize) x)))
+  pub comment : k .comment ≡ take (getD (s .columns .«comment_lens») i 0) (take commentLimit (drop (i * commentLimit) (s .comments)))
 
-abbrev pub FlagRule : Type 0
-FlagRule = (e : Entry) (p : List ℕ) → FlagsSay e p
+-- a place is free where its number is 0
+pub record PlaceSays (s : State) (x : List ℕ) (i : ℕ) : Type 0 where
+  pub free : getD (s .columns .numbers) i 0 ≡ 0 → getD (gatewayOf s x .places) i none ≡ none
+  pub held : getD (s .columns .numbers) i 0 ≢ 0 → (k : Key) × (getD (gatewayOf s x .places) i none ≡ some k) × KeySays s x i k
+
+-- what a state and its store say
+pub record StateSays (s : State) (x : List ℕ) : Type 0 where
+  pub eight : length (gatewayOf s x .places) ≡ 8
+  pub places : (i : ℕ) → i < 8 → PlaceSays s x i
+  pub lock : gatewayOf s x .lock ≡ take (s .lock .len) (s .lock .bytes)
+  pub clock : gatewayOf s x .clock ≡ s .clock
+  pub next : gatewayOf s x .next ≡ s .next
+
+abbrev pub StateRule : Type 0
+StateRule = (s : State) (x : List ℕ) → StateSays s x
 
 -- what is sound here means what is sound in the rule
 abbrev pub SoundMeaning : Type 0
