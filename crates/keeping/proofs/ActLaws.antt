@@ -12,8 +12,7 @@ use Rattle.rule.proofs.PlaceLaws.{placed, place-inside}
 use Rattle.table.specs.declared.State.{State}
 use Rattle.table.specs.Meaning.{gatewayOf, entriesOf}
 use Rattle.table.specs.Soundness.{soundState, Sound}
-use Rattle.table.proofs.EntryLaws.{entries-length}
-use Rattle.table.proofs.ReadLaws.{view-length}
+use Rattle.table.proofs.StateLaws.{entries-length, view-length}
 use Rattle.table.proofs.TestLaws.{sound-state-rule}
 
 -- what passed the test is sound

@@ -19,7 +19,8 @@ use Rattle.table.specs.Entries.{Entry, entryAt, entryBy}
 use Rattle.table.specs.Meaning.{isSet, limitedLifetime, lifetimeOf, placeOf, entriesOf, gatewayOf, startOf, fieldsStart, partAt, limitedFlag, keptSeconds, keptComment, entryFor}
 use Rattle.table.specs.Soundness.{SoundPlace, free, held, Sound}
 use Rattle.table.proofs.WritingLaws.{Seen, seen-free, seen-held, seen}
-use Rattle.table.proofs.ReadLaws.{state-place, state-sound-at, state-whole}
+use Rattle.table.proofs.StateLaws.{state-place}
+use Rattle.table.proofs.ReadLaws.{state-sound-at, state-whole}
 use Rattle.lookups.specs.declared.Comment.{Comment}
 use Rattle.lookups.specs.Told.{leftAt, kept as keptText, toldOf}
 

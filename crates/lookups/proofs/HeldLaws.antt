@@ -31,11 +31,11 @@ use Rattle.table.specs.Entries.{Entry}
 use Rattle.table.specs.Meaning.{entriesOf, gatewayOf, keyOf, noEntry, startOf, fieldsStart, partAt, flagOf, limitedFlag, entryFor}
 use Rattle.table.specs.Soundness.{soundState, Sound}
 use Rattle.table.proofs.ByteLaws.{padded-size, padded-front, padded-rest}
-use Rattle.table.proofs.EntryLaws.{entries-at}
+use Rattle.table.proofs.StateLaws.{entries-at, long, view-at, place-held}
 use Rattle.table.proofs.SizeLaws.{InStore, in-store}
 use Rattle.table.proofs.TestLaws.{sound-state-rule}
 use Rattle.table.proofs.WritingLaws.{sound-meaning}
-use Rattle.table.proofs.ReadLaws.{long, view-at, place-held, blob-lies, blob-ends, fields-lie, fields-end}
+use Rattle.table.proofs.ReadLaws.{blob-lies, blob-ends, fields-lie, fields-end}
 use Rattle.lookups.specs.declared.HeldKey.{HeldKey}
 use Rattle.lookups.specs.Told.{hasNumber, leftAt, kept, nothing, toldOf, keyTold}
 use Rattle.lookups.specs.Promises.{HeldUnder, Says, Tells, KeyRule, LeftSays, LeftRule, AllZero, NothingRule, ToldRule, PartsWithin, PartsRule}

@@ -33,7 +33,7 @@ use Rattle.table.specs.declared.State.{State}
 use Rattle.table.specs.Meaning.{size, placeOf, entriesOf, gatewayOf}
 use Rattle.table.specs.Soundness.{Sound, Means}
 use Rattle.table.proofs.EachLaws.{each-length}
-use Rattle.table.proofs.EntryLaws.{entries-length}
+use Rattle.table.proofs.StateLaws.{entries-length}
 use Rattle.requests.specs.declared.Called.{Called}
 use Rattle.requests.specs.declared.Outcome.{Outcome}
 use Rattle.requests.specs.declared.Outcome.the-variants.{Reply, Close}

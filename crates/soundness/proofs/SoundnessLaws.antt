@@ -28,10 +28,9 @@ use Rattle.table.specs.Entries.{Comment, Entry, Eight, figuresAt, commentsSize,
 use Rattle.table.specs.Meaning.{entriesOf, size, keyOf, placeOf, view, noEntry, partAt}
 use Rattle.table.specs.Soundness.{soundComment, isFlag, eightColumns, soundFlags, soundLifetime, soundLock, soundPlace, all, soundPlaces, soundState, unlike, Housed}
 use Rattle.table.proofs.EachLaws.{each-length, each-at}
-use Rattle.table.proofs.EntryLaws.{entries-length, entries-at}
+use Rattle.table.proofs.StateLaws.{entries-length, entries-at, view-length, view-at, place-free, place-held}
 use Rattle.table.proofs.TestLaws.{eight-says}
 use Rattle.table.proofs.SizeLaws.{size-is, in-store}
-use Rattle.table.proofs.ReadLaws.{view-length, view-at, place-free, place-held}
 
 -- ## Tests
 

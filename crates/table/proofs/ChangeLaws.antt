@@ -35,7 +35,7 @@ use Rattle.table.proofs.ByteLaws.{padded-size}
 use Rattle.table.proofs.EntryLaws.{Rewritten, rewritten}
 use Rattle.table.proofs.FoundLaws.{at-place}
 use Rattle.table.proofs.LayoutLaws.{roomOf, entries-set}
-use Rattle.table.proofs.ReadLaws.{state-place}
+use Rattle.table.proofs.StateLaws.{state-place}
 use Rattle.table.proofs.SizeLaws.{place-write, room-at}
 use Rattle.table.proofs.WritingLaws.{sound-writing, sound-meaning, sound-table, sound-canonical, keys-fit, view-fits, view-eight, lock-written, means-of}
 

@@ -1,4 +1,4 @@
--- Laws of columns side by side: what is read at a place, what a place written anew leaves, and that eight columns are written in one way.
+-- Laws of columns side by side: what a place written anew leaves, and that eight columns are written in one way.
 use Prim.Native.Nat.{ℕ, zero, suc, _+_, _-_, _*_, _≤_, _<_}
 use mathlib.Core.Path.{_≡_, refl, sym, ap, _∙_}
 use mathlib.Core.List.{List, [], _∷_, _++_, map, append-assoc}
@@ -11,21 +11,11 @@ use Rattle.wire.specs.Write.{write}
 use Rattle.table.specs.declared.Columns.{Columns}
 use Rattle.table.specs.declared.Figures.{Figures}
 use Rattle.table.specs.Entries.{Comment, Entry, columns, Eight, figuresAt, commentsSize, commentPart, entryBy, entryAt, upTo, entriesIn, columnsOf, commentsOf, figuresSet}
+use Rattle.table.proofs.StateLaws.{entries-length}
 
 -- ## A list by its index
 
 module _ {A : Type 0} where
-  up-length : (f : ℕ → A) (n : ℕ) → length (upTo f n) ≡ n
-  unfolding upTo
-  up-length f zero = refl
-  up-length f (suc n) = ap suc (up-length (λ i. f (suc i)) n)
-
-  up-at : (f : ℕ → A) (n i : ℕ) (d : A) → i < n → getD (upTo f n) i d ≡ f i
-  unfolding upTo
-  up-at f zero i d h = absurd (not-suc-le-zero h)
-  up-at f (suc n) zero d h = refl
-  up-at f (suc n) (suc i) d h = up-at (λ i. f (suc i)) n i d (le-of-suc-le-suc h)
-
   up-same : (f g : ℕ → A) (n : ℕ) → ((i : ℕ) → i < n → f i ≡ g i) → upTo f n ≡ upTo g n
   unfolding upTo
   up-same f g zero h = refl
@@ -42,17 +32,6 @@ map-up : {A B : Type 0} (h : A → B) (f : ℕ → A) (n : ℕ) → map h (upTo 
 unfolding upTo
 map-up h f zero = refl
 map-up h f (suc n) = ap (λ ys. h (f 0) ∷ ys) (map-up h (λ i. f (suc i)) n)
-
--- ## Reading
-
-module _ (t : Columns) (cs : List ℕ) where
-  pub entries-length : length (entriesIn t cs) ≡ 8
-  unfolding entriesIn
-  entries-length = up-length (entryAt t cs) 8
-
-  pub entries-at : (i : ℕ) (d : Entry) → i < 8 → getD (entriesIn t cs) i d ≡ entryAt t cs i
-  unfolding entriesIn
-  entries-at i d h = up-at (entryAt t cs) 8 i d h
 
 -- ## Eight columns are written as the entries that they show
 

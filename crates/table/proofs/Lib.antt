@@ -1,9 +1,10 @@
 -- The laws that the proofs of functions cite, and the proofs of what is promised.
 pub mod ByteLaws
-pub mod EntryLaws
 pub mod EachLaws
 pub mod LayoutLaws
 pub mod SizeLaws
+pub mod StateLaws
+pub mod EntryLaws
 pub mod TestLaws
 pub mod WritingLaws
 pub mod FoundLaws

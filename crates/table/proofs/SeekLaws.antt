@@ -11,7 +11,7 @@ use Rattle.rule.specs.declared.Found.the-variants.{At, Nothing}
 use Rattle.rule.specs.Gateway.{Place, seek}
 use Rattle.table.specs.declared.State.{State}
 use Rattle.table.specs.Meaning.{entriesOf, gatewayOf}
-use Rattle.table.proofs.ReadLaws.{view-length, long}
+use Rattle.table.proofs.StateLaws.{view-length, long}
 
 -- a search over the places of a state is over eight
 pub places-length : (s : State) (x : List ℕ) → length (gatewayOf s x .places) ≡ 8

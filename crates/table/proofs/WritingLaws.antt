@@ -28,8 +28,9 @@ use Rattle.table.specs.Soundness.{Flag, SoundComment, SoundPlace, free, 
 use Rattle.table.specs.Promises.{SoundMeaning, SoundCanonical, OneWriting, EveryGateway, FreshMeans}
 use Rattle.table.proofs.ByteLaws.{padded-size, padded-front, padded-rest, zeros-padded}
 use Rattle.table.proofs.EachLaws.{each-length}
-use Rattle.table.proofs.EntryLaws.{entries-length, Sized, Rewritten, columns-written, comments-written, entries-shown, columns-eight, comments-long}
+use Rattle.table.proofs.EntryLaws.{Sized, Rewritten, columns-written, comments-written, entries-shown, columns-eight, comments-long}
 use Rattle.table.proofs.SizeLaws.{size-is, entries-end, KeyFits, free-size, key-size, free-zeros, laid-zeros, laid-store}
+use Rattle.table.proofs.StateLaws.{entries-length}
 
 -- ## One place
 

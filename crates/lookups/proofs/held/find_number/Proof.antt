@@ -8,7 +8,7 @@ use lib.ListN.{drop}
 use Rattle.rule.specs.Gateway.{seek}
 use Rattle.table.specs.declared.State.{State}
 use Rattle.table.specs.Meaning.{gatewayOf}
-use Rattle.table.proofs.ReadLaws.{state-place}
+use Rattle.table.proofs.StateLaws.{state-place}
 use Rattle.table.proofs.SeekLaws.{places-length, seek-step, seek-stop, seek-end}
 use Rattle.lookups.specs.Told.{hasNumber}
 use Rattle.lookups.proofs.held.find_number.Statement.{statement}

@@ -1,6 +1,6 @@
 -- A free place has no number; a held one's is its entry's. Assumes nothing.
 use mathlib.Core.Path.{sym, _∙_}
-use Rattle.table.proofs.ReadLaws.{place-free, place-held}
+use Rattle.table.proofs.StateLaws.{place-free, place-held}
 use Rattle.lookups.proofs.held.is_numbered.Statement.{statement}
 use Rattle.lookups.proofs.held.is_numbered.Tie as tie
 

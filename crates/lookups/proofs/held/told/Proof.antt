@@ -7,7 +7,7 @@ use mathlib.Core.List.{[]}
 use lib.ListN.{length}
 use Rattle.rule.specs.declared.Millis.{Millis}
 use Rattle.table.specs.Meaning.{limitedLifetime, entriesOf}
-use Rattle.table.proofs.ReadLaws.{long}
+use Rattle.table.proofs.StateLaws.{long}
 use Rattle.table.proofs.SizeLaws.{place-start, fields-start}
 use Rattle.lookups.specs.Told.{leftAt}
 use Rattle.lookups.proofs.EntryLaws.{told-is}

@@ -4,7 +4,8 @@ use borrow.Author.Needs.{needs}
 use mathlib.Core.Path.{sym}
 use lib.Seq.{length-take-le}
 use Rattle.table.specs.Meaning.{entriesOf}
-use Rattle.table.proofs.ReadLaws.{long, state-blob, part-size}
+use Rattle.table.proofs.StateLaws.{long}
+use Rattle.table.proofs.ReadLaws.{state-blob, part-size}
 use Rattle.table.proofs.places.blob_at.Statement.{statement}
 use Rattle.table.proofs.places.blob_at.Tie as tie
 

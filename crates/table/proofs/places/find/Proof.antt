@@ -7,7 +7,8 @@ use lib.ListN.{drop}
 use Rattle.rule.specs.Gateway.{seek, holds}
 use Rattle.table.specs.declared.State.{State}
 use Rattle.table.specs.Meaning.{entriesOf, gatewayOf}
-use Rattle.table.proofs.ReadLaws.{long, part-size, holds-at}
+use Rattle.table.proofs.StateLaws.{long}
+use Rattle.table.proofs.ReadLaws.{part-size, holds-at}
 use Rattle.table.proofs.SeekLaws.{places-length, seek-step, seek-stop, seek-end}
 use Rattle.table.proofs.places.find.Statement.{statement}
 use Rattle.table.proofs.places.find.Tie as tie

@@ -1,6 +1,7 @@
 -- The number 0 is a free place's. Assumes nothing.
 use borrow.Author.Needs.{needs}
-use Rattle.table.proofs.ReadLaws.{state-place, place-tested}
+use Rattle.table.proofs.StateLaws.{state-place}
+use Rattle.table.proofs.ReadLaws.{place-tested}
 use Rattle.table.proofs.places.is_held.Statement.{statement}
 use Rattle.table.proofs.places.is_held.Tie as tie
 

@@ -2,7 +2,7 @@
 use borrow.Author.Needs.{needs}
 use mathlib.Core.Path.{sym, _∙_}
 use lib.Seq.{length-take-le}
-use Rattle.table.proofs.ReadLaws.{place-free, place-held}
+use Rattle.table.proofs.StateLaws.{place-free, place-held}
 use Rattle.table.proofs.places.is_holding.Statement.{statement}
 use Rattle.table.proofs.places.is_holding.Tie as tie
 

@@ -1,6 +1,7 @@
 -- The number that is kept is the key's, or 0. Assumes nothing.
 use borrow.Author.Needs.{needs}
-use Rattle.table.proofs.ReadLaws.{state-place, place-number}
+use Rattle.table.proofs.StateLaws.{state-place}
+use Rattle.table.proofs.ReadLaws.{place-number}
 use Rattle.table.proofs.places.number_at.Statement.{statement}
 use Rattle.table.proofs.places.number_at.Tie as tie
 
