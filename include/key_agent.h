@@ -60,6 +60,7 @@ typedef struct {
     size_t len;
 } key_agent_lock;
 
+/* The comment of place i begins at comments[255 * i], its blob at store[4096 * i], its key fields 1,024 bytes behind that. */
 typedef struct {
     key_agent_columns columns;
     uint8_t comments[8 * KEY_AGENT_COMMENT_BYTES];
