@@ -6,6 +6,7 @@ use requests::Called;
 use rule::Millis;
 use server::first::First;
 use table::Columns;
+use table::Kept;
 use table::LockRecord;
 use table::State;
 ghost use Rattle.server.specs.Calls.{Meets};
@@ -40,11 +41,13 @@ pub fn call(
     let mut comments = state.comments;
     let lock = state.lock;
     let mut passphrase = lock.bytes;
-    let mut locked = lock.len;
-    let kept = state.clock;
-    let mut clock = kept.count;
-    let mut next = state.next;
-    let outcome = call_lent(
+    let clock = state.clock;
+    let kept = Kept {
+        clock,
+        next: state.next,
+        locked: lock.len,
+    };
+    let landed = call_lent(
         &mut numbers,
         &mut readings,
         &mut blob_lens,
@@ -55,9 +58,7 @@ pub fn call(
         &mut confirm,
         &mut comments,
         &mut passphrase,
-        &mut locked,
-        &mut clock,
-        &mut next,
+        kept,
         store,
         payload,
         reading,
@@ -65,6 +66,9 @@ pub fn call(
         signature,
         reply,
     );
+    let outcome = landed.outcome;
+    let after = landed.kept;
+    let clock = after.clock;
     let columns = Columns {
         numbers,
         readings,
@@ -77,14 +81,14 @@ pub fn call(
     };
     let lock = LockRecord {
         bytes: passphrase,
-        len: locked,
+        len: after.locked,
     };
     let state = State {
         columns,
         comments,
         lock,
-        clock: Millis { count: clock },
-        next,
+        clock,
+        next: after.next,
     };
     Called { outcome, state }
 }
@@ -111,11 +115,13 @@ pub fn first_call(
     let mut comments = state.comments;
     let lock = state.lock;
     let mut passphrase = lock.bytes;
-    let mut locked = lock.len;
-    let kept = state.clock;
-    let mut clock = kept.count;
-    let mut next = state.next;
-    let first = first_lent(
+    let clock = state.clock;
+    let kept = Kept {
+        clock,
+        next: state.next,
+        locked: lock.len,
+    };
+    let heard = first_lent(
         &mut numbers,
         &mut readings,
         &mut blob_lens,
@@ -126,14 +132,15 @@ pub fn first_call(
         &mut confirm,
         &mut comments,
         &mut passphrase,
-        &mut locked,
-        &mut clock,
-        &mut next,
+        kept,
         store,
         bytes,
         reading,
         reply,
     );
+    let first = heard.first;
+    let after = heard.kept;
+    let clock = after.clock;
     let columns = Columns {
         numbers,
         readings,
@@ -146,14 +153,14 @@ pub fn first_call(
     };
     let lock = LockRecord {
         bytes: passphrase,
-        len: locked,
+        len: after.locked,
     };
     let state = State {
         columns,
         comments,
         lock,
-        clock: Millis { count: clock },
-        next,
+        clock,
+        next: after.next,
     };
     FirstCalled { first, state }
 }

@@ -280,7 +280,7 @@ fn call_core(
     )
 }
 
-// One call on a lent state, whose parts are altered where they lie: outcome, state, store and reply buffer are what `callOf` says.
+// One call over the lent arrays of a state; what is no array goes by value and comes back. Outcome, state, store and reply buffer are what `callOf` says.
 pub fn call_lent(
     numbers: &mut [u64; 8],
     readings: &mut [u64; 8],
@@ -292,24 +292,17 @@ pub fn call_lent(
     confirm: &mut [u8; 8],
     comments: &mut [u8; COMMENTS_SIZE],
     passphrase: &mut [u8; limits::PASSPHRASE_LIMIT],
-    locked: &mut usize,
-    clock: &mut u64,
-    next: &mut u64,
+    kept: Kept,
     store: &mut [u8],
     payload: &[u8],
     reading: Millis,
     answers: Answers,
     signature: &[u8],
     reply: &mut [u8],
-) -> Outcome
-    ensures { λ r. ⌜ Meets (held (columns (now (numbers .entry)) (now (readings .entry)) (now («blob_lens» .entry)) (now («fields_lens» .entry)) (now («comment_lens» .entry)) (now (seconds .entry)) (now (limited .entry)) (now (confirm .entry))) (now (comments .entry)) (now (passphrase .entry)) (record { clock = record { count = now (clock .entry) }; next = now (next .entry); locked = now (locked .entry) })) (now (store .entry)) (now (payload .entry)) reading answers (now (signature .entry)) (now (reply .entry)) r (held (columns (now (numbers .exit)) (now (readings .exit)) (now («blob_lens» .exit)) (now («fields_lens» .exit)) (now («comment_lens» .exit)) (now (seconds .exit)) (now (limited .exit)) (now (confirm .exit))) (now (comments .exit)) (now (passphrase .exit)) (record { clock = record { count = now (clock .exit) }; next = now (next .exit); locked = now (locked .exit) })) (now (store .exit)) (now (reply .exit)) ⌝ }
+) -> Landed
+    ensures { λ r. ⌜ Meets (held (columns (now (numbers .entry)) (now (readings .entry)) (now («blob_lens» .entry)) (now («fields_lens» .entry)) (now («comment_lens» .entry)) (now (seconds .entry)) (now (limited .entry)) (now (confirm .entry))) (now (comments .entry)) (now (passphrase .entry)) kept) (now (store .entry)) (now (payload .entry)) reading answers (now (signature .entry)) (now (reply .entry)) (r .outcome) (held (columns (now (numbers .exit)) (now (readings .exit)) (now («blob_lens» .exit)) (now («fields_lens» .exit)) (now («comment_lens» .exit)) (now (seconds .exit)) (now (limited .exit)) (now (confirm .exit))) (now (comments .exit)) (now (passphrase .exit)) (r .kept)) (now (store .exit)) (now (reply .exit)) ⌝ }
 {
-    let before = Kept {
-        clock: Millis { count: *clock },
-        next: *next,
-        locked: *locked,
-    };
-    let r = call_core(
+    call_core(
         numbers,
         readings,
         blob_lens,
@@ -320,17 +313,12 @@ pub fn call_lent(
         confirm,
         comments,
         passphrase,
-        before,
+        kept,
         store,
         payload,
         reading,
         answers,
         signature,
         reply,
-    );
-    let after = r.kept;
-    *clock = after.clock.count;
-    *next = after.next;
-    *locked = after.locked;
-    r.outcome
+    )
 }

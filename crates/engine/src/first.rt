@@ -6,6 +6,7 @@ use server::first::First;
 use server::first::first_in;
 use server::first::nothing_lent;
 use table::COMMENTS_SIZE;
+use table::Kept;
 use wire::frame::Split;
 use wire::frame::frame_payload;
 use wire::frame::read_frame;
@@ -15,7 +16,13 @@ ghost use Rattle.table.specs.Entries.{columns};
 ghost use Rattle.table.specs.Meaning.{held};
 ghost use Rattle.server.specs.First.{FirstMeets};
 
-// What the bytes that no request has used come to, on a lent state; state, store and reply buffer as `firstOf` says.
+// What a first call came to, where the rest of the state is lent.
+pub struct Heard {
+    pub first: First,
+    pub kept: Kept,
+}
+
+// What the bytes that no request has used come to, over the lent arrays of a state; state, store and reply buffer as `firstOf` says.
 pub fn first_lent(
     numbers: &mut [u64; 8],
     readings: &mut [u64; 8],
@@ -27,23 +34,27 @@ pub fn first_lent(
     confirm: &mut [u8; 8],
     comments: &mut [u8; COMMENTS_SIZE],
     passphrase: &mut [u8; limits::PASSPHRASE_LIMIT],
-    locked: &mut usize,
-    clock: &mut u64,
-    next: &mut u64,
+    kept: Kept,
     store: &mut [u8],
     bytes: &[u8],
     reading: Millis,
     reply: &mut [u8],
-) -> First
-    ensures { λ r. ⌜ FirstMeets (held (columns (now (numbers .entry)) (now (readings .entry)) (now («blob_lens» .entry)) (now («fields_lens» .entry)) (now («comment_lens» .entry)) (now (seconds .entry)) (now (limited .entry)) (now (confirm .entry))) (now (comments .entry)) (now (passphrase .entry)) (record { clock = record { count = now (clock .entry) }; next = now (next .entry); locked = now (locked .entry) })) (now (store .entry)) (now (bytes .entry)) reading (now (reply .entry)) r (held (columns (now (numbers .exit)) (now (readings .exit)) (now («blob_lens» .exit)) (now («fields_lens» .exit)) (now («comment_lens» .exit)) (now (seconds .exit)) (now (limited .exit)) (now (confirm .exit))) (now (comments .exit)) (now (passphrase .exit)) (record { clock = record { count = now (clock .exit) }; next = now (next .exit); locked = now (locked .exit) })) (now (store .exit)) (now (reply .exit)) ⌝ }
+) -> Heard
+    ensures { λ r. ⌜ FirstMeets (held (columns (now (numbers .entry)) (now (readings .entry)) (now («blob_lens» .entry)) (now («fields_lens» .entry)) (now («comment_lens» .entry)) (now (seconds .entry)) (now (limited .entry)) (now (confirm .entry))) (now (comments .entry)) (now (passphrase .entry)) kept) (now (store .entry)) (now (bytes .entry)) reading (now (reply .entry)) (r .first) (held (columns (now (numbers .exit)) (now (readings .exit)) (now («blob_lens» .exit)) (now («fields_lens» .exit)) (now («comment_lens» .exit)) (now (seconds .exit)) (now (limited .exit)) (now (confirm .exit))) (now (comments .exit)) (now (passphrase .exit)) (r .kept)) (now (store .exit)) (now (reply .exit)) ⌝ }
 {
     match read_frame(bytes) {
-        Split::MoreNeeded => First::MoreNeeded,
-        Split::TooLong => First::TooLong,
+        Split::MoreNeeded => Heard {
+            first: First::MoreNeeded,
+            kept,
+        },
+        Split::TooLong => Heard {
+            first: First::TooLong,
+            kept,
+        },
         Split::Frame { from: _, to } => {
             let payload = frame_payload(bytes);
             let signature = cut(bytes, 0, 0);
-            let outcome = call_lent(
+            let landed = call_lent(
                 numbers,
                 readings,
                 blob_lens,
@@ -54,9 +65,7 @@ pub fn first_lent(
                 confirm,
                 comments,
                 passphrase,
-                locked,
-                clock,
-                next,
+                kept,
                 store,
                 payload,
                 reading,
@@ -64,7 +73,12 @@ pub fn first_lent(
                 signature,
                 reply,
             );
-            first_in(to, outcome)
+            let outcome = landed.outcome;
+            let after = landed.kept;
+            Heard {
+                first: first_in(to, outcome),
+                kept: after,
+            }
         }
     }
 }
