@@ -4,5 +4,6 @@ pub mod FlatLaws
 pub mod WithinLaws
 pub mod ExportLaws
 pub mod Lending
+pub mod Locals
 pub mod AskedLaws
 pub mod FirstLaws

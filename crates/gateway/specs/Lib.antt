@@ -1,3 +1,4 @@
 -- The definitions that contracts cite, and the statements of what is promised.
 pub mod Flat
+pub mod Lent
 pub mod Promises

@@ -7,8 +7,8 @@ use crate::flat::answers_of;
 use crate::flat::first_of;
 use crate::flat::flat_of;
 use crate::flat::split;
+use crate::lent::serve;
 use crate::lent::serve_first;
-use crate::lent::serve_lent;
 use lookups::HeldKey;
 use lookups::held::key_of;
 use lookups::order::next_of;
@@ -51,7 +51,7 @@ pub extern "C" fn key_agent_call(
     ensures { λ r. ⌜ FlatMeets (now (state .entry)) (now (store .entry)) (now (payload .entry)) reading answers (now (signature .entry)) (now (reply .entry)) r (now (state .exit)) (now (store .exit)) (now (reply .exit)) ⌝ }
 {
     let lent = answers_of(answers);
-    let outcome = serve_lent(state, store, payload, reading, lent, signature, reply);
+    let outcome = serve(state, store, payload, reading, lent, signature, reply);
     flat_of(outcome)
 }
 
