@@ -1,5 +1,5 @@
 // The gateway's state and its key store: eight places of 4,096 bytes, their figures in columns, the lock record, the kept clock, the next number.
-// Columns and store are lent to what works on them. No crate above names an offset in the store or the size of a place.
+// Columns and store are lent to what works on them. Above, only soundness and changes name an offset in a place or its size.
 pub mod bytes;
 pub mod clock;
 pub mod comments;

@@ -50,8 +50,8 @@ pub struct Core {
 
 const SUCCESS: [u8; 5] = [0, 0, 0, 1, 6];
 
-/// May a call on it leave key fields or a passphrase on the stack? An add, LOCK or UNLOCK; any other may while locked, as lookups take the
-/// state by value.
+/// May a call on it leave key fields or a passphrase on the stack? An add, LOCK or UNLOCK, which have them in the payload. The state is lent and
+/// not copied; while locked the stack is zeroed after every call all the same.
 fn has_secrets(payload: Payload<'_>) -> bool {
     matches!(payload.bytes().first(), Some(17 | 22 | 23 | 25))
 }
