@@ -3,7 +3,5 @@ pub mod FlatSteps
 pub mod FlatLaws
 pub mod WithinLaws
 pub mod ExportLaws
-pub mod Lending
-pub mod Locals
 pub mod AskedLaws
 pub mod FirstLaws

@@ -1,4 +1,3 @@
-// The gateway's face: the form over a lent state, the flat values that stand for the enums, and what C and Rust link.
+// The gateway's face: the flat values that stand for the enums, and what C and Rust link.
 pub mod exports;
 pub mod flat;
-pub mod lent;

@@ -61,10 +61,10 @@ use Rattle.gateway.proofs.flat.answers_of as answers-of
 use Rattle.gateway.proofs.flat.answers_of.Symbol as answers-of-def
 use Rattle.gateway.proofs.flat.answers_of.Symbol.{name as #answers-of}
 use Rattle.gateway.proofs.flat.answers_of.Met as answers-of-thm
-use Rattle.gateway.proofs.lent.serve as serve
-use Rattle.gateway.proofs.lent.serve.Symbol as serve-def
-use Rattle.gateway.proofs.lent.serve.Symbol.{name as #serve}
-use Rattle.gateway.proofs.lent.serve.Met as serve-thm
+use Rattle.lending.proofs.serve as serve
+use Rattle.lending.proofs.serve.Symbol as serve-def
+use Rattle.lending.proofs.serve.Symbol.{name as #serve}
+use Rattle.lending.proofs.serve.Met as serve-thm
 use Rattle.gateway.proofs.flat.flat_of as flat-of
 use Rattle.gateway.proofs.flat.flat_of.Symbol as flat-of-def
 use Rattle.gateway.proofs.flat.flat_of.Symbol.{name as #flat-of}
@@ -253,5 +253,5 @@ key-agent-call-spec 𝓤 H 𝓜 𝓖 𝓡 =
     (tables 𝓤 H 𝓜 𝓡 code.env .C) (tables 𝓤 H 𝓜 𝓡 code.env .Λ) #key-agent-call code.function (code.unfolded 𝓤 H 𝓜 𝓡)
     (meets 𝓤 H (𝓖 .A) (givenOf 𝓤 H 𝓜 𝓖) (𝓜 .mem) (𝓡 .run) (tablesOf 𝓤 H 𝓜 (tables 𝓤 H 𝓜 𝓡 code.env))
     (cited 𝓤 H (Answering 𝓤 H (𝓖 .A) (𝓜 .mem) (𝓡 .run)) 𝓜 𝓡 code.env #answers-of answers-of-def.routine code.calls-gateway·flat·answers-of (answers-of-thm.met 𝓤 H 𝓜 𝓖 𝓡))
-    (cited 𝓤 H (Serve 𝓤 H (𝓖 .A) (𝓜 .mem) (𝓡 .run)) 𝓜 𝓡 code.env #serve serve-def.routine code.calls-gateway·lent·serve (serve-thm.met 𝓤 H 𝓜 𝓖 𝓡))
+    (cited 𝓤 H (Serve 𝓤 H (𝓖 .A) (𝓜 .mem) (𝓡 .run)) 𝓜 𝓡 code.env #serve serve-def.routine code.calls-lending·serve (serve-thm.met 𝓤 H 𝓜 𝓖 𝓡))
     (cited 𝓤 H (Flattening 𝓤 H (𝓖 .A) (𝓜 .mem) (𝓡 .run)) 𝓜 𝓡 code.env #flat-of flat-of-def.routine code.calls-gateway·flat·flat-of (flat-of-thm.met 𝓤 H 𝓜 𝓖 𝓡)))

@@ -51,10 +51,10 @@ use Rattle.rule.proofs.Millis as Millis′
 use Rattle.rule.proofs.Millis.Laws as Millis″
 use Rattle.gateway.proofs.flat.FlatFirst as FlatFirst′
 use Rattle.gateway.proofs.flat.FlatFirst.Laws as FlatFirst″
-use Rattle.gateway.proofs.lent.serve_first as serve-first
-use Rattle.gateway.proofs.lent.serve_first.Symbol as serve-first-def
-use Rattle.gateway.proofs.lent.serve_first.Symbol.{name as #serve-first}
-use Rattle.gateway.proofs.lent.serve_first.Met as serve-first-thm
+use Rattle.lending.proofs.serve_first as serve-first
+use Rattle.lending.proofs.serve_first.Symbol as serve-first-def
+use Rattle.lending.proofs.serve_first.Symbol.{name as #serve-first}
+use Rattle.lending.proofs.serve_first.Met as serve-first-thm
 use Rattle.gateway.proofs.flat.first_of as first-of
 use Rattle.gateway.proofs.flat.first_of.Symbol as first-of-def
 use Rattle.gateway.proofs.flat.first_of.Symbol.{name as #first-of}
@@ -205,5 +205,5 @@ key-agent-first-spec 𝓤 H 𝓜 𝓖 𝓡 =
     entered 𝓤 H (tripleOf 𝓤 H (𝓖 .A) first′.signature (first′.spec 𝓤 H (𝓖 .A) (𝓜 .mem) (𝓡 .run)))
     (tables 𝓤 H 𝓜 𝓡 code.env .C) (tables 𝓤 H 𝓜 𝓡 code.env .Λ) #key-agent-first code.function (code.unfolded 𝓤 H 𝓜 𝓡)
     (meets 𝓤 H (𝓖 .A) (givenOf 𝓤 H 𝓜 𝓖) (𝓜 .mem) (𝓡 .run) (tablesOf 𝓤 H 𝓜 (tables 𝓤 H 𝓜 𝓡 code.env))
-    (cited 𝓤 H (Serve 𝓤 H (𝓖 .A) (𝓜 .mem) (𝓡 .run)) 𝓜 𝓡 code.env #serve-first serve-first-def.routine code.calls-gateway·lent·serve-first (serve-first-thm.met 𝓤 H 𝓜 𝓖 𝓡))
+    (cited 𝓤 H (Serve 𝓤 H (𝓖 .A) (𝓜 .mem) (𝓡 .run)) 𝓜 𝓡 code.env #serve-first serve-first-def.routine code.calls-lending·serve-first (serve-first-thm.met 𝓤 H 𝓜 𝓖 𝓡))
     (cited 𝓤 H (Flattening 𝓤 H (𝓖 .A) (𝓜 .mem) (𝓡 .run)) 𝓜 𝓡 code.env #first-of first-of-def.routine code.calls-gateway·flat·first-of (first-of-thm.met 𝓤 H 𝓜 𝓖 𝓡)))

@@ -44,7 +44,7 @@ use denote.Triple.Table.{entered, cited}
 use denote.Triple.Walked.{says, Stays, stay-ref, gave-slice, stay-dropped, walkOf, AllGo, goes-ref, goes-gave-slice, goes-dropped, Walks, ends-at, walked, walk-meets}
 use denote.Exit.{yes}
 use denote.Signature.{plain, shrSliceOf}
-use Rattle.gateway.specs.Lent.{beside, keptIn, Lands}
+use Rattle.lending.specs.Lent.{beside, keptIn, Lands}
 use Rattle.server.specs.Calls.{Meets as CallMeets}
 use Rattle.table.specs.declared.State.{State}
 use Rattle.requests.specs.declared.Landed.{Landed}
@@ -66,16 +66,16 @@ use Rattle.table.proofs.Kept as Kept′
 use Rattle.table.proofs.Kept.Laws as Kept″
 use Rattle.table.proofs.LockRecord as LockRecord′
 use Rattle.table.proofs.LockRecord.Laws as LockRecord″
-use Rattle.gateway.proofs.Lending.{R, state-vals, laid, seen, at-lock-len, at-clock-count, at-next, Number, Numbers, Around, taken, given-back}
-use Rattle.gateway.proofs.Locals.{env, rest, tyAt, free-all}
-use Rattle.gateway.proofs.lent.land as land′
-use Rattle.gateway.proofs.lent.land.Symbol as land-def
-use Rattle.gateway.proofs.lent.land.Symbol.{name as #gateway·land}
-use Rattle.gateway.proofs.lent.land.Met as land-thm
-use Rattle.gateway.proofs.lent.serve.Key.{name as #gateway·serve}
-use Rattle.gateway.proofs.lent.serve as serve′
-use Rattle.gateway.proofs.lent.serve.Statement as stated
-use Rattle.gateway.proofs.lent.serve.Code as code
+use Rattle.lending.proofs.Lending.{R, state-vals, laid, seen, at-lock-len, at-clock-count, at-next, Number, Numbers, Around, taken, given-back}
+use Rattle.lending.proofs.Locals.{env, rest, tyAt, free-all}
+use Rattle.lending.proofs.land as land′
+use Rattle.lending.proofs.land.Symbol as land-def
+use Rattle.lending.proofs.land.Symbol.{name as #lending·land}
+use Rattle.lending.proofs.land.Met as land-thm
+use Rattle.lending.proofs.serve.Key.{name as #lending·serve}
+use Rattle.lending.proofs.serve as serve′
+use Rattle.lending.proofs.serve.Statement as stated
+use Rattle.lending.proofs.serve.Code as code
 
 abbrev stayed : Stays (serve′.ended .signature .params) (serve′.ended .kept)
 stayed = (stay-ref (0 ∷ []) tt (plain (λ _. R)), (gave-slice (1 ∷ []) tt (plain (λ _. u8)), (stay-dropped (shrSliceOf (2 ∷ []) tt (plain (λ _. u8))) yes, (stay-dropped (plain (λ _. Millis′.the-row)) yes, (stay-dropped (plain (λ _. Answers′.the-row)) yes, (stay-dropped (shrSliceOf (3 ∷ []) tt (plain (λ _. u8))) yes, (gave-slice (4 ∷ []) tt (plain (λ _. u8)), tt)))))))
@@ -210,7 +210,7 @@ module _ {M : Type 1} (𝓤 : URA M) (H : Heap 𝓤) (A : Atoms 𝓤) (W : Given
       split ! $ move ! (1 ∷ []) $ split ! $ move ! (1 ∷ []) $ split ! $ move ! (1 ∷ []) $ split ! $ move ! (1 ∷ []) $ split ! $ says ! (k .granted .meets) $ move ! (3 ∷ 2 ∷ []) $ join ! $ frame ! $ nothing ! $ move ! (2 ∷ 0 ∷ []) $ fjoin ! $ nothing ! $ fjoin ! $ nothing ! $ fjoin ! $ nothing ! $ fjoin ! $ nothing ! $ fjoin ! $ move ! (1 ∷ 0 ∷ []) $ fjoin ! $ move ! (2 ∷ 1 ∷ []) $ feqI ! (List Val) (vptr b o ∷ []) (vptr b o ∷ []) refl $ fjoin3 ! $ fjoin ! $ frame ! $
       owned ! Outcome′.the-row (Is Outcome′.the-row) (EL.makes Outcome′.the-type Outcome″.the-plain 𝓤 H A) (k .r .outcome) _ (result-is (k .r) _ (k .is)) $ done !
 
-  module _ (C : Calls 𝓤 H) (Λ : Loops 𝓤 H) (fm : FmC 𝓤 H (W .laws) C) (known : Triple 𝓤 (C #gateway·land) (Callee 𝓤 H A at-mem run)) where
+  module _ (C : Calls 𝓤 H) (Λ : Loops 𝓤 H) (fm : FmC 𝓤 H (W .laws) C) (known : Triple 𝓤 (C #lending·land) (Callee 𝓤 H A at-mem run)) where
     -- what came back by value is stored, and the borrow closed
     stores : (l0 l1 l2 l3 l4 l5 l6 l7 l8 l9 l10 l11 l12 l13 l14 l15 l16 l17 l18 : ℕ) (w : Val) (k : Came w) (v2 v3 v4 v5 v6 v7 v8 v10 v11 v12 v13 v14 v15 v16 v17 v18 : Val) → Seq (Go {0}) W (‵ (Number b (at-clock-count o) (k .z .clock .count)) ∷ ‵ (Number b (at-next o) (k .z .next)) ∷ ‵ (Number b (at-lock-len o) (k .z .lock .len)) ∷ After k ∷ ‵ (fat fullShare (tyAt 18 (code.function .locals)) l18 0 v18) ∷ ‵ (fdies (tyAt 18 (code.function .locals)) l18) ∷ ‵ (fat fullShare (tyAt 17 (code.function .locals)) l17 0 v17) ∷ ‵ (fdies (tyAt 17 (code.function .locals)) l17) ∷ ‵ (fat fullShare (tyAt 16 (code.function .locals)) l16 0 v16) ∷ ‵ (fdies (tyAt 16 (code.function .locals)) l16) ∷ ‵ (fat fullShare (tyAt 15 (code.function .locals)) l15 0 v15) ∷ ‵ (fdies (tyAt 15 (code.function .locals)) l15) ∷ ‵ (fat fullShare (tyAt 14 (code.function .locals)) l14 0 v14) ∷ ‵ (fdies (tyAt 14 (code.function .locals)) l14) ∷ ‵ (fat fullShare (tyAt 13 (code.function .locals)) l13 0 v13) ∷ ‵ (fdies (tyAt 13 (code.function .locals)) l13) ∷ ‵ (fat fullShare (tyAt 12 (code.function .locals)) l12 0 v12) ∷ ‵ (fdies (tyAt 12 (code.function .locals)) l12) ∷ ‵ (fat fullShare (tyAt 11 (code.function .locals)) l11 0 v11) ∷ ‵ (fdies (tyAt 11 (code.function .locals)) l11) ∷ ‵ (fat fullShare (tyAt 10 (code.function .locals)) l10 0 v10) ∷ ‵ (fdies (tyAt 10 (code.function .locals)) l10) ∷ ‵ (froom (tyAt 9 (code.function .locals)) l9 0) ∷ ‵ (fdies (tyAt 9 (code.function .locals)) l9) ∷ ‵ (fat fullShare (tyAt 8 (code.function .locals)) l8 0 v8) ∷ ‵ (fdies (tyAt 8 (code.function .locals)) l8) ∷ ‵ (fat fullShare (tyAt 7 (code.function .locals)) l7 0 v7) ∷ ‵ (fdies (tyAt 7 (code.function .locals)) l7) ∷ ‵ (fat fullShare (tyAt 6 (code.function .locals)) l6 0 v6) ∷ ‵ (fdies (tyAt 6 (code.function .locals)) l6) ∷ ‵ (fat fullShare (tyAt 5 (code.function .locals)) l5 0 v5) ∷ ‵ (fdies (tyAt 5 (code.function .locals)) l5) ∷ ‵ (fat fullShare (tyAt 4 (code.function .locals)) l4 0 v4) ∷ ‵ (fdies (tyAt 4 (code.function .locals)) l4) ∷ ‵ (fat fullShare (tyAt 3 (code.function .locals)) l3 0 v3) ∷ ‵ (fdies (tyAt 3 (code.function .locals)) l3) ∷ ‵ (fat fullShare (tyAt 2 (code.function .locals)) l2 0 v2) ∷ ‵ (fdies (tyAt 2 (code.function .locals)) l2) ∷ ‵ (fat fullShare (tyAt 1 (code.function .locals)) l1 0 (vptr b o)) ∷ ‵ (fdies (tyAt 1 (code.function .locals)) l1) ∷ ‵ (froom (tyAt 0 (code.function .locals)) l0 0) ∷ ‵ (fdies (tyAt 0 (code.function .locals)) l0) ∷ []) (lands C Λ (env (code.function .locals) (l0 ∷ l1 ∷ l2 ∷ l3 ∷ l4 ∷ l5 ∷ l6 ∷ l7 ∷ l8 ∷ l9 ∷ l10 ∷ l11 ∷ l12 ∷ l13 ∷ l14 ∷ l15 ∷ l16 ∷ l17 ∷ l18 ∷ [])) (place 9 []) w (rest 11 (code.function .body)) (atRet (env (code.function .locals) (l0 ∷ l1 ∷ l2 ∷ l3 ∷ l4 ∷ l5 ∷ l6 ∷ l7 ∷ l8 ∷ l9 ∷ l10 ∷ l11 ∷ l12 ∷ l13 ∷ l14 ∷ l15 ∷ l16 ∷ l17 ∷ l18 ∷ [])) Post))
     stores l0 l1 l2 l3 l4 l5 l6 l7 l8 l9 l10 l11 l12 l13 l14 l15 l16 l17 l18 w k v2 v3 v4 v5 v6 v7 v8 v10 v11 v12 v13 v14 v15 v16 v17 v18 =
@@ -254,7 +254,7 @@ module _ {M : Type 1} (𝓤 : URA M) (H : Heap 𝓤) (A : Atoms 𝓤) (W : Given
         stores l0 l1 l2 l3 l4 l5 l6 l7 l8 l9 l10 l11 l12 l13 l14 l15 l16 l17 l18 w k _ _ _ _ _ _ _ _ _ _ _ _ _ _ _ _))))))))))))))))))))))))
 
 module _ {M : Type 1} (𝓤 : URA M) (H : Heap 𝓤) (A : Atoms 𝓤) (W : Given 𝓤 H A) (at-mem : Memory → SProp 𝓤) (run : Routine → Fun 𝓤) where
-  walks : (C : Calls 𝓤 H) (Λ : Loops 𝓤 H) → FmC 𝓤 H (W .laws) C → Triple 𝓤 (C #gateway·land) (Callee 𝓤 H A at-mem run) → Walks 𝓤 H A serve′.ended stayed (WpFn 𝓤 H C Λ code.function) (serve′.clauses 𝓤 H A at-mem run)
+  walks : (C : Calls 𝓤 H) (Λ : Loops 𝓤 H) → FmC 𝓤 H (W .laws) C → Triple 𝓤 (C #lending·land) (Callee 𝓤 H A at-mem run) → Walks 𝓤 H A serve′.ended stayed (WpFn 𝓤 H C Λ code.function) (serve′.clauses 𝓤 H A at-mem run)
   walks C Λ fm known = walked 𝓤 H A serve′.ended stayed (serve′.clauses 𝓤 H A at-mem run) (WpFn 𝓤 H C Λ code.function) (λ κs. (ptr-vals, (slice-vals, (slice-vals, (LL.vals Millis′.the-type Millis″.the-laws, (LL.vals Answers′.the-type Answers″.the-laws, (slice-vals, (slice-vals, tt))))))))
       (λ κs. (mut-tells (named 0) (κs .0) R, (mut-slice-tells (named 1) (κs .1 .0) u8, (shr-slice-tells (named 2) (κs .1 .1 .0) u8, (LL.tells Millis′.the-type Millis″.the-laws, (LL.tells Answers′.the-type Answers″.the-laws, (shr-slice-tells (named 3) (κs .1 .1 .1 .0) u8, (mut-slice-tells (named 4) (κs .1 .1 .1 .1 .0) u8, tt))))))))
       (λ κs qs bounds a _ are. via 𝓤 _ (fst∗ 𝓤 _ (emp 𝓤)) (walk 𝓤 H A W at-mem run (κs .0) (κs .1 .0) (κs .1 .1 .0) (κs .1 .1 .1 .0) (κs .1 .1 .1 .1 .0) (qs .0) (qs .1 .0) (qs .1 .1 .0) (qs .1 .1 .1 .0) (qs .1 .1 .1 .1 .0) (a .0 .ptr .0) (a .0 .ptr .1) (a .0 .name) (a .0 .now) (a .1 .0) (a .1 .1 .0) (a .1 .1 .1 .0) (a .1 .1 .1 .1 .0) (a .1 .1 .1 .1 .1 .0) (a .1 .1 .1 .1 .1 .1 .0) C Λ fm known (are .1 .0) (are .1 .1 .0) (are .1 .1 .1 .0) (are .1 .1 .1 .1 .0) (are .1 .1 .1 .1 .1 .0) (are .1 .1 .1 .1 .1 .1 .0)))
@@ -262,7 +262,7 @@ module _ {M : Type 1} (𝓤 : URA M) (H : Heap 𝓤) (A : Atoms 𝓤) (W : Given
   all-go : AllGo 𝓤 H A W 5 (serve′.signature .params) (serve′.ended .kept) stayed
   all-go = (goes-ref 𝓤 H A W 5 0 tt (plain (λ _. R)), (goes-gave-slice 𝓤 H A W 5 1 tt (plain (λ _. u8)), (goes-dropped 𝓤 H A W 5 (shrSliceOf (2 ∷ []) tt (plain (λ _. u8))) yes (λ κs x f. refl), (goes-dropped 𝓤 H A W 5 (plain (λ _. Millis′.the-row)) yes (λ κs x f. refl), (goes-dropped 𝓤 H A W 5 (plain (λ _. Answers′.the-row)) yes (λ κs x f. refl), (goes-dropped 𝓤 H A W 5 (shrSliceOf (3 ∷ []) tt (plain (λ _. u8))) yes (λ κs x f. refl), (goes-gave-slice 𝓤 H A W 5 4 tt (plain (λ _. u8)), tt)))))))
 
-meets : {M : Type 1} (𝓤 : URA M) (H : Heap 𝓤) (A : Atoms 𝓤) → Given 𝓤 H A → (at-mem : Memory → SProp 𝓤) (run : Routine → Fun 𝓤) (𝓣 : Tables 𝓤 H) → Triple 𝓤 (𝓣 .C #gateway·land) (Callee 𝓤 H A at-mem run)
+meets : {M : Type 1} (𝓤 : URA M) (H : Heap 𝓤) (A : Atoms 𝓤) → Given 𝓤 H A → (at-mem : Memory → SProp 𝓤) (run : Routine → Fun 𝓤) (𝓣 : Tables 𝓤 H) → Triple 𝓤 (𝓣 .C #lending·land) (Callee 𝓤 H A at-mem run)
     → Meets 𝓤 H A serve′.signature (WpFn 𝓤 H (𝓣 .C) (𝓣 .Λ) code.function) (serve′.spec 𝓤 H A at-mem run)
 meets 𝓤 H A W at-mem run 𝓣 known =
     walk-meets 𝓤 H A serve′.ended stayed W (all-go 𝓤 H A W at-mem run) (serve′.clauses 𝓤 H A at-mem run)
@@ -272,6 +272,6 @@ pub serve-spec : {M : Type 1} → stated.statement M
 unfolding code.routine tablesOf
 serve-spec 𝓤 H 𝓜 𝓖 𝓡 =
     entered 𝓤 H (tripleOf 𝓤 H (𝓖 .A) serve′.signature (serve′.spec 𝓤 H (𝓖 .A) (𝓜 .mem) (𝓡 .run)))
-    (tables 𝓤 H 𝓜 𝓡 code.env .C) (tables 𝓤 H 𝓜 𝓡 code.env .Λ) #gateway·serve code.function (code.unfolded 𝓤 H 𝓜 𝓡)
+    (tables 𝓤 H 𝓜 𝓡 code.env .C) (tables 𝓤 H 𝓜 𝓡 code.env .Λ) #lending·serve code.function (code.unfolded 𝓤 H 𝓜 𝓡)
     (meets 𝓤 H (𝓖 .A) (givenOf 𝓤 H 𝓜 𝓖) (𝓜 .mem) (𝓡 .run) (tablesOf 𝓤 H 𝓜 (tables 𝓤 H 𝓜 𝓡 code.env))
-    (cited 𝓤 H (Callee 𝓤 H (𝓖 .A) (𝓜 .mem) (𝓡 .run)) 𝓜 𝓡 code.env #gateway·land land-def.routine code.calls-gateway·lent·land (land-thm.met 𝓤 H 𝓜 𝓖 𝓡)))
+    (cited 𝓤 H (Callee 𝓤 H (𝓖 .A) (𝓜 .mem) (𝓡 .run)) 𝓜 𝓡 code.env #lending·land land-def.routine code.calls-lending·land (land-thm.met 𝓤 H 𝓜 𝓖 𝓡)))

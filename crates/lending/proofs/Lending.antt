@@ -10,7 +10,7 @@ use base.Logic.{SProp, ent, sep, wand, via, comm∗, wandE, allE}
 use base.Fml.{Lft, GName, Fml, fat, fsep, fdead, fres, flent}
 use denote.Plain.{uint-out, uint-in}
 use Rattle.table.specs.declared.Kept.{Kept}
-use Rattle.gateway.specs.Lent.{beside, keptIn}
+use Rattle.lending.specs.Lent.{beside, keptIn}
 use prog.Wp.{Heap}
 use ghost.Atoms.{Atoms, sem}
 use types.Kit.{Given, Item, ‵, raw, some, later, _⊛_, mean, _$_, _∵_, !, qed, move, drop, use1, use2, use3, split, join, pick, rewrite, fsplit, fjoin, fpick, fpack, await, updating, now as at-once, show, done}

@@ -11,7 +11,7 @@ use table::Kept;
 use table::State;
 ghost use Rattle.server.specs.Calls.{Meets};
 ghost use Rattle.server.specs.First.{FirstMeets};
-ghost use Rattle.gateway.specs.Lent.{Lands, Hears};
+ghost use Rattle.lending.specs.Lent.{Lands, Hears};
 
 // Lends the arrays of the state where they lie to the covered step. What goes by value beside them stays in the state as it was.
 fn land(

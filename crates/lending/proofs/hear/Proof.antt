@@ -42,7 +42,7 @@ use denote.Triple.Table.{entered, cited}
 use denote.Triple.Walked.{says, Stays, stay-ref, gave-slice, stay-dropped, walkOf, AllGo, goes-ref, goes-gave-slice, goes-dropped, Walks, ends-at, walked, walk-meets}
 use denote.Exit.{yes}
 use denote.Signature.{plain, shrSliceOf}
-use Rattle.gateway.specs.Lent.{beside, Hears}
+use Rattle.lending.specs.Lent.{beside, Hears}
 use Rattle.server.specs.First.{FirstMeets}
 use Rattle.table.specs.declared.State.{State}
 use Rattle.engine.specs.declared.first.Heard.{Heard}
@@ -54,15 +54,15 @@ use Rattle.table.proofs.Kept as Kept′
 use Rattle.table.proofs.Kept.Laws as Kept″
 use Rattle.rule.proofs.Millis as Millis′
 use Rattle.rule.proofs.Millis.Laws as Millis″
-use Rattle.gateway.proofs.Lending.{R, Lfts, Names, at-columns-numbers, ref-columns-numbers, at-columns-readings, ref-columns-readings, at-columns-blob-lens, ref-columns-blob-lens, at-columns-fields-lens, ref-columns-fields-lens, at-columns-comment-lens, ref-columns-comment-lens, at-columns-seconds, ref-columns-seconds, at-columns-limited, ref-columns-limited, at-columns-confirm, ref-columns-confirm, at-comments, ref-comments, at-lock-bytes, ref-lock-bytes, Refs, Lender, lends-all, comes-back}
+use Rattle.lending.proofs.Lending.{R, Lfts, Names, at-columns-numbers, ref-columns-numbers, at-columns-readings, ref-columns-readings, at-columns-blob-lens, ref-columns-blob-lens, at-columns-fields-lens, ref-columns-fields-lens, at-columns-comment-lens, ref-columns-comment-lens, at-columns-seconds, ref-columns-seconds, at-columns-limited, ref-columns-limited, at-columns-confirm, ref-columns-confirm, at-comments, ref-comments, at-lock-bytes, ref-lock-bytes, Refs, Lender, lends-all, comes-back}
 use Rattle.engine.proofs.first.first_lent as first-lent′
 use Rattle.engine.proofs.first.first_lent.Symbol as first-lent-def
 use Rattle.engine.proofs.first.first_lent.Symbol.{name as #engine·first-lent}
 use Rattle.engine.proofs.first.first_lent.Met as first-lent-thm
-use Rattle.gateway.proofs.lent.hear.Key.{name as #gateway·hear}
-use Rattle.gateway.proofs.lent.hear as hear′
-use Rattle.gateway.proofs.lent.hear.Statement as stated
-use Rattle.gateway.proofs.lent.hear.Code as code
+use Rattle.lending.proofs.hear.Key.{name as #lending·hear}
+use Rattle.lending.proofs.hear as hear′
+use Rattle.lending.proofs.hear.Statement as stated
+use Rattle.lending.proofs.hear.Code as code
 
 abbrev stayed : Stays (hear′.ended .signature .params) (hear′.ended .kept)
 stayed = (stay-ref (0 ∷ []) tt (plain (λ _. R)), (stay-dropped (plain (λ _. Kept′.the-row)) yes, (gave-slice (1 ∷ []) tt (plain (λ _. u8)), (stay-dropped (shrSliceOf (2 ∷ []) tt (plain (λ _. u8))) yes, (stay-dropped (plain (λ _. Millis′.the-row)) yes, (gave-slice (3 ∷ []) tt (plain (λ _. u8)), tt))))))
@@ -182,6 +182,6 @@ pub hear-spec : {M : Type 1} → stated.statement M
 unfolding code.routine tablesOf
 hear-spec 𝓤 H 𝓜 𝓖 𝓡 =
     entered 𝓤 H (tripleOf 𝓤 H (𝓖 .A) hear′.signature (hear′.spec 𝓤 H (𝓖 .A) (𝓜 .mem) (𝓡 .run)))
-    (tables 𝓤 H 𝓜 𝓡 code.env .C) (tables 𝓤 H 𝓜 𝓡 code.env .Λ) #gateway·hear code.function (code.unfolded 𝓤 H 𝓜 𝓡)
+    (tables 𝓤 H 𝓜 𝓡 code.env .C) (tables 𝓤 H 𝓜 𝓡 code.env .Λ) #lending·hear code.function (code.unfolded 𝓤 H 𝓜 𝓡)
     (meets 𝓤 H (𝓖 .A) (givenOf 𝓤 H 𝓜 𝓖) (𝓜 .mem) (𝓡 .run) (tablesOf 𝓤 H 𝓜 (tables 𝓤 H 𝓜 𝓡 code.env))
     (cited 𝓤 H (Callee 𝓤 H (𝓖 .A) (𝓜 .mem) (𝓡 .run)) 𝓜 𝓡 code.env #engine·first-lent first-lent-def.routine code.calls-engine·first·first-lent (first-lent-thm.met 𝓤 H 𝓜 𝓖 𝓡)))

@@ -42,7 +42,7 @@ use denote.Triple.Table.{entered, cited}
 use denote.Triple.Walked.{says, Stays, stay-ref, gave-slice, stay-dropped, walkOf, AllGo, goes-ref, goes-gave-slice, goes-dropped, Walks, ends-at, walked, walk-meets}
 use denote.Exit.{yes}
 use denote.Signature.{plain, shrSliceOf}
-use Rattle.gateway.specs.Lent.{beside, Lands}
+use Rattle.lending.specs.Lent.{beside, Lands}
 use Rattle.server.specs.Calls.{Meets as CallMeets}
 use Rattle.table.specs.declared.State.{State}
 use Rattle.requests.specs.declared.Landed.{Landed}
@@ -57,15 +57,15 @@ use Rattle.rule.proofs.Millis as Millis′
 use Rattle.rule.proofs.Millis.Laws as Millis″
 use Rattle.requests.proofs.Answers as Answers′
 use Rattle.requests.proofs.Answers.Laws as Answers″
-use Rattle.gateway.proofs.Lending.{R, Lfts, Names, at-columns-numbers, ref-columns-numbers, at-columns-readings, ref-columns-readings, at-columns-blob-lens, ref-columns-blob-lens, at-columns-fields-lens, ref-columns-fields-lens, at-columns-comment-lens, ref-columns-comment-lens, at-columns-seconds, ref-columns-seconds, at-columns-limited, ref-columns-limited, at-columns-confirm, ref-columns-confirm, at-comments, ref-comments, at-lock-bytes, ref-lock-bytes, Refs, Lender, lends-all, comes-back}
+use Rattle.lending.proofs.Lending.{R, Lfts, Names, at-columns-numbers, ref-columns-numbers, at-columns-readings, ref-columns-readings, at-columns-blob-lens, ref-columns-blob-lens, at-columns-fields-lens, ref-columns-fields-lens, at-columns-comment-lens, ref-columns-comment-lens, at-columns-seconds, ref-columns-seconds, at-columns-limited, ref-columns-limited, at-columns-confirm, ref-columns-confirm, at-comments, ref-comments, at-lock-bytes, ref-lock-bytes, Refs, Lender, lends-all, comes-back}
 use Rattle.engine.proofs.call.call_lent as call-lent′
 use Rattle.engine.proofs.call.call_lent.Symbol as call-lent-def
 use Rattle.engine.proofs.call.call_lent.Symbol.{name as #engine·call-lent}
 use Rattle.engine.proofs.call.call_lent.Met as call-lent-thm
-use Rattle.gateway.proofs.lent.land.Key.{name as #gateway·land}
-use Rattle.gateway.proofs.lent.land as land′
-use Rattle.gateway.proofs.lent.land.Statement as stated
-use Rattle.gateway.proofs.lent.land.Code as code
+use Rattle.lending.proofs.land.Key.{name as #lending·land}
+use Rattle.lending.proofs.land as land′
+use Rattle.lending.proofs.land.Statement as stated
+use Rattle.lending.proofs.land.Code as code
 
 abbrev stayed : Stays (land′.ended .signature .params) (land′.ended .kept)
 stayed = (stay-ref (0 ∷ []) tt (plain (λ _. R)), (stay-dropped (plain (λ _. Kept′.the-row)) yes, (gave-slice (1 ∷ []) tt (plain (λ _. u8)), (stay-dropped (shrSliceOf (2 ∷ []) tt (plain (λ _. u8))) yes, (stay-dropped (plain (λ _. Millis′.the-row)) yes, (stay-dropped (plain (λ _. Answers′.the-row)) yes, (stay-dropped (shrSliceOf (3 ∷ []) tt (plain (λ _. u8))) yes, (gave-slice (4 ∷ []) tt (plain (λ _. u8)), tt))))))))
@@ -190,6 +190,6 @@ pub land-spec : {M : Type 1} → stated.statement M
 unfolding code.routine tablesOf
 land-spec 𝓤 H 𝓜 𝓖 𝓡 =
     entered 𝓤 H (tripleOf 𝓤 H (𝓖 .A) land′.signature (land′.spec 𝓤 H (𝓖 .A) (𝓜 .mem) (𝓡 .run)))
-    (tables 𝓤 H 𝓜 𝓡 code.env .C) (tables 𝓤 H 𝓜 𝓡 code.env .Λ) #gateway·land code.function (code.unfolded 𝓤 H 𝓜 𝓡)
+    (tables 𝓤 H 𝓜 𝓡 code.env .C) (tables 𝓤 H 𝓜 𝓡 code.env .Λ) #lending·land code.function (code.unfolded 𝓤 H 𝓜 𝓡)
     (meets 𝓤 H (𝓖 .A) (givenOf 𝓤 H 𝓜 𝓖) (𝓜 .mem) (𝓡 .run) (tablesOf 𝓤 H 𝓜 (tables 𝓤 H 𝓜 𝓡 code.env))
     (cited 𝓤 H (Callee 𝓤 H (𝓖 .A) (𝓜 .mem) (𝓡 .run)) 𝓜 𝓡 code.env #engine·call-lent call-lent-def.routine code.calls-engine·call·call-lent (call-lent-thm.met 𝓤 H 𝓜 𝓖 𝓡)))

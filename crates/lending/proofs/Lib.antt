@@ -1,0 +1,3 @@
+-- What the walks of the functions cite.
+pub mod Locals
+pub mod Lending
