@@ -18,7 +18,7 @@ ghost use mathlib.Core.List.{List};
 ghost use mathlib.Core.Option.{none, some};
 ghost use Prim.Native.Nat.{ℕ, _*_, _≤_, _<_};
 ghost use lib.ListN.{length, replicate};
-ghost use Rattle.wire.specs.Limits.{placeSize, storeSize, blobLimit, fieldsLimit, lastNumber};
+ghost use Rattle.wire.specs.Limits.{placeSize, storeSize, blobLimit, fieldsLimit};
 ghost use Rattle.wire.specs.Write.{write};
 ghost use Rattle.rule.specs.Gateway.{lasting, advance, without, withoutAll, newEntry, withEntry};
 ghost use Rattle.rule.specs.Rule.{brought, entryOf};
@@ -26,7 +26,8 @@ ghost use Rattle.table.specs.declared.State.{State};
 ghost use Rattle.table.specs.Entries.{columns, figuresSet, Eight};
 ghost use Rattle.table.specs.Meaning.{flagOf, gatewayOf, limitedFlag, keptSeconds, figuresFor, heldBytes, held, withTable};
 ghost use Rattle.table.specs.Soundness.{Sound, Means};
-ghost use Rattle.table.specs.Changes.{Roomy, changedAt, NewFits, MayPut};
+ghost use Rattle.table.specs.Changes.{changedAt, MayPut, MayPutWith};
+ghost use Rattle.table.specs.Shown.{SoundOf, ShowsTable, SoundWith};
 
 fn flag_of(yes: bool) -> u8
     ensures { λ r. ⌜ r ≡ flagOf yes ⌝ }
@@ -103,8 +104,8 @@ pub fn remove(
     store: &mut [u8],
     i: usize,
 )
-    requires { ⌜ (i < 8) × Roomy (columns (now numbers) (now readings) (now «blob_lens») (now «fields_lens») (now «comment_lens») (now seconds) (now limited) (now confirm)) (now comments) (now store) ⌝ }
-    ensures { λ r. ⌜ ((s : State) → s .columns ≡ (columns (now (numbers .entry)) (now (readings .entry)) (now («blob_lens» .entry)) (now («fields_lens» .entry)) (now («comment_lens» .entry)) (now (seconds .entry)) (now (limited .entry)) (now (confirm .entry))) → s .comments ≡ now (comments .entry) → Sound s (now (store .entry)) → Means (withTable (columns (now (numbers .exit)) (now (readings .exit)) (now («blob_lens» .exit)) (now («fields_lens» .exit)) (now («comment_lens» .exit)) (now (seconds .exit)) (now (limited .exit)) (now (confirm .exit))) (now (comments .exit)) s) (now (store .exit)) (without i (gatewayOf s (now (store .entry))))) × Roomy (columns (now (numbers .exit)) (now (readings .exit)) (now («blob_lens» .exit)) (now («fields_lens» .exit)) (now («comment_lens» .exit)) (now (seconds .exit)) (now (limited .exit)) (now (confirm .exit))) (now (comments .exit)) (now (store .exit)) ⌝ }
+    requires { ⌜ (i < 8) × SoundOf (ShowsTable (columns (now numbers) (now readings) (now «blob_lens») (now «fields_lens») (now «comment_lens») (now seconds) (now limited) (now confirm)) (now comments)) (now store) ⌝ }
+    ensures { λ r. ⌜ ((s : State) → s .columns ≡ (columns (now (numbers .entry)) (now (readings .entry)) (now («blob_lens» .entry)) (now («fields_lens» .entry)) (now («comment_lens» .entry)) (now (seconds .entry)) (now (limited .entry)) (now (confirm .entry))) → s .comments ≡ now (comments .entry) → Sound s (now (store .entry)) → Means (withTable (columns (now (numbers .exit)) (now (readings .exit)) (now («blob_lens» .exit)) (now («fields_lens» .exit)) (now («comment_lens» .exit)) (now (seconds .exit)) (now (limited .exit)) (now (confirm .exit))) (now (comments .exit)) s) (now (store .exit)) (without i (gatewayOf s (now (store .entry))))) ⌝ }
 {
     wipe_place(store, i);
     keep_comment(comments, i, &[]);
@@ -137,8 +138,8 @@ fn expire(
     i: usize,
     clock: Millis,
 )
-    requires { ⌜ (i < 8) × Roomy (columns (now numbers) (now readings) (now «blob_lens») (now «fields_lens») (now «comment_lens») (now seconds) (now limited) (now confirm)) (now comments) (now store) ⌝ }
-    ensures { λ r. ⌜ ((s : State) → s .columns ≡ (columns (now (numbers .entry)) (now (readings .entry)) (now («blob_lens» .entry)) (now («fields_lens» .entry)) (now («comment_lens» .entry)) (now (seconds .entry)) (now (limited .entry)) (now (confirm .entry))) → s .comments ≡ now (comments .entry) → Sound s (now (store .entry)) → Means (withTable (columns (now (numbers .exit)) (now (readings .exit)) (now («blob_lens» .exit)) (now («fields_lens» .exit)) (now («comment_lens» .exit)) (now (seconds .exit)) (now (limited .exit)) (now (confirm .exit))) (now (comments .exit)) s) (now (store .exit)) (changedAt (lasting clock) i (gatewayOf s (now (store .entry))))) × Roomy (columns (now (numbers .exit)) (now (readings .exit)) (now («blob_lens» .exit)) (now («fields_lens» .exit)) (now («comment_lens» .exit)) (now (seconds .exit)) (now (limited .exit)) (now (confirm .exit))) (now (comments .exit)) (now (store .exit)) ⌝ }
+    requires { ⌜ (i < 8) × SoundOf (ShowsTable (columns (now numbers) (now readings) (now «blob_lens») (now «fields_lens») (now «comment_lens») (now seconds) (now limited) (now confirm)) (now comments)) (now store) ⌝ }
+    ensures { λ r. ⌜ ((s : State) → s .columns ≡ (columns (now (numbers .entry)) (now (readings .entry)) (now («blob_lens» .entry)) (now («fields_lens» .entry)) (now («comment_lens» .entry)) (now (seconds .entry)) (now (limited .entry)) (now (confirm .entry))) → s .comments ≡ now (comments .entry) → Sound s (now (store .entry)) → Means (withTable (columns (now (numbers .exit)) (now (readings .exit)) (now («blob_lens» .exit)) (now («fields_lens» .exit)) (now («comment_lens» .exit)) (now (seconds .exit)) (now (limited .exit)) (now (confirm .exit))) (now (comments .exit)) s) (now (store .exit)) (changedAt (lasting clock) i (gatewayOf s (now (store .entry))))) ⌝ }
 {
     let reading = Millis { count: readings[i] };
     let lifetime = Seconds { count: seconds[i] };
@@ -175,7 +176,7 @@ pub fn advance(
     store: &mut [u8],
     reading: Millis,
 ) -> Kept
-    requires { ⌜ Roomy (columns (now numbers) (now readings) (now «blob_lens») (now «fields_lens») (now «comment_lens») (now seconds) (now limited) (now confirm)) (now comments) (now store) ⌝ }
+    requires { ⌜ SoundWith (columns (now numbers) (now readings) (now «blob_lens») (now «fields_lens») (now «comment_lens») (now seconds) (now limited) (now confirm)) (now comments) kept (now store) ⌝ }
     ensures { λ r. ⌜ ((b : List ℕ) → Sound (held (columns (now (numbers .entry)) (now (readings .entry)) (now («blob_lens» .entry)) (now («fields_lens» .entry)) (now («comment_lens» .entry)) (now (seconds .entry)) (now (limited .entry)) (now (confirm .entry))) (now (comments .entry)) b kept) (now (store .entry)) → Means (held (columns (now (numbers .exit)) (now (readings .exit)) (now («blob_lens» .exit)) (now («fields_lens» .exit)) (now («comment_lens» .exit)) (now (seconds .exit)) (now (limited .exit)) (now (confirm .exit))) (now (comments .exit)) b r) (now (store .exit)) (advance reading (gatewayOf (held (columns (now (numbers .entry)) (now (readings .entry)) (now («blob_lens» .entry)) (now («fields_lens» .entry)) (now («comment_lens» .entry)) (now (seconds .entry)) (now (limited .entry)) (now (confirm .entry))) (now (comments .entry)) b kept) (now (store .entry))))) ⌝ }
 {
     let before = kept.clock;
@@ -218,7 +219,7 @@ pub fn remove_all(
     comments: &mut [u8],
     store: &mut [u8],
 )
-    requires { ⌜ Roomy (columns (now numbers) (now readings) (now «blob_lens») (now «fields_lens») (now «comment_lens») (now seconds) (now limited) (now confirm)) (now comments) (now store) ⌝ }
+    requires { ⌜ SoundOf (ShowsTable (columns (now numbers) (now readings) (now «blob_lens») (now «fields_lens») (now «comment_lens») (now seconds) (now limited) (now confirm)) (now comments)) (now store) ⌝ }
     ensures { λ r. ⌜ ((s : State) → s .columns ≡ (columns (now (numbers .entry)) (now (readings .entry)) (now («blob_lens» .entry)) (now («fields_lens» .entry)) (now («comment_lens» .entry)) (now (seconds .entry)) (now (limited .entry)) (now (confirm .entry))) → s .comments ≡ now (comments .entry) → Sound s (now (store .entry)) → Means (withTable (columns (now (numbers .exit)) (now (readings .exit)) (now («blob_lens» .exit)) (now («fields_lens» .exit)) (now («comment_lens» .exit)) (now (seconds .exit)) (now (limited .exit)) (now (confirm .exit))) (now (comments .exit)) s) (now (store .exit)) (withoutAll (gatewayOf s (now (store .entry))))) ⌝ }
 {
     let mut i = 0;
@@ -320,7 +321,7 @@ pub fn put(
     carried: Carried,
     blob: &[u8],
 ) -> Kept
-    requires { ⌜ (i < 8) × (kept .next < lastNumber) × NewFits (brought (now payload) carried (now blob)) × Roomy (columns (now numbers) (now readings) (now «blob_lens») (now «fields_lens») (now «comment_lens») (now seconds) (now limited) (now confirm)) (now comments) (now store) ⌝ }
+    requires { ⌜ MayPutWith (columns (now numbers) (now readings) (now «blob_lens») (now «fields_lens») (now «comment_lens») (now seconds) (now limited) (now confirm)) (now comments) kept (now store) i (brought (now payload) carried (now blob)) ⌝ }
     ensures { λ r. ⌜ ((b : List ℕ) → MayPut (held (columns (now (numbers .entry)) (now (readings .entry)) (now («blob_lens» .entry)) (now («fields_lens» .entry)) (now («comment_lens» .entry)) (now (seconds .entry)) (now (limited .entry)) (now (confirm .entry))) (now (comments .entry)) b kept) (now (store .entry)) i (brought (now (payload .entry)) carried (now (blob .entry))) → Means (held (columns (now (numbers .exit)) (now (readings .exit)) (now («blob_lens» .exit)) (now («fields_lens» .exit)) (now («comment_lens» .exit)) (now (seconds .exit)) (now (limited .exit)) (now (confirm .exit))) (now (comments .exit)) b r) (now (store .exit)) (withEntry i (entryOf (gatewayOf (held (columns (now (numbers .entry)) (now (readings .entry)) (now («blob_lens» .entry)) (now («fields_lens» .entry)) (now («comment_lens» .entry)) (now (seconds .entry)) (now (limited .entry)) (now (confirm .entry))) (now (comments .entry)) b kept) (now (store .entry))) (now (payload .entry)) carried (now (blob .entry))) (gatewayOf (held (columns (now (numbers .entry)) (now (readings .entry)) (now («blob_lens» .entry)) (now («fields_lens» .entry)) (now («comment_lens» .entry)) (now (seconds .entry)) (now (limited .entry)) (now (confirm .entry))) (now (comments .entry)) b kept) (now (store .entry))))) ⌝ }
 {
     let clock = kept.clock;

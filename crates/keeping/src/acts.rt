@@ -4,7 +4,6 @@ use keys::addition::Carried;
 use keys::constraints::Lifetime;
 use rule::Found;
 use rule::Millis;
-use soundness::figures_at;
 use table::Figures;
 use table::Kept;
 use table::bytes::is_zero;
@@ -21,7 +20,7 @@ ghost use lib.ListN.{length};
 ghost use Rattle.wire.specs.Limits.{storeSize, passphraseLimit};
 ghost use Rattle.table.specs.Entries.{columns, commentsSize, Eight};
 ghost use Rattle.table.specs.Soundness.{Housed};
-ghost use Rattle.table.specs.Changes.{Roomy};
+ghost use Rattle.table.specs.Shown.{SoundOf, ShowsTable, SoundWith};
 
 // The answer, and what goes by value beside the lent parts.
 pub struct Done {
@@ -61,7 +60,7 @@ pub(crate) fn advance(
     store: &mut [u8],
     reading: u32,
 ) -> Done
-    requires { ⌜ Roomy (columns (now numbers) (now readings) (now «blob_lens») (now «fields_lens») (now «comment_lens») (now seconds) (now limited) (now confirm)) (now comments) (now store) ⌝ }
+    requires { ⌜ SoundWith (columns (now numbers) (now readings) (now «blob_lens») (now «fields_lens») (now «comment_lens») (now seconds) (now limited) (now confirm)) (now comments) kept (now store) ⌝ }
 {
     let after = changes::advance(
         numbers,
@@ -102,7 +101,7 @@ pub(crate) fn put(
     carried: Carried,
     blob: &[u8],
 ) -> Done
-    requires { ⌜ Housed (now numbers) (now «blob_lens») (now store) × Roomy (columns (now numbers) (now readings) (now «blob_lens») (now «fields_lens») (now «comment_lens») (now seconds) (now limited) (now confirm)) (now comments) (now store) ⌝ }
+    requires { ⌜ SoundWith (columns (now numbers) (now readings) (now «blob_lens») (now «fields_lens») (now «comment_lens») (now seconds) (now limited) (now confirm)) (now comments) kept (now store) ⌝ }
 {
     let fields = cut(payload, 1, carried.places.end);
     let comment = cut(payload, carried.comment.from, carried.comment.to);
@@ -165,7 +164,7 @@ pub(crate) fn remove(
     store: &mut [u8],
     place: usize,
 ) -> u64
-    requires { ⌜ Roomy (columns (now numbers) (now readings) (now «blob_lens») (now «fields_lens») (now «comment_lens») (now seconds) (now limited) (now confirm)) (now comments) (now store) ⌝ }
+    requires { ⌜ SoundOf (ShowsTable (columns (now numbers) (now readings) (now «blob_lens») (now «fields_lens») (now «comment_lens») (now seconds) (now limited) (now confirm)) (now comments)) (now store) ⌝ }
 {
     if 8 <= place {
         return 99;
@@ -198,7 +197,7 @@ pub(crate) fn remove_all(
     comments: &mut [u8],
     store: &mut [u8],
 ) -> u64
-    requires { ⌜ Roomy (columns (now numbers) (now readings) (now «blob_lens») (now «fields_lens») (now «comment_lens») (now seconds) (now limited) (now confirm)) (now comments) (now store) ⌝ }
+    requires { ⌜ SoundOf (ShowsTable (columns (now numbers) (now readings) (now «blob_lens») (now «fields_lens») (now «comment_lens») (now seconds) (now limited) (now confirm)) (now comments)) (now store) ⌝ }
 {
     changes::remove_all(
         numbers,
@@ -281,7 +280,7 @@ pub(crate) fn entry_part(
     if 8 <= place {
         return 99;
     }
-    let f = figures_at(
+    let f = places::figures_at(
         numbers,
         readings,
         blob_lens,

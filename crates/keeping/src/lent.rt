@@ -16,7 +16,7 @@ ghost use Rattle.wire.specs.Limits.{passphraseLimit};
 ghost use Rattle.table.specs.Entries.{columns};
 ghost use Rattle.table.specs.Meaning.{held};
 ghost use Rattle.table.specs.Soundness.{Sound, Housed};
-ghost use Rattle.table.specs.Changes.{Roomy};
+ghost use Rattle.table.specs.Shown.{SoundOf, ShowsTable, SoundWith};
 
 fn less(a: usize, b: usize) -> usize {
     if a < b {
@@ -64,7 +64,7 @@ fn put(
     kept: Kept,
     store: &mut [u8],
 ) -> Done
-    requires { ⌜ Housed (now numbers) (now «blob_lens») (now store) × Roomy (columns (now numbers) (now readings) (now «blob_lens») (now «fields_lens») (now «comment_lens») (now seconds) (now limited) (now confirm)) (now comments) (now store) ⌝ }
+    requires { ⌜ SoundWith (columns (now numbers) (now readings) (now «blob_lens») (now «fields_lens») (now «comment_lens») (now seconds) (now limited) (now confirm)) (now comments) kept (now store) ⌝ }
 {
     let payload = cut(s, request_start(t), t.comment.to);
     let blob = cut(s, t.bytes.from, t.bytes.to);
@@ -102,7 +102,7 @@ fn change(
     kept: Kept,
     store: &mut [u8],
 ) -> Done
-    requires { ⌜ (Housed (now numbers) (now «blob_lens») (now store) × Roomy (columns (now numbers) (now readings) (now «blob_lens») (now «fields_lens») (now «comment_lens») (now seconds) (now limited) (now confirm)) (now comments) (now store)) × (length (now passphrase) ≡ passphraseLimit) ⌝ }
+    requires { ⌜ SoundWith (columns (now numbers) (now readings) (now «blob_lens») (now «fields_lens») (now «comment_lens») (now seconds) (now limited) (now confirm)) (now comments) kept (now store) × SoundOf (ShowsTable (columns (now numbers) (now readings) (now «blob_lens») (now «fields_lens») (now «comment_lens») (now seconds) (now limited) (now confirm)) (now comments)) (now store) × (length (now passphrase) ≡ passphraseLimit) ⌝ }
 {
     let x = t.subject;
     let op = t.op;

@@ -28,7 +28,7 @@ use Rattle.rule.proofs.PlaceLaws.{some-not-none, same-entry, Holds, every-at, d
 use Rattle.table.specs.declared.State.{State}
 use Rattle.table.specs.Bytes.{padded}
 use Rattle.table.specs.Entries.{Entry}
-use Rattle.table.specs.Meaning.{entriesOf, gatewayOf, keyOf, noEntry, startOf, fieldsStart, partAt, flagOf, limitedFlag, entryFor}
+use Rattle.table.specs.Meaning.{entriesOf, gatewayOf, keyOf, noEntry, startOf, fieldsStart, partAt, flagOf, limitedFlag, keptComment, entryFor}
 use Rattle.table.specs.Soundness.{soundState, Sound}
 use Rattle.table.proofs.ByteLaws.{padded-size, padded-front, padded-rest}
 use Rattle.table.proofs.StateLaws.{entries-at, long, view-at, place-held}
@@ -109,7 +109,7 @@ module _ (s : State) (x : List ℕ) (i : ℕ) (k : Key) (S : Sound s x) (there :
       same-entry (sym there ∙ view-at (entriesOf s) x (long s x) i inside ∙ place-held e (partAt (entriesOf s) x i) (λ never. omega arith))
 
 kept-says : (c : List ℕ) → length c ≤ commentLimit → Says (kept c) c
-unfolding kept
+unfolding kept keptComment
 kept-says c h = record { long = refl; text-is = padded-front commentLimit c; rest = padded-rest commentLimit c; whole = padded-size commentLimit c h }
 
 module _ (s : State) (x : List ℕ) (i : ℕ) (k : Key) (S : Sound s x) (there : HeldAt (gatewayOf s x) i k) where
@@ -154,7 +154,7 @@ module _ (s : State) (x : List ℕ) (i : ℕ) (k : Key) (S : Sound s x) (there :
   }
 
   told-within : PartsWithin x (toldOf s i k)
-  unfolding toldOf kept
+  unfolding toldOf kept keptComment
   told-within = record {
     blob-ordered = omega arith;
     blob-within = rw blob-long at (blob-ends (entriesOf s) x i stored blob-fits);
@@ -255,7 +255,7 @@ left-rule s x k S (i, there) =
 -- ## Nothing told
 
 nothing-zero : AllZero nothing
-unfolding nothing kept padded
+unfolding nothing kept keptComment padded
 nothing-zero = record { number = refl; confirm = refl; limited = refl; left = refl; blob = (refl, refl); fields = (refl, refl); comment = (refl, refl) }
 
 -- a lookup ends so: with nothing, or with a held key of a sound pair
@@ -307,7 +307,7 @@ told-rule s x n = (by-end (ended s x n), some-number)
         omega arith
 
 pub parts-rule : PartsRule
-unfolding nothing kept
+unfolding nothing kept keptComment
 parts-rule s x n = by-end (ended s x n)
   where
     by-end : Ended s x n → PartsWithin x (keyTold s x n)

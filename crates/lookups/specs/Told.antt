@@ -5,14 +5,12 @@ use mathlib.Core.Option.{none, some}
 use mathlib.Core.List.{List, [], _∷_}
 use lib.ListN.{length, getD}
 use lib.Dec.{leb, ltb, eqb}
-use Rattle.wire.specs.Limits.{commentLimit}
 use Rattle.keys.specs.declared.constraints.Lifetime.{Lifetime}
 use Rattle.keys.specs.declared.constraints.Lifetime.the-variants.{Forever, For}
 use Rattle.rule.specs.declared.Millis.{Millis}
 use Rattle.rule.specs.Gateway.{Entry as Key, Place, zeroMillis, millisOf, seek, found}
 use Rattle.table.specs.declared.State.{State}
-use Rattle.table.specs.Bytes.{padded}
-use Rattle.table.specs.Meaning.{numberIn, entriesOf, gatewayOf, startOf, fieldsStart, flagOf, limitedFlag}
+use Rattle.table.specs.Meaning.{numberIn, entriesOf, gatewayOf, startOf, fieldsStart, flagOf, limitedFlag, keptComment}
 use Rattle.table.specs.Soundness.{soundState}
 use Rattle.lookups.specs.declared.Comment.{Comment}
 use Rattle.lookups.specs.declared.HeldKey.{HeldKey}
@@ -29,9 +27,9 @@ unfoldable pub leftAt : Millis → Millis → Lifetime → Millis
 leftAt clock reading Forever = zeroMillis
 leftAt clock reading (For seconds) = record { count = millisOf seconds .count - (clock .count - reading .count) }
 
--- "up to 255 bytes", the rest zero
+-- as the table keeps it
 unfoldable pub kept : List ℕ → Comment
-kept c = record { bytes = padded commentLimit c; len = length c }
+kept c = record { bytes = keptComment c .bytes; len = keptComment c .len }
 
 unfoldable pub nothing : HeldKey
 nothing = record {

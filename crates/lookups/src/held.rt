@@ -14,6 +14,7 @@ use table::clock::past;
 use table::comments::comment_bytes;
 use table::is_set;
 use table::places::fields_start;
+use table::places::figures_at;
 use table::places::start_of;
 use wire::Seconds;
 use wire::limits;
@@ -96,16 +97,17 @@ fn figures_in(t: Columns, i: usize) -> Figures
     let seconds = t.seconds;
     let limited = t.limited;
     let confirm = t.confirm;
-    Figures {
-        number: numbers[i],
-        reading: Millis { count: readings[i] },
-        blob_len: blob_lens[i],
-        fields_len: fields_lens[i],
-        comment_len: comment_lens[i],
-        seconds: Seconds { count: seconds[i] },
-        limited: limited[i],
-        confirm: confirm[i],
-    }
+    figures_at(
+        &numbers[..8],
+        &readings[..8],
+        &blob_lens[..8],
+        &fields_lens[..8],
+        &comment_lens[..8],
+        &seconds[..8],
+        &limited[..8],
+        &confirm[..8],
+        i,
+    )
 }
 
 // What is told of a key with these figures and this comment, in place i.

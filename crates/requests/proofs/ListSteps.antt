@@ -21,10 +21,12 @@ use Rattle.rule.specs.Rule.{item, live, items, listed}
 use Rattle.rule.proofs.Cases.{true-not-false}
 use Rattle.rule.proofs.PlaceLaws.{every-at}
 use Rattle.table.specs.declared.State.{State}
-use Rattle.table.specs.Meaning.{gatewayOf, blobIn, commentIn}
-use Rattle.table.specs.Entries.{commentsSize}
+use Rattle.table.specs.Meaning.{blobIn, commentIn, entriesOf, gatewayOf, partAt}
+use Rattle.table.specs.Entries.{Entry, commentsSize, commentPart}
+use Rattle.table.specs.Soundness.{Sound}
 use Rattle.table.specs.Shown.{SoundOf, ShowsList}
-use Rattle.table.proofs.ReadLaws.{state-blob-fits, state-comment-fits}
+use Rattle.table.proofs.StateLaws.{long}
+use Rattle.table.proofs.ReadLaws.{state-blob, state-comment, state-blob-fits, state-comment-fits}
 use Rattle.requests.specs.Lists.{itemIn, countIn}
 use Rattle.requests.proofs.EndSteps.{eight-places}
 
@@ -54,6 +56,17 @@ list-fits {x = x} w =
       blobs-fit = state-blob-fits s x S;
       lens-fit = state-comment-fits s x S;
     })
+
+-- and its key's blob and comment are what they show
+module _ {numbers blobs lens comments : List ℕ} (s : State) (x : List ℕ) (S : Sound s x) (shows : ShowsList numbers blobs lens comments s) (i : ℕ) (h : i < 8) (r : List ℕ) where
+  pub blob-shown : ((es : List Entry) → length es ≡ 8 → r ≡ take (getD blobs i 0) (partAt es x i)) → r ≡ blobIn (getD (gatewayOf s x .places) i none)
+  blob-shown is = is (entriesOf s) (long s x) ∙ ap (λ (l : List ℕ). take (getD l i 0) (partAt (entriesOf s) x i)) (sym (shows .blobs-are)) ∙ state-blob s x S i h
+
+  pub comment-shown : r ≡ take (getD lens i 0) (commentPart comments i) → r ≡ commentIn (getD (gatewayOf s x .places) i none)
+  comment-shown is =
+      let lens-as = sym (shows .lens-are) in
+      let comments-as = sym (shows .comments-are) in
+      is ∙ (λ j. take (getD (lens-as j) i 0) (commentPart (comments-as j) i)) ∙ state-comment s x S i h
 
 -- ## One place
 

@@ -1,6 +1,6 @@
 // Each request once it is past the gate, over the columns that it needs: an outcome comes out, and columns, store and reply buffer hold what the rule says.
 // Its functions require what a call's refusals 1, 2, 3 and 5 have tested: room for the reply, a sound state and store, a signature that is not too
-// long. Only the call, in crate server, comes here.
+// long. Only the call, in crate engine, comes here.
 pub mod list;
 pub mod lock;
 pub mod replies;

@@ -21,6 +21,7 @@ ghost use Rattle.rule.specs.Calls.{lent, follow};
 ghost use Rattle.table.specs.declared.Columns.{Columns};
 ghost use Rattle.table.specs.Meaning.{gatewayOf, held};
 ghost use Rattle.table.specs.Soundness.{Sound, Means};
+ghost use Rattle.table.specs.Shown.{SoundKept};
 ghost use Rattle.requests.specs.Ends.{Ends, Answered};
 
 // The lock is this passphrase; an empty one opens.
@@ -42,7 +43,7 @@ fn set_lock(passphrase: &mut [u8], kept: Kept, p: &[u8], reply: &mut [u8]) -> La
 
 // 22
 pub fn lock(passphrase: &mut [u8], kept: Kept, payload: &[u8], reply: &mut [u8]) -> Landed
-    requires { ⌜ (5 ≤ length (now reply)) × (length (now passphrase) ≡ passphraseLimit) ⌝ }
+    requires { ⌜ (5 ≤ length (now reply)) × SoundKept (now passphrase) kept ⌝ }
     ensures { λ r. ⌜ ((t : Columns) (cs x : List ℕ) → Sound (held t cs (now (passphrase .entry)) kept) x → (a : rule.Answers) → Ends (now (reply .entry)) (record { outcome = r .outcome; state = held t cs (now (passphrase .exit)) (r .kept) }) x (now (reply .exit)) (follow (lent a) (gatewayOf (held t cs (now (passphrase .entry)) kept) x) (locking (gatewayOf (held t cs (now (passphrase .entry)) kept) x) (now (payload .entry))))) ⌝ }
 {
     let start = Cursor { at: 1 };
@@ -63,7 +64,7 @@ pub fn lock(passphrase: &mut [u8], kept: Kept, payload: &[u8], reply: &mut [u8])
 
 // 23
 pub fn unlock(passphrase: &mut [u8], kept: Kept, payload: &[u8], reply: &mut [u8]) -> Landed
-    requires { ⌜ (5 ≤ length (now reply)) × (length (now passphrase) ≡ passphraseLimit) × (kept .locked ≤ passphraseLimit) ⌝ }
+    requires { ⌜ (5 ≤ length (now reply)) × SoundKept (now passphrase) kept ⌝ }
     ensures { λ r. ⌜ ((t : Columns) (cs x : List ℕ) → Sound (held t cs (now (passphrase .entry)) kept) x → (a : rule.Answers) → Ends (now (reply .entry)) (record { outcome = r .outcome; state = held t cs (now (passphrase .exit)) (r .kept) }) x (now (reply .exit)) (follow (lent a) (gatewayOf (held t cs (now (passphrase .entry)) kept) x) (unlocking (gatewayOf (held t cs (now (passphrase .entry)) kept) x) (now (payload .entry))))) ⌝ }
 {
     let start = Cursor { at: 1 };

@@ -175,7 +175,6 @@ module _ (Met : State → List ℕ → FirstStep → Type 0) where
   FirstNoSecondAnswer =
       (state : State) (store : List ℕ) (f : FirstStep) (other : Gave) → Met state store f → Met state store (firstGiving f other) → f .gave ≡ other
 
-  -- the two lengths are the arrays'
   abbrev pub FirstRefusals : Type 0
   FirstRefusals =
       (state : State) (store : List ℕ) (f : FirstStep) → Met state store f

@@ -220,7 +220,7 @@ module _ (Met : State → List ℕ → Step → Type 0) where
   abbrev pub NoSecondAnswer : Type 0
   NoSecondAnswer = (state : State) (store : List ℕ) (k : Step) (other : Gave) → Met state store k → Met state store (giving k other) → k .gave ≡ other
 
-  -- on any state and store; the two lengths are the arrays'
+  -- on any state and store
   abbrev pub CodeRefusals : Type 0
   CodeRefusals =
       (state : State) (store : List ℕ) (k : Step) → Met state store k

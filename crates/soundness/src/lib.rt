@@ -9,6 +9,7 @@ use table::bytes::is_zero;
 use table::comments::comment_bytes;
 use table::is_set;
 use table::places::bytes_at;
+use table::places::figures_at;
 use wire::Seconds;
 use wire::limits;
 ghost use mathlib.Core.Path.{_≡_};
@@ -19,36 +20,9 @@ ghost use lib.ListN.{length, getD, drop};
 ghost use Rattle.wire.specs.Limits.{storeSize, commentLimit};
 ghost use Rattle.rule.specs.Soundness.{distinct};
 ghost use Rattle.table.specs.declared.Columns.{Columns};
-ghost use Rattle.table.specs.Entries.{Entry, columns, figuresAt, entryBy, entriesIn, commentsSize, Eight};
+ghost use Rattle.table.specs.Entries.{Entry, columns, entryBy, entriesIn, commentsSize, Eight};
 ghost use Rattle.table.specs.Meaning.{size, placeOf, view, held};
 ghost use Rattle.table.specs.Soundness.{isFlag, eightColumns, soundComment, soundFree, soundContent, soundHeld, soundPlace, soundPlaces, soundFlags, soundLifetime, soundLock, soundState, unlike, Housed};
-
-// The figures of place i, in the number types that 01 keeps apart.
-pub fn figures_at(
-    numbers: &[u64],
-    readings: &[u64],
-    blob_lens: &[usize],
-    fields_lens: &[usize],
-    comment_lens: &[usize],
-    seconds: &[u32],
-    limited: &[u8],
-    confirm: &[u8],
-    i: usize,
-) -> Figures
-    requires { ⌜ (i < 8) × Eight (columns (now numbers) (now readings) (now «blob_lens») (now «fields_lens») (now «comment_lens») (now seconds) (now limited) (now confirm)) ⌝ }
-    ensures { λ r. ⌜ r ≡ figuresAt (columns (now (numbers .entry)) (now (readings .entry)) (now («blob_lens» .entry)) (now («fields_lens» .entry)) (now («comment_lens» .entry)) (now (seconds .entry)) (now (limited .entry)) (now (confirm .entry))) i ⌝ }
-{
-    Figures {
-        number: numbers[i],
-        reading: Millis { count: readings[i] },
-        blob_len: blob_lens[i],
-        fields_len: fields_lens[i],
-        comment_len: comment_lens[i],
-        seconds: Seconds { count: seconds[i] },
-        limited: limited[i],
-        confirm: confirm[i],
-    }
-}
 
 // Is the length within the 255 bytes, and zero what is behind it?
 fn is_comment_sound(bytes: &[u8], len: usize) -> bool

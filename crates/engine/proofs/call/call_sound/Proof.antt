@@ -64,6 +64,12 @@ returns-3 c =
     refuses-5 _ _ _ _ _ _ _ (room .if1 .left) (start .pre) _ (short .if2 .left) (counted .lent-length .ensures) _ (lent .if3 .taken)
     (refused-as (columns (a .numbers .now) (a .readings .now) (a .blob-lens .now) (a .fields-lens .now) (a .comment-lens .now) (a .seconds .now) (a .limited .now) (a .confirm .now)) (a .comments .now) (a .passphrase .now) _ _ _ (c .refused3 .ensures))
 
+advance-requires : tie.Need-advance-requires
+advance-requires c κs =
+    let counted : tie.After-lent-length = search in
+    let start = began counted in
+    record { bytes = start .args .passphrase .now; sound = start .pre }
+
 respond-requires : tie.Need-respond-requires
 respond-requires c κs =
     let raised : tie.After-advance = search in
@@ -158,7 +164,7 @@ call-sound-spec =
     (λ c κs. search needs)
     (λ c κs. search needs)
     returns-3
-    (λ c κs. search needs)
+    advance-requires
     respond-requires
     same-length
     same-length-2

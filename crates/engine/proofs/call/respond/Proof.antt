@@ -1,9 +1,10 @@
 -- The row is the rule's, and the function of each row ends as its plan does, of the state whose columns are lent. Assumes nothing.
 use native.Mathlib.Omega.{arith}
-use mathlib.Core.Path.{refl}
+use mathlib.Core.Path.{refl, _∙_}
 use Rattle.table.specs.declared.State.{State}
 use Rattle.table.specs.Entries.{columns}
 use Rattle.table.specs.Meaning.{held}
+use Rattle.table.proofs.ReadLaws.{state-locked}
 use Rattle.requests.proofs.EndSteps.{answering, means-itself}
 use Rattle.server.proofs.RowSteps.{check-lent, served-row, served-asks}
 use borrow.Author.Needs.{needs}
@@ -46,7 +47,7 @@ returns c =
     let lock : tie.After-is-locked = search in
     let start = began row in
     let s = lent-state start in
-    served-row s _ _ _ _ _ _ _ _ _ _ (lock .is-locked .ensures s _ refl (start .pre .2)) (row .row-in .ensures) _ (told .enum-told .given .1)
+    served-row s _ _ _ _ _ _ _ _ _ _ (lock .is-locked .ensures ∙ state-locked s _ (start .pre .2)) (row .row-in .ensures) _ (told .enum-told .given .1)
     (answering (failed .failure .ensures) s _ _ (means-itself _ _ (start .pre .2)))
 
 returns-2 : tie.Need-returns-2
@@ -56,7 +57,7 @@ returns-2 c =
     let lock : tie.After-is-locked = search in
     let start = began row in
     let s = lent-state start in
-    served-asks s _ _ _ _ _ _ _ _ _ _ (lock .is-locked .ensures s _ refl (start .pre .2)) (row .row-in .ensures) _ (told .class .given .1) refl refl refl (start .pre .2)
+    served-asks s _ _ _ _ _ _ _ _ _ _ (lock .is-locked .ensures ∙ state-locked s _ (start .pre .2)) (row .row-in .ensures) _ (told .class .given .1) refl refl refl (start .pre .2)
 
 returns-3 : tie.Need-returns-3
 returns-3 c =
@@ -66,7 +67,7 @@ returns-3 c =
     let lock : tie.After-is-locked = search in
     let start = began row in
     let s = lent-state start in
-    served-row s _ _ _ _ _ _ _ _ _ _ (lock .is-locked .ensures s _ refl (start .pre .2)) (row .row-in .ensures) _ (told .enum-told2 .given .1)
+    served-row s _ _ _ _ _ _ _ _ _ _ (lock .is-locked .ensures ∙ state-locked s _ (start .pre .2)) (row .row-in .ensures) _ (told .enum-told2 .given .1)
     (listed .request-identities .ensures s (record { numbers-are = refl; blobs-are = refl; lens-are = refl; comments-are = refl }) (start .pre .2) _)
 
 returns-4 : tie.Need-returns-4
@@ -77,7 +78,7 @@ returns-4 c =
     let lock : tie.After-is-locked = search in
     let start = began row in
     let s = lent-state start in
-    served-row s _ _ _ _ _ _ _ _ _ _ (lock .is-locked .ensures s _ refl (start .pre .2)) (row .row-in .ensures) _ (told .constrained .given .1)
+    served-row s _ _ _ _ _ _ _ _ _ _ (lock .is-locked .ensures ∙ state-locked s _ (start .pre .2)) (row .row-in .ensures) _ (told .constrained .given .1)
     (added .add-key .ensures (start .args .passphrase .now) (start .pre .2) _ (check-lent (start .args .answers) _))
 
 same-length-8 : tie.Need-same-length-8
@@ -242,10 +243,18 @@ request-identities-requires : tie.Need-request-identities-requires
 request-identities-requires c κs = search needs
 
 lock-requires : tie.Need-lock-requires
-lock-requires c κs = search needs
+lock-requires c κs =
+    let row : tie.After-row-in = search in
+    let start = began row in
+    let a = start .args in
+    (omega (arith, start .pre .0), record { columns = lent-state start .columns; comments = a .comments .now; store = a .store .now; sound = start .pre .2 })
 
 unlock-requires : tie.Need-unlock-requires
-unlock-requires c κs = search needs
+unlock-requires c κs =
+    let row : tie.After-row-in = search in
+    let start = began row in
+    let a = start .args in
+    (omega (arith, start .pre .0), record { columns = lent-state start .columns; comments = a .comments .now; store = a .store .now; sound = start .pre .2 })
 
 returns-5 : tie.Need-returns-5
 returns-5 c =
@@ -255,7 +264,7 @@ returns-5 c =
     let lock : tie.After-is-locked = search in
     let start = began row in
     let s = lent-state start in
-    served-row s _ _ _ _ _ _ _ _ _ _ (lock .is-locked .ensures s _ refl (start .pre .2)) (row .row-in .ensures) _ (told .enum-told3 .given .1)
+    served-row s _ _ _ _ _ _ _ _ _ _ (lock .is-locked .ensures ∙ state-locked s _ (start .pre .2)) (row .row-in .ensures) _ (told .enum-told3 .given .1)
     (removed .remove-identity .ensures s (record { columns-are = refl; comments-are = refl }) (start .pre .2) _)
 
 same-length-30 : tie.Need-same-length-30
@@ -321,7 +330,7 @@ returns-6 c =
     let lock : tie.After-is-locked = search in
     let start = began row in
     let s = lent-state start in
-    served-row s _ _ _ _ _ _ _ _ _ _ (lock .is-locked .ensures s _ refl (start .pre .2)) (row .row-in .ensures) _ (told .enum-told4 .given .1)
+    served-row s _ _ _ _ _ _ _ _ _ _ (lock .is-locked .ensures ∙ state-locked s _ (start .pre .2)) (row .row-in .ensures) _ (told .enum-told4 .given .1)
     (cleared .remove-all-identities .ensures s (record { columns-are = refl; comments-are = refl }) (start .pre .2) _)
 
 returns-7 : tie.Need-returns-7
@@ -332,7 +341,7 @@ returns-7 c =
     let lock : tie.After-is-locked = search in
     let start = began row in
     let s = lent-state start in
-    served-row s _ _ _ _ _ _ _ _ _ _ (lock .is-locked .ensures s _ refl (start .pre .2)) (row .row-in .ensures) _ (told .enum-told5 .given .1)
+    served-row s _ _ _ _ _ _ _ _ _ _ (lock .is-locked .ensures ∙ state-locked s _ (start .pre .2)) (row .row-in .ensures) _ (told .enum-told5 .given .1)
     (signed .try-sign .ensures s (record { numbers-are = refl; confirm-is = refl; blobs-are = refl }) (start .pre .2))
 
 returns-8 : tie.Need-returns-8
@@ -343,7 +352,7 @@ returns-8 c =
     let lock : tie.After-is-locked = search in
     let start = began row in
     let s = lent-state start in
-    served-row s _ _ _ _ _ _ _ _ _ _ (lock .is-locked .ensures s _ refl (start .pre .2)) (row .row-in .ensures) _ (told .enum-told6 .given .1)
+    served-row s _ _ _ _ _ _ _ _ _ _ (lock .is-locked .ensures ∙ state-locked s _ (start .pre .2)) (row .row-in .ensures) _ (told .enum-told6 .given .1)
     (locked .lock .ensures _ _ _ (start .pre .2) _)
 
 returns-9 : tie.Need-returns-9
@@ -354,7 +363,7 @@ returns-9 c =
     let lock : tie.After-is-locked = search in
     let start = began row in
     let s = lent-state start in
-    served-row s _ _ _ _ _ _ _ _ _ _ (lock .is-locked .ensures s _ refl (start .pre .2)) (row .row-in .ensures) _ (told .enum-told7 .given .1)
+    served-row s _ _ _ _ _ _ _ _ _ _ (lock .is-locked .ensures ∙ state-locked s _ (start .pre .2)) (row .row-in .ensures) _ (told .enum-told7 .given .1)
     (unlocked .unlock .ensures _ _ _ (start .pre .2) _)
 
 pub respond-spec : {M : Type 1} → statement M

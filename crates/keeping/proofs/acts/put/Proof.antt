@@ -1,9 +1,8 @@
--- The place for a blob is one of the eight, and the tests are the limits of a new key. Assumes nothing.
-use mathlib.Core.Path.{refl}
-use mathlib.Core.List.{[]}
+-- The place for a blob may take it, and the tests are the limits of a new key. Assumes nothing.
+use Rattle.rule.specs.Rule.{brought}
 use Rattle.table.specs.Entries.{columns}
-use Rattle.table.specs.Meaning.{held}
-use Rattle.keeping.proofs.ActLaws.{place-below}
+use Rattle.table.proofs.ReadLaws.{state-housed}
+use Rattle.keeping.proofs.ActLaws.{may-put}
 use borrow.Author.Needs.{needs}
 use Rattle.keeping.proofs.acts.put.Statement.{statement}
 use Rattle.keeping.proofs.acts.put.Tie as tie
@@ -11,6 +10,12 @@ use Rattle.keeping.proofs.acts.put.Tie as tie
 -- where the function began, which is too far back for a search from its end
 began : tie.After-cut → tie.Start
 began c = search
+
+housed : tie.Need-place-for-requires
+unfolding began
+housed c κs =
+    let part : tie.After-cut = search in
+    state-housed _ _ (began part .pre .sound)
 
 put-requires : tie.Need-put-requires
 unfolding began
@@ -28,18 +33,15 @@ put-requires c κs =
     let start = began part in
     let a = start .args in
     let t = columns (a .numbers .now) (a .readings .now) (a .blob-lens .now) (a .fields-lens .now) (a .comment-lens .now) (a .seconds .now) (a .limited .now) (a .confirm .now) in
-    let s = held t (a .comments .now) [] (a .kept) in (
-      place-below s (a .store .now) (a .blob .now) _ _ (place .i .given .1) (found .place-for .ensures s refl refl),
-      numbers .if6 .left,
-      record {
-        blob-some = blob-short .if1 .left;
-        blob-fits = blob-long .if2 .left;
-        fields-some = rw (← part .cut .ensures .bytes) (fields-short .if3 .left);
-        fields-fit = rw (← part .cut .ensures .bytes) (fields-long .if4 .left);
-        comment-fits = rw (← text .cut2 .ensures .bytes) (comment-long .if5 .left);
-      },
-      start .pre .1,
-    )
+    may-put t (a .comments .now) (a .store .now) (a .kept) _ (brought (a .payload .now) (a .carried) (a .blob .now)) _ (start .pre) (place .i .given .1) (found .place-for .ensures)
+    (record {
+      blob-some = blob-short .if1 .left;
+      blob-fits = blob-long .if2 .left;
+      fields-some = rw (← part .cut .ensures .bytes) (fields-short .if3 .left);
+      fields-fit = rw (← part .cut .ensures .bytes) (fields-long .if4 .left);
+      comment-fits = rw (← text .cut2 .ensures .bytes) (comment-long .if5 .left);
+    })
+    (numbers .if6 .left)
 
 pub put-spec : {M : Type 1} → statement M
 put-spec =
@@ -59,7 +61,7 @@ put-spec =
     (λ c. search needs)
     (λ c κs. search needs)
     (λ c. search needs)
-    (λ c κs. search needs)
+    housed
     (λ c. search needs)
     (λ c. search needs)
     put-requires

@@ -2,7 +2,7 @@
 use Rattle.table.specs.Meaning.{gatewayOf}
 use Rattle.table.proofs.WritingLaws.{sound-meaning}
 use native.Mathlib.Omega.{arith}
-use Rattle.requests.proofs.ListSteps.{list-fits, free-item, held-item, blob-room, comment-room}
+use Rattle.requests.proofs.ListSteps.{list-fits, blob-shown, comment-shown, free-item, held-item, blob-room, comment-room}
 use borrow.Author.Needs.{needs}
 use Rattle.requests.proofs.list.put_item.Statement.{statement}
 use Rattle.requests.proofs.list.put_item.Tie as tie
@@ -34,7 +34,7 @@ put-string-requires c κs =
     let start : tie.Start = search in
     let a = start .args in
     let w = start .pre .1 in
-    let is = c .blob-at .ensures (w .state) (w .shows .blobs-are) (w .sound) .bytes in
+    let is = blob-shown (w .state) (a .store .now) (w .sound) (w .shows) (a .i) (start .pre .0) _ (λ es eight. c .blob-at .ensures es eight .bytes) in
     let room = blob-room (gatewayOf (w .state) (a .store .now)) (a .i) (sound-meaning _ _ (w .sound)) _ is in
     (omega arith, omega arith)
 
@@ -53,8 +53,9 @@ put-string-requires-2 c κs =
     let w = start .pre .1 in
     let g = gatewayOf (w .state) (a .store .now) in
     let sound = sound-meaning _ _ (w .sound) in
-    let room = blob-room g (a .i) sound _ (blob .blob-at .ensures (w .state) (w .shows .blobs-are) (w .sound) .bytes) in
-    let short = comment-room g (a .i) sound _ (c .comment-at .ensures (w .state) _ (w .shows .lens-are) (w .shows .comments-are) (w .sound)) in
+    let is = blob-shown (w .state) (a .store .now) (w .sound) (w .shows) (a .i) (start .pre .0) _ (λ es eight. blob .blob-at .ensures es eight .bytes) in
+    let room = blob-room g (a .i) sound _ is in
+    let short = comment-room g (a .i) sound _ (comment-shown (w .state) (a .store .now) (w .sound) (w .shows) (a .i) (start .pre .0) _ (c .comment-at .ensures)) in
     (omega arith, omega (arith, string .put-string .ensures .0))
 
 returns-2 : tie.Need-returns-2
@@ -70,8 +71,8 @@ returns-2 c =
     λ s shows S.
     let g = gatewayOf s (a .store .now) in
     let sound = sound-meaning s (a .store .now) S in
-    let bytes = blob .blob-at .ensures s (shows .blobs-are) S .bytes in
-    let kept = taken .comment-at .ensures s (a .store .now) (shows .lens-are) (shows .comments-are) S in
+    let bytes = blob-shown s (a .store .now) S shows (a .i) (start .pre .0) _ (λ es eight. blob .blob-at .ensures es eight .bytes) in
+    let kept = comment-shown s (a .store .now) S shows (a .i) (start .pre .0) _ (taken .comment-at .ensures) in
     let room = blob-room g (a .i) sound _ bytes in
     let short = comment-room g (a .i) sound _ kept in
     held-item g (a .i) _ (at-is-held .is-held .ensures s _ (shows .numbers-are)) _ _ _ _ _ _ _ _ (tested .if1 .left) bytes kept

@@ -3,9 +3,7 @@ use native.Mathlib.Omega.{arith}
 use borrow.Author.Needs.{needs}
 use mathlib.Core.Path.{sym}
 use lib.Seq.{length-take-le}
-use Rattle.table.specs.Meaning.{entriesOf}
-use Rattle.table.proofs.StateLaws.{long}
-use Rattle.table.proofs.ReadLaws.{state-blob, part-size}
+use Rattle.table.proofs.ReadLaws.{part-size}
 use Rattle.table.proofs.places.blob_at.Statement.{statement}
 use Rattle.table.proofs.places.blob_at.Tie as tie
 
@@ -17,15 +15,10 @@ front c =
     sym (length-take-le _ (p .bytes-at .result .now) (omega arith))
 
 returns : tie.Need-returns
-returns c s same S =
+returns c es eight =
     let p : tie.After-bytes-at = search in
-    let start : tie.Start = search in
-    let place = p .bytes-at .ensures (entriesOf s) (long s (start .args .store .now)) in
-    record {
-      bytes = rw (place .bytes, ← same) (state-blob s (start .args .store .now) S (start .args .i) (start .pre .0));
-      block = place .block;
-      place = place .place;
-    }
+    let place = p .bytes-at .ensures es eight in
+    record { bytes = rw (place .bytes); block = place .block; place = place .place }
 
 pub blob-at-spec : {M : Type 1} → statement M
 blob-at-spec =

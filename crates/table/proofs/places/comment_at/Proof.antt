@@ -4,7 +4,7 @@ use borrow.Author.Needs.{needs}
 use mathlib.Core.Path.{sym, ap, _∙_}
 use lib.ListN.{length}
 use lib.Seq.{length-take-le}
-use Rattle.table.proofs.ReadLaws.{state-comment, comment-part-size}
+use Rattle.table.proofs.ReadLaws.{comment-part-size}
 use Rattle.table.proofs.places.comment_at.Statement.{statement}
 use Rattle.table.proofs.places.comment_at.Tie as tie
 
@@ -16,10 +16,9 @@ front c =
     sym (length-take-le _ (p .comment-bytes .result .now) (omega arith))
 
 returns : tie.Need-returns
-returns c s x lengths same S =
+returns c =
     let p : tie.After-comment-bytes = search in
-    let start : tie.Start = search in
-    rw (p .comment-bytes .ensures, ← lengths, ← same) (state-comment s x S (start .args .i) (start .pre .0))
+    rw (p .comment-bytes .ensures)
 
 pub comment-at-spec : {M : Type 1} → statement M
 comment-at-spec =

@@ -1,14 +1,9 @@
 -- The plan lands where the table is empty. Assumes nothing.
 use borrow.Author.Needs.{needs}
 use Rattle.table.specs.Entries.{columns}
-use Rattle.turnover.proofs.RemoveSteps.{shown-roomy, all-removed}
+use Rattle.turnover.proofs.RemoveSteps.{all-removed}
 use Rattle.turnover.proofs.remove.remove_all_identities.Statement.{statement}
 use Rattle.turnover.proofs.remove.remove_all_identities.Tie as tie
-
-remove-all-requires : tie.Need-remove-all-requires
-remove-all-requires c κs =
-    let start : tie.Start = search in
-    shown-roomy _ _ _ (start .pre .1)
 
 -- A search over all that is known at the end stops before the entry, so it is taken from where the keys were removed.
 begun : tie.After-remove-all → tie.Start
@@ -29,7 +24,7 @@ pub remove-all-identities-spec : {M : Type 1} → statement M
 remove-all-identities-spec =
     tie.close
     (tie.spec
-    remove-all-requires
+    (λ c κs. search needs)
     (λ c κs. search needs)
     (λ c. search needs)
     (λ c. search needs)

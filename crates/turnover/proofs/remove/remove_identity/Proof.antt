@@ -2,7 +2,7 @@
 use native.Mathlib.Omega.{arith}
 use borrow.Author.Needs.{needs}
 use Rattle.table.specs.Entries.{columns}
-use Rattle.turnover.proofs.RemoveSteps.{shown-housed, shown-roomy, shown-within, unread, one-removed, none-held}
+use Rattle.turnover.proofs.RemoveSteps.{shown-housed, shown-within, unread, one-removed, none-held}
 use Rattle.turnover.proofs.remove.remove_identity.Statement.{statement}
 use Rattle.turnover.proofs.remove.remove_identity.Tie as tie
 
@@ -23,14 +23,14 @@ housed c κs =
     let at-cut : tie.After-cut = search in
     shown-housed _ _ _ (begun at-cut .pre .1)
 
-roomy : tie.Need-remove-requires
+shown : tie.Need-remove-requires
 unfolding begun
-roomy c κs =
+shown c κs =
     let place : tie.After-i = search in
     let found : tie.After-find = search in
     let at-cut : tie.After-cut = search in
     let start = begun at-cut in
-    (shown-within _ _ _ (start .pre .1) _ _ _ (found .find .ensures) (place .i .given .1), shown-roomy _ _ _ (start .pre .1))
+    (shown-within _ _ _ (start .pre .1) _ _ _ (found .find .ensures) (place .i .given .1), start .pre .1)
 
 room : tie.Need-success-requires
 unfolding begun
@@ -55,7 +55,7 @@ returns-2 c =
     let w = removed .remove .last in
     let u = columns (w .0) (w .1 .0) (w .1 .1 .0) (w .1 .1 .1 .0) (w .1 .1 .1 .1 .0) (w .1 .1 .1 .1 .1 .0) (w .1 .1 .1 .1 .1 .1 .0) (w .1 .1 .1 .1 .1 .1 .1 .0) in
     one-removed t _ _ _ _ _ _ _ (at-string .string .ensures) _ _ _ (part .from .given .1) _ _ (at-cut .cut .ensures .bytes) (found .find .ensures)
-    u _ _ _ (place .i .given .1) (removed .remove .ensures .0) (answered .success .ensures)
+    u _ _ _ (place .i .given .1) (removed .remove .ensures) (answered .success .ensures)
 
 returns-3 : tie.Need-returns-3
 unfolding begun
@@ -82,7 +82,7 @@ remove-identity-spec =
     (λ c κs. search needs)
     housed
     (λ c. search needs)
-    roomy
+    shown
     room
     (λ c. search needs)
     (λ c κs. search needs)
