@@ -1,4 +1,4 @@
--- A `State` in memory is lent field by field, all fields at once, and comes back at the fields' last values: what a form over a lent state needs to call a core over lent columns. Assumes `Given`.
+-- The arrays of a `State` in memory are lent, all at once, and come back at their last values; its three numbers are cells of their own. What a form over a lent state needs to call a core over lent arrays. Assumes `Given`.
 use mathlib.Core.Path.{_≡_, refl, sym}
 use Prim.Native.Nat.{ℕ, zero, _+_}
 use mathlib.Core.List.{List, [], _∷_, map, map-id}

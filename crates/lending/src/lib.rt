@@ -13,7 +13,7 @@ ghost use Rattle.server.specs.Calls.{Meets};
 ghost use Rattle.server.specs.First.{FirstMeets};
 ghost use Rattle.lending.specs.Lent.{Lands, Hears};
 
-// Lends the arrays of the state where they lie to the covered step. What goes by value beside them stays in the state as it was.
+// Lends the arrays of the state where they lie to the covered step. Clock, next number and the lock's length in the state stay.
 fn land(
     state: &mut State,
     kept: Kept,
@@ -47,7 +47,7 @@ fn land(
     )
 }
 
-// Calls the covered step, and stores the new state.
+// Calls the covered step, and stores the new state: what came back by value.
 pub fn serve(
     state: &mut State,
     store: &mut [u8],

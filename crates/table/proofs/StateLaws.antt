@@ -11,9 +11,10 @@ use Rattle.wire.specs.Limits.{placeSize}
 use Rattle.rule.specs.Gateway.{Entry as Key}
 use Rattle.table.specs.declared.Columns.{Columns}
 use Rattle.table.specs.declared.State.{State}
-use Rattle.table.specs.Entries.{Entry, entryAt, upTo, entriesIn}
-use Rattle.table.specs.Meaning.{size, keyOf, placeOf, entriesOf, view, gatewayOf, noEntry, partAt}
-use Rattle.table.specs.Promises.{KeySays, PlaceSays, StateRule}
+use Rattle.table.specs.Bytes.{padded}
+use Rattle.table.specs.Entries.{Entry, entryAt, upTo, entriesIn, columnsOf, commentsOf}
+use Rattle.table.specs.Meaning.{size, keyOf, placeOf, entriesOf, view, gatewayOf, noEntry, partAt, entryFor, lockOf, stateOf}
+use Rattle.table.specs.Promises.{KeySays, PlaceSays, StateRule, FreshZero}
 use Rattle.table.proofs.EachLaws.{each-length, each-at}
 use Rattle.table.proofs.SizeLaws.{size-is, place-start}
 
@@ -100,3 +101,9 @@ module _ (s : State) (x : List ℕ) where
 pub state-rule : StateRule
 unfolding gatewayOf
 state-rule s x = record { eight = view-length (entriesOf s) x (long s x); places = place-said s x; lock = refl; clock = refl; next = refl }
+
+-- ## Fresh
+
+pub fresh-zero : FreshZero
+unfolding stateOf columnsOf commentsOf entryFor lockOf padded
+fresh-zero = refl

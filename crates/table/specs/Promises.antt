@@ -6,7 +6,7 @@ use mathlib.Core.List.{List}
 use mathlib.Core.Logic.{_↔_, _⊎_, _≢_}
 use mathlib.Core.Option.{Option, none, some}
 use lib.ListN.{length, take, drop, getD, replicate}
-use Rattle.wire.specs.Limits.{placeSize, storeSize, fieldsAt, commentLimit, lastNumber}
+use Rattle.wire.specs.Limits.{placeSize, storeSize, fieldsAt, commentLimit, passphraseLimit, lastNumber}
 use Rattle.wire.specs.Promises.{OneToOne}
 use Rattle.keys.specs.declared.constraints.Lifetime.the-variants.{Forever, For}
 use Rattle.rule.specs.declared.Found.{Found}
@@ -15,6 +15,7 @@ use Rattle.rule.specs.Searches.{foundPlace}
 use Rattle.rule.specs.Soundness as rule
 use Rattle.rule.specs.Soundness.{Fits}
 use Rattle.table.specs.declared.State.{State}
+use Rattle.table.specs.Entries.{columns, commentsSize}
 use Rattle.table.specs.Meaning.{gatewayOf, stateOf, layout}
 use Rattle.table.specs.Soundness.{soundState, Sound, Means}
 use Rattle.table.specs.Changes.{MayPut}
@@ -74,6 +75,17 @@ EveryGateway = (g : Gateway) → rule.Sound g → Means (stateOf g) (layout g) g
 -- "Fresh: all zero, next insertion number 1."
 abbrev pub FreshMeans : Type 0
 FreshMeans = Means (stateOf fresh) (replicate storeSize 0) fresh
+
+abbrev pub FreshZero : Type 0
+FreshZero =
+    let zeros : List ℕ = replicate 8 0 in
+    stateOf fresh ≡ record {
+      columns = columns zeros zeros zeros zeros zeros zeros zeros zeros;
+      comments = replicate commentsSize 0;
+      lock = record { bytes = replicate passphraseLimit 0; len = 0 };
+      clock = record { count = 0 };
+      next = 1;
+    }
 
 -- ## Searches
 

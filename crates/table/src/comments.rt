@@ -5,6 +5,7 @@ ghost use mathlib.Core.Path.{_≡_};
 ghost use Prim.Native.Nat.{_*_, _≤_, _<_};
 ghost use lib.ListN.{length};
 ghost use Rattle.wire.specs.Limits.{commentLimit};
+ghost use Rattle.wire.specs.Parts.{PartOf};
 ghost use Rattle.wire.specs.Write.{write};
 ghost use Rattle.table.specs.Bytes.{padded};
 ghost use Rattle.table.specs.Entries.{commentPart, commentsSize};
@@ -20,7 +21,7 @@ fn comment_start(i: usize) -> usize
 // The 255 bytes for the comment of place i.
 pub fn comment_bytes(comments: &[u8], i: usize) -> &[u8]
     requires { ⌜ (i < 8) × (length (now comments) ≡ commentsSize) ⌝ }
-    ensures { λ r. ⌜ now r ≡ commentPart (now (comments .entry)) i ⌝ }
+    ensures { λ r. ⌜ PartOf (comments .entry) (i * commentLimit) (commentPart (now (comments .entry)) i) r ⌝ }
 {
     let from = comment_start(i);
     let to = comment_start(i + 1);

@@ -109,10 +109,10 @@ pub fn blob_at<'a>(blob_lens: &[usize], store: &'a [u8], i: usize) -> &'a [u8]
     &p[..n]
 }
 
-// The comment of a place's key, empty where a sound place is free.
+// The comment of a place's key, empty where a sound place is free; it begins where the place's comment does.
 pub fn comment_at<'a>(comment_lens: &[usize], comments: &'a [u8], i: usize) -> &'a [u8]
     requires { ⌜ (i < 8) × (length (now comments) ≡ commentsSize) × (length (now «comment_lens») ≡ 8) × (getD (now «comment_lens») i 0 ≤ commentLimit) ⌝ }
-    ensures { λ r. ⌜ now r ≡ take (getD (now («comment_lens» .entry)) i 0) (commentPart (now (comments .entry)) i) ⌝ }
+    ensures { λ r. ⌜ PartOf (comments .entry) (i * commentLimit) (take (getD (now («comment_lens» .entry)) i 0) (commentPart (now (comments .entry)) i)) r ⌝ }
 {
     let bytes = comment_bytes(comments, i);
     let n = comment_lens[i];

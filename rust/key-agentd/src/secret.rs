@@ -14,7 +14,7 @@ const ROOMS: [usize; 3] = [8 << 10, 64 << 10, 260 << 10];
 const KEPT: [usize; 3] = [64, 4, 4];
 /// What rooms above the first may take in all; above it who needs one is turned away. The first is there for everybody.
 const MOST: usize = 128 << 20;
-/// A call of the core takes up to 14 KB of stack with a state by value (include/key_agent.h), and what calls it some more.
+/// What takes a state by value takes up to 14 KB of stack with it, a call less (include/key_agent.h), and who calls it some more.
 const STACK: usize = 24 * 1024;
 
 static UNLOCKED: AtomicBool = AtomicBool::new(false);
@@ -208,7 +208,7 @@ impl Drop for Secret {
     }
 }
 
-/// Overwrites the stack below the caller, where a call of the core or the library has passed keys and passphrases by value.
+/// Overwrites the stack below the caller, where the core or the library has left keys or passphrases.
 #[inline(never)]
 pub fn wipe_stack() {
     let mut below = std::mem::MaybeUninit::<[u8; STACK]>::uninit();

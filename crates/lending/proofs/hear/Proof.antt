@@ -1,4 +1,4 @@
--- The walk of the code by hand: the state's borrow is opened, each field is lent where it lies for a lifetime of the call, `first_lent` is called on the loans, the lifetimes are ended, and the borrow is closed at the fields' last values. Nothing is copied.
+-- The walk of the code by hand: the state's borrow is opened, each array is lent where it lies for a lifetime of the call, `first_lent` is called on the loans, the lifetimes are ended, and the borrow is closed at the arrays' last values. Nothing is copied.
 -- Each `&mut` slice is passed on at its own lifetime and name and given up for good; of every other parameter nothing is said at exit. All that the proof knows of `first_lent` is that it meets its contract. Assumes nothing.
 use mathlib.Core.Path.{_≡_, refl, ap}
 use Prim.Native.Nat.{ℕ}

@@ -22,7 +22,7 @@ is-place-sound-requires c κs =
     let start : tie.Start Inv-loop μ-loop = search in
     let (_, comments, store) = start .pre in
     let l = turn .loop in (
-      comment-size _ (l .i) _ comments (omega arith) (c .before .comment-bytes .ensures),
+      comment-size _ (l .i) _ comments (omega arith) (c .before .comment-bytes .ensures .bytes),
       part-size _ (l .i) _ store (omega arith) (λ es eight. c .bytes-at .ensures es eight .bytes) ∙ sym (size-is _),
     )
 
@@ -34,7 +34,7 @@ returns c =
     let turn : tie.At-loop Inv-loop μ-loop = search in
     let p-is : PartIs _ _ _ = λ es eight. part .bytes-at .ensures es eight .bytes in
     let l = turn .loop in
-    place-out _ _ _ _ _ (l .i) _ _ _ _ (omega arith) (figures .figures-at .ensures) (comment .comment-bytes .ensures) p-is (c .before .is-place-sound .ensures) (c .if1 .taken) (l .inv .1)
+    place-out _ _ _ _ _ (l .i) _ _ _ _ (omega arith) (figures .figures-at .ensures) (comment .comment-bytes .ensures .bytes) p-is (c .before .is-place-sound .ensures) (c .if1 .taken) (l .inv .1)
 
 loop-again : tie.Need-loop-again Inv-loop μ-loop
 loop-again c =
@@ -44,7 +44,7 @@ loop-again c =
     let turn : tie.At-loop Inv-loop μ-loop = search in
     let p-is : PartIs _ _ _ = λ es eight. part .bytes-at .ensures es eight .bytes in
     let l = turn .loop in
-    (omega arith, place-on _ _ _ _ _ (l .i) _ _ _ _ (omega arith) (figures .figures-at .ensures) (comment .comment-bytes .ensures) p-is (c .before .is-place-sound .ensures) (c .if1 .left) (l .inv .1))
+    (omega arith, place-on _ _ _ _ _ (l .i) _ _ _ _ (omega arith) (figures .figures-at .ensures) (comment .comment-bytes .ensures .bytes) p-is (c .before .is-place-sound .ensures) (c .if1 .left) (l .inv .1))
 
 returns-2 : tie.Need-returns-2 Inv-loop μ-loop
 returns-2 c = let l = c .before .loop in places-end _ _ _ _ _ (l .i) (omega arith) (l .inv .1)

@@ -12,7 +12,7 @@ use Rattle.lookups.proofs.held.told_at.Tie as tie
 copied-requires : tie.Need-copied-requires
 copied-requires c κs =
     let start : tie.Start = search in
-    ap length (c .before .comment-bytes .ensures) ∙ comment-part-size (start .args .state .comments) (start .pre .1 .comments-size) (start .args .i) (start .pre .0)
+    ap length (c .before .comment-bytes .ensures .bytes) ∙ comment-part-size (start .args .state .comments) (start .pre .1 .comments-size) (start .args .i) (start .pre .0)
 
 told-requires : tie.Need-told-requires
 told-requires c κs =
@@ -28,7 +28,7 @@ returns c k there =
     let read : tie.After-figures-in = search in
     let start : tie.Start = search in
     let s = start .args .state in
-    let bytes = ap (λ (t : Comment). t .bytes) (copied .copied .ensures) ∙ cut .comment-bytes .ensures in
+    let bytes = ap (λ (t : Comment). t .bytes) (copied .copied .ensures) ∙ cut .comment-bytes .ensures .bytes in
     c .told .ensures s k refl (ap (λ (t : Comment). t .len) (copied .copied .ensures))
     ((λ j. entryBy (read .figures-in .ensures j) (bytes j)) ∙ entry-is s (start .args .store .now) (start .pre .1) (start .args .i) (start .pre .0) k there)
 

@@ -55,7 +55,7 @@ put-string-requires-2 c κs =
     let sound = sound-meaning _ _ (w .sound) in
     let is = blob-shown (w .state) (a .store .now) (w .sound) (w .shows) (a .i) (start .pre .0) _ (λ es eight. blob .blob-at .ensures es eight .bytes) in
     let room = blob-room g (a .i) sound _ is in
-    let short = comment-room g (a .i) sound _ (comment-shown (w .state) (a .store .now) (w .sound) (w .shows) (a .i) (start .pre .0) _ (c .comment-at .ensures)) in
+    let short = comment-room g (a .i) sound _ (comment-shown (w .state) (a .store .now) (w .sound) (w .shows) (a .i) (start .pre .0) _ (c .comment-at .ensures .bytes)) in
     (omega arith, omega (arith, string .put-string .ensures .0))
 
 returns-2 : tie.Need-returns-2
@@ -72,7 +72,7 @@ returns-2 c =
     let g = gatewayOf s (a .store .now) in
     let sound = sound-meaning s (a .store .now) S in
     let bytes = blob-shown s (a .store .now) S shows (a .i) (start .pre .0) _ (λ es eight. blob .blob-at .ensures es eight .bytes) in
-    let kept = comment-shown s (a .store .now) S shows (a .i) (start .pre .0) _ (taken .comment-at .ensures) in
+    let kept = comment-shown s (a .store .now) S shows (a .i) (start .pre .0) _ (taken .comment-at .ensures .bytes) in
     let room = blob-room g (a .i) sound _ bytes in
     let short = comment-room g (a .i) sound _ kept in
     held-item g (a .i) _ (at-is-held .is-held .ensures s _ (shows .numbers-are)) _ _ _ _ _ _ _ _ (tested .if1 .left) bytes kept

@@ -12,7 +12,7 @@ returns c =
     let to = c .before .comment-start2 in
     let from = c .before .before .comment-start in
     let span : to .result - from .result ≡ commentLimit = omega arith in
-    rw (span, from .ensures)
+    record { bytes = rw (span, from .ensures); block = search needs; place = rw (from .ensures) (search needs) }
 
 pub comment-bytes-spec : {M : Type 1} → statement M
 comment-bytes-spec =

@@ -12,13 +12,14 @@ front : tie.Need-slice-aggregate-result
 front c =
     let p : tie.After-comment-bytes = search in
     let start : tie.Start = search in
-    let whole = ap length (p .comment-bytes .ensures) ∙ comment-part-size (start .args .comments .now) (start .pre .1) (start .args .i) (start .pre .0) in
+    let whole = ap length (p .comment-bytes .ensures .bytes) ∙ comment-part-size (start .args .comments .now) (start .pre .1) (start .args .i) (start .pre .0) in
     sym (length-take-le _ (p .comment-bytes .result .now) (omega arith))
 
 returns : tie.Need-returns
 returns c =
     let p : tie.After-comment-bytes = search in
-    rw (p .comment-bytes .ensures)
+    let part = p .comment-bytes .ensures in
+    record { bytes = rw (part .bytes); block = part .block; place = part .place }
 
 pub comment-at-spec : {M : Type 1} → statement M
 comment-at-spec =
