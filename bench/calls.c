@@ -9,7 +9,7 @@ enum { FAILURE = 5, SUCCESS = 6, LIST = 11, LISTED = 12, SIGN = 13, SIGNED = 14,
 
 static key_agent_state state;
 static uint8_t store[KEY_AGENT_STORE_BYTES], reply[KEY_AGENT_REPLY_BYTES], signature[100], payload[1024];
-static size_t size;
+static size_t size; /* of the payload */
 
 static void number(uint32_t n) {
     for (int shift = 24; shift >= 0; shift -= 8) payload[size++] = (uint8_t)(n >> shift);
@@ -54,11 +54,6 @@ static void sign(uint8_t key) {
     number(0);
 }
 
-static void words(uint8_t message) {
-    begin(message);
-    string("ab", 2);
-}
-
 static int answer(void) {
     key_agent_answers answers = {KEY_AGENT_YES, KEY_AGENT_YES, KEY_AGENT_YES, KEY_AGENT_YES, state.next - 1, state.next - 1};
     key_agent_outcome o = key_agent_call(&state, store, sizeof store, payload, size, (key_agent_millis){0}, answers, signature, sizeof signature,
@@ -76,20 +71,24 @@ int main(int n, char **word) {
         add(key);
         if (answer() != SUCCESS) return 3;
     }
-    int wanted[2] = {SUCCESS, SUCCESS};
+    int wanted = SUCCESS, locks = !strcmp(word[1], "lock");
     if (!strcmp(word[1], "list")) {
         begin(LIST);
-        wanted[0] = wanted[1] = LISTED;
+        wanted = LISTED;
     } else if (!strcmp(word[1], "sign")) {
         sign(7);
-        wanted[0] = wanted[1] = SIGNED;
+        wanted = SIGNED;
     } else if (!strcmp(word[1], "empty")) {
         size = 0;
-        wanted[0] = wanted[1] = FAILURE;
-    } else if (strcmp(word[1], "add") && strcmp(word[1], "lock")) return 2;
-    for (long i = 0; i < atol(word[2]); i++) {
-        if (word[1][0] == 'l' && word[1][1] == 'o') words(i % 2 ? UNLOCK : LOCK);
-        if (answer() != wanted[i % 2]) return 4;
+        wanted = FAILURE;
+    } else if (locks) {
+        begin(LOCK);
+        string("ab", 2);
+    } else if (strcmp(word[1], "add")) return 2;
+    long calls = atol(word[2]);
+    for (long i = 0; i < calls; i++) {
+        if (locks) payload[0] = i % 2 ? UNLOCK : LOCK;
+        if (answer() != wanted) return 4;
     }
     return 0;
 }
