@@ -3,9 +3,9 @@ use Prim.Native.Nat.{ℕ, _+_, _-_, _^_, max, _≤_, _<_}
 use mathlib.Core.Path.{_≡_}
 use mathlib.Core.Logic.{_↔_, _⊎_, _≢_}
 use mathlib.Core.Bool.{Bool, true, false}
-use mathlib.Core.Option.{none, some}
-use mathlib.Core.List.{List, _∷_, _++_}
-use lib.ListN.{length, getD}
+use mathlib.Core.Option.{some}
+use mathlib.Core.List.{List, [], _∷_, _++_}
+use lib.ListN.{length}
 use Rattle.wire.specs.Limits.{blobLimit, fieldsLimit, commentLimit}
 use Rattle.wire.specs.declared.Constraint.{Constraint}
 use Rattle.wire.specs.Numbers.{Bytes}
@@ -17,10 +17,10 @@ use Rattle.keys.specs.declared.constraints.Lifetime.the-variants.{Forever}
 use Rattle.keys.specs.Additions.{additionAt}
 use Rattle.keys.specs.Values.{secondsIn, Added, additionReads}
 use Rattle.keys.specs.Forms.{KeyFields, constraintForms, Adds}
-use Rattle.rule.specs.Gateway.{Entry, Gateway, locked, NewKey, newEntry}
-use Rattle.rule.specs.Rule.{check, SUCCESS}
+use Rattle.rule.specs.Gateway.{Entry, Gateway, locked, entryAt, NewKey, newEntry}
+use Rattle.rule.specs.Rule.{check, FAILURE, SUCCESS}
 use Rattle.rule.specs.Calls.{Call, asks, lands, call}
-use Rattle.rule.specs.Words.{Begins, HeldAt, Held, FreeAt, atCall, payloadOf, PastGate}
+use Rattle.rule.specs.Words.{Begins, HeldAt, Held, atCall, payloadOf, PastGate}
 
 -- ## The request
 
@@ -61,24 +61,58 @@ AdditionRule =
 abbrev pub madeBy : Gateway → Call → NewKey → Entry
 madeBy g c k = newEntry (g .next) (record { count = max (g .clock .count) (c .reading .count) }) k
 
--- e stands in place i, everything else is as it was, and the next number is taken. A blob that was held keeps its place; a new one has the
--- lowest free place.
+-- e stands at position i, everything else is as it was, and the next number is taken. A blob that was held keeps its position; a new one goes last.
 pub record Put (before after : Gateway) (i : ℕ) (e : Entry) : Type 0 where
   pub there : HeldAt after i e
-  pub others : (j : ℕ) → j ≢ i → getD (after .places) j none ≡ getD (before .places) j none
+  pub others : (j : ℕ) → j ≢ i → entryAt (after .entries) j ≡ entryAt (before .entries) j
   pub lock : after .lock ≡ before .lock
   pub clock : after .clock ≡ before .clock
   pub next : after .next ≡ before .next + 1
   pub place : ((old : Entry) × HeldAt before i old × (old .blob ≡ e .blob))
-      ⊎ (FreeAt before i × ((j : ℕ) → j < i → FreeAt before j → ⊥) × ((old : Entry) → Held before old → old .blob ≢ e .blob))
+      ⊎ ((i ≡ length (before .entries)) × ((old : Entry) → Held before old → old .blob ≢ e .blob))
 
--- what is decided before the key check is asked: the limits, the numbers that are left, and a place
-pub record MayStore (before : Gateway) (k : NewKey) : Type 0 where
+-- ## Room
+
+-- the entries that stay beside a key with this blob
+pub data Beside (blob : List ℕ) : List Entry → List Entry → Type 0 where
+  none-left : Beside blob [] []
+  replaced : (e : Entry) {es os : List Entry} → e .blob ≡ blob → Beside blob es os → Beside blob (e ∷ es) os
+  stays : (e : Entry) {es os : List Entry} → e .blob ≢ blob → Beside blob es os → Beside blob (e ∷ es) (e ∷ os)
+
+-- the bytes that entries take
+abbrev pub bytesOf : List Entry → ℕ
+bytesOf [] = 0
+bytesOf (e ∷ es) = length (e .blob) + length (e .fields) + length (e .comment) + bytesOf es
+
+-- .. and a new key
+abbrev pub newBytes : NewKey → ℕ
+newBytes k = length (k .blob) + length (k .fields) + length (k .comment)
+
+-- room beside these: fewer than 24 others, and lengths that do not pass 32,768
+pub record Room (os : List Entry) (k : NewKey) : Type 0 where
+  pub count : length os < 24
+  pub bytes : bytesOf os + newBytes k ≤ 32768
+
+-- what is decided before the key check is asked: the limits, the numbers that are left, and room
+pub record WithinLimits (before : Gateway) (k : NewKey) : Type 0 where
   pub blob-fits : length (k .blob) ≤ blobLimit
   pub fields-fit : length (k .fields) ≤ fieldsLimit
   pub comment-fits : length (k .comment) ≤ commentLimit
   pub numbers-left : before .next < 2 ^ 64 - 1
-  pub room : ((old : Entry) × Held before old × (old .blob ≡ k .blob)) ⊎ ((i : ℕ) × FreeAt before i)
+
+pub record MayStore (before : Gateway) (k : NewKey) : Type 0 where
+  pub limits : WithinLimits before k
+  pub room : (os : List Entry) → Beside (k .blob) (before .entries) os → Room os k
+
+-- a well-formed add request within the limits, past a gate and with no key check's no, fails exactly where 24 others are held or the lengths after
+-- the change would pass 32,768
+abbrev pub RoomRule : Type 0
+RoomRule =
+    (g : Gateway) (c : Call) (k : NewKey) (os : List Entry) → Bytes (payloadOf c) → PastGate g c → locked g ≡ false → AddRequest (payloadOf c) k
+    → WithinLimits (atCall g c) k → c .answers .check ≢ some false → Beside (k .blob) (atCall g c .entries) os
+    → (call g c .outcome ≡ lands FAILURE) ↔ ((24 ≤ length os) ⊎ (32768 < bytesOf os + newBytes k))
+
+-- ## What is stored
 
 -- what an add's SUCCESS did, and that the key check said yes
 abbrev pub AddedOnly : Type 0
@@ -87,7 +121,7 @@ AddedOnly =
     → (k : NewKey) × (i : ℕ) × AddRequest (payloadOf c) k × Put (atCall g c) (call g c .gateway) i (madeBy g c k) × MayStore (atCall g c) k
     × (c .answers .check ≡ some true)
 
--- a well-formed add request within the limits, past gate and key check, is stored where the blob is held or a place is free
+-- a well-formed add request within the limits, past gate and key check, is stored where there is room
 abbrev pub AddedAlways : Type 0
 AddedAlways =
     (g : Gateway) (c : Call) (k : NewKey) → Bytes (payloadOf c) → PastGate g c → locked g ≡ false → AddRequest (payloadOf c) k → MayStore (atCall g c) k

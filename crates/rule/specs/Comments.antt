@@ -10,11 +10,11 @@ use Rattle.rule.specs.Words.{payloadOf}
 
 -- every held entry's comment is UTF-8
 abbrev pub TextComments : Gateway → Type 0
-TextComments g = EveryEntry (λ e. Octets (e .comment)) (g .places)
+TextComments g = EveryEntry (λ e. Octets (e .comment)) (g .entries)
 
 -- every held entry's blob is a list of bytes
 abbrev pub ByteBlobs : Gateway → Type 0
-ByteBlobs g = EveryEntry (λ e. Bytes (e .blob)) (g .places)
+ByteBlobs g = EveryEntry (λ e. Bytes (e .blob)) (g .entries)
 
 -- "comment string (UTF-8 ..)": no call keeps another
 abbrev pub CallsKeepText : Type 0

@@ -1,5 +1,5 @@
 -- 01's starred examples, as one statement. Where 01 says "then", the state is the one that the call before it left.
-use Prim.Native.Nat.{ℕ}
+use Prim.Native.Nat.{ℕ, zero, suc}
 use mathlib.Core.Path.{_≡_}
 use mathlib.Core.Bool.{true, false}
 use mathlib.Core.Option.{none, some}
@@ -11,7 +11,7 @@ use Rattle.wire.specs.Frames.{splitOf}
 use Rattle.keys.specs.declared.constraints.Lifetime.the-variants.{Forever}
 use Rattle.rule.specs.declared.Hash.{Hash}
 use Rattle.rule.specs.declared.Hash.the-variants.{Plain, Sha256, Sha512}
-use Rattle.rule.specs.Gateway.{Place, Gateway, zeroMillis, fresh}
+use Rattle.rule.specs.Gateway.{Entry, Gateway, zeroMillis, fresh}
 use Rattle.rule.specs.Soundness.{Sound, sound}
 use Rattle.rule.specs.Rule.{gate, signature, reply, close, FAILURE, SUCCESS}
 use Rattle.rule.specs.Calls.{Answers, nothingLent, refusalOf, Call, Outcome, asks, lands, call}
@@ -38,12 +38,12 @@ lockCd = 0x16 ∷ 0 ∷ 0 ∷ 0 ∷ 2 ∷ 0x63 ∷ 0x64 ∷ []
 
 -- the fresh gateway, locked with "ab"
 abbrev pub lockedAb : Gateway
-lockedAb = record { places = replicate 8 none; lock = 0x61 ∷ 0x62 ∷ []; clock = zeroMillis; next = 1 }
+lockedAb = record { entries = []; lock = 0x61 ∷ 0x62 ∷ []; clock = zeroMillis; next = 1 }
 
 -- one key, held under the blob 61, and a request for its signature over no data
 abbrev pub oneKey : Gateway
 oneKey = record {
-  places = some (record { number = 1; reading = zeroMillis; lifetime = Forever; confirm = false; blob = 0x61 ∷ []; fields = 0 ∷ []; comment = [] }) ∷ replicate 7 none;
+  entries = (record { number = 1; reading = zeroMillis; lifetime = Forever; confirm = false; blob = 0x61 ∷ []; fields = 0 ∷ []; comment = [] }) ∷ [];
   lock = [];
   clock = zeroMillis;
   next = 2;
@@ -57,7 +57,7 @@ asksHash hash = asks (signature 1 10 10 hash)
 
 -- the fresh gateway, locked with "cd"
 abbrev pub lockedCd : Gateway
-lockedCd = record { places = replicate 8 none; lock = 0x63 ∷ 0x64 ∷ []; clock = zeroMillis; next = 1 }
+lockedCd = record { entries = []; lock = 0x63 ∷ 0x64 ∷ []; clock = zeroMillis; next = 1 }
 
 -- two LOCKs cross: both ask the gate, both get their yes, and both land, in the one order or the other
 abbrev pub abLandsFirst : List Call
@@ -96,23 +96,47 @@ pub record StarredExamples : Type 0 where
 -- 01's soundness at its limits, on one held key
 abbrev pub keyWith : ℕ → ℕ → ℕ → ℕ → ℕ → Gateway
 keyWith number reading blob fields comment = record {
-  places = some (record { number = number; reading = record { count = reading }; lifetime = Forever; confirm = false; blob = replicate blob 1; fields = replicate fields 1; comment = replicate comment 1 }) ∷ replicate 7 none;
+  entries = (record { number = number; reading = record { count = reading }; lifetime = Forever; confirm = false; blob = replicate blob 1; fields = replicate fields 1; comment = replicate comment 1 }) ∷ [];
   lock = [];
   clock = record { count = 5 };
   next = 3;
 }
 
 abbrev pub lockOfLength : ℕ → ℕ → Gateway
-lockOfLength n next = record { places = replicate 8 none; lock = replicate n 1; clock = zeroMillis; next = next }
+lockOfLength n next = record { entries = []; lock = replicate n 1; clock = zeroMillis; next = next }
 
 -- a second key beside one of number 1 and blob 61
 abbrev pub besides : ℕ → ℕ → Gateway
 besides number byte = record {
-  places = some (record { number = 1; reading = zeroMillis; lifetime = Forever; confirm = false; blob = 0x61 ∷ []; fields = 0 ∷ []; comment = [] })
-      ∷ some (record { number = number; reading = zeroMillis; lifetime = Forever; confirm = false; blob = byte ∷ []; fields = 0 ∷ []; comment = [] }) ∷ replicate 6 none;
+  entries = (record { number = 1; reading = zeroMillis; lifetime = Forever; confirm = false; blob = 0x61 ∷ []; fields = 0 ∷ []; comment = [] })
+      ∷ (record { number = number; reading = zeroMillis; lifetime = Forever; confirm = false; blob = byte ∷ []; fields = 0 ∷ []; comment = [] }) ∷ [];
   lock = [];
   clock = zeroMillis;
   next = 3;
+}
+
+-- n keys of two bytes
+abbrev pub shortKey : ℕ → Entry
+shortKey n = record { number = n; reading = zeroMillis; lifetime = Forever; confirm = false; blob = n ∷ []; fields = 0 ∷ []; comment = [] }
+
+abbrev pub shortKeysFrom : ℕ → ℕ → List Entry
+shortKeysFrom from zero = []
+shortKeysFrom from (suc n) = shortKey from ∷ shortKeysFrom (suc from) n
+
+abbrev pub shortKeys : ℕ → Gateway
+shortKeys n = record { entries = shortKeysFrom 1 n; lock = []; clock = zeroMillis; next = 26 }
+
+-- seven keys of 4,351 bytes, and one with 7 bytes beside its key fields: 32,768 where these are 2,304
+abbrev pub broadKey : ℕ → ℕ → ℕ → ℕ → Entry
+broadKey n blob fields comment = record { number = n; reading = zeroMillis; lifetime = Forever; confirm = false; blob = n ∷ replicate blob 0; fields = replicate fields 1; comment = replicate comment 1 }
+
+abbrev pub filledTo : ℕ → Gateway
+filledTo fields = record {
+  entries = broadKey 1 1023 3072 255 ∷ broadKey 2 1023 3072 255 ∷ broadKey 3 1023 3072 255 ∷ broadKey 4 1023 3072 255 ∷ broadKey 5 1023 3072 255
+      ∷ broadKey 6 1023 3072 255 ∷ broadKey 7 1023 3072 255 ∷ broadKey 8 5 fields 1 ∷ [];
+  lock = [];
+  clock = zeroMillis;
+  next = 9;
 }
 
 pub record SoundnessLimits : Type 0 where
@@ -134,34 +158,32 @@ pub record SoundnessLimits : Type 0 where
   pub numbers-alike : sound (besides 1 0x62) ≡ false
   pub blobs-alike : sound (besides 2 0x61) ≡ false
   pub next-over : sound (lockOfLength 0 0x1_0000_0000_0000_0000) ≡ false
-  pub seven-places : sound (record { places = replicate 7 none; lock = []; clock = zeroMillis; next = 1 }) ≡ false
-  pub nine-places : sound (record { places = replicate 9 none; lock = []; clock = zeroMillis; next = 1 }) ≡ false
+  pub entries-24 : sound (shortKeys 24) ≡ true
+  pub entries-over : sound (shortKeys 25) ≡ false
+  pub bytes-full : sound (filledTo 2304) ≡ true
+  pub bytes-over : sound (filledTo 2305) ≡ false
 
 -- 01's refusals at their limits, by the lengths of reply buffer and key store, soundness, and the lengths of payload and lent signature
 pub record RefusalLimits : Type 0 where
-  pub none-applies : refusalOf 10305 32768 true 262144 2048 ≡ none
-  pub buffer-short : refusalOf 10304 32768 true 262144 2048 ≡ some 1
-  pub store-short : refusalOf 10305 32767 true 262144 2048 ≡ some 2
-  pub store-long : refusalOf 10305 32769 true 262144 2048 ≡ some 2
-  pub unsound : refusalOf 10305 32768 false 262144 2048 ≡ some 3
-  pub payload-long : refusalOf 10305 32768 true 262145 2048 ≡ some 4
-  pub signature-long : refusalOf 10305 32768 true 262144 2049 ≡ some 5
+  pub none-applies : refusalOf 30897 32768 true 262144 2048 ≡ none
+  pub buffer-short : refusalOf 30896 32768 true 262144 2048 ≡ some 1
+  pub store-short : refusalOf 30897 32767 true 262144 2048 ≡ some 2
+  pub store-long : refusalOf 30897 32769 true 262144 2048 ≡ some 2
+  pub unsound : refusalOf 30897 32768 false 262144 2048 ≡ some 3
+  pub payload-long : refusalOf 30897 32768 true 262145 2048 ≡ some 4
+  pub signature-long : refusalOf 30897 32768 true 262144 2049 ≡ some 5
 
--- eight keys, each with the longest blob and the longest comment
-abbrev pub longKey : ℕ → Place
-longKey n = some (record { number = n; reading = zeroMillis; lifetime = Forever; confirm = false; blob = n ∷ replicate 1023 0; fields = 0 ∷ []; comment = replicate 255 0x61 })
+-- 24 keys, each with the longest blob and the longest comment
+abbrev pub longKeysFrom : ℕ → ℕ → List Entry
+longKeysFrom from zero = []
+longKeysFrom from (suc n) = broadKey from 1023 1 255 ∷ longKeysFrom (suc from) n
 
 abbrev pub fullTable : Gateway
-fullTable = record {
-  places = longKey 1 ∷ longKey 2 ∷ longKey 3 ∷ longKey 4 ∷ longKey 5 ∷ longKey 6 ∷ longKey 7 ∷ longKey 8 ∷ [];
-  lock = [];
-  clock = zeroMillis;
-  next = 9;
-}
+fullTable = record { entries = longKeysFrom 1 24; lock = []; clock = zeroMillis; next = 25 }
 
 -- the bytes that refusal 1 asks for are reached: by the list of a sound table
 pub record RoomReached : Type 0 where
   pub sound-table : Sound fullTable
   pub bytes : List ℕ
   pub listed : call fullTable (pastGate (0x0B ∷ [])) .outcome ≡ lands (reply bytes)
-  pub length-is : length bytes ≡ 10305
+  pub length-is : length bytes ≡ 30897

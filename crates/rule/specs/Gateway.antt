@@ -1,10 +1,11 @@
 -- The gateway in 01's words ("Table, store and clock"), with no bytes: layout is the table's.
-use Prim.Native.Nat.{ℕ, suc, _+_, _-_, _*_, max}
-use mathlib.Core.Bool.{Bool, true, false, not, cond}
+use Prim.Native.Nat.{ℕ, zero, suc, _+_, _-_, _*_, max}
+use mathlib.Core.Bool.{Bool, false, not, cond, _&&_}
 use mathlib.Core.Option.{Option, none, some}
-use mathlib.Core.List.{List, [], _∷_, map}
-use lib.ListN.{length, replicate, set}
+use mathlib.Core.List.{List, [], _∷_}
+use lib.ListN.{length}
 use lib.Dec.{leb, ltb}
+use Rattle.wire.specs.Limits.{entriesLimit, storeSize}
 use Rattle.wire.specs.declared.Seconds.{Seconds}
 use Rattle.wire.specs.Read.{same}
 use Rattle.keys.specs.declared.constraints.Lifetime.{Lifetime}
@@ -24,12 +25,9 @@ pub record Entry : Type 0 where
   pub fields : List ℕ
   pub comment : List ℕ
 
--- a place is free or holds an entry
-abbrev pub Place : Type 0
-Place = Option Entry
-
+-- #112: the entries "in list order"
 pub record Gateway : Type 0 where
-  pub places : List Place
+  pub entries : List Entry
   pub lock : List ℕ  -- the passphrase, empty while open
   pub clock : Millis  -- the kept clock
   pub next : ℕ  -- the next insertion number
@@ -40,7 +38,7 @@ zeroMillis = record { count = 0 }
 
 -- "Fresh: all zero, next insertion number 1."
 abbrev pub fresh : Gateway
-fresh = record { places = replicate 8 none; lock = []; clock = zeroMillis; next = 1 }
+fresh = record { entries = []; lock = []; clock = zeroMillis; next = 1 }
 
 -- "Locked means length above 0."
 abbrev pub locked : Gateway → Bool
@@ -60,12 +58,12 @@ unfoldable pub dueAt : Millis → Millis → Lifetime → Bool
 dueAt clock reading Forever = false
 dueAt clock reading (For seconds) = leb (millisOf seconds .count) (clock .count - reading .count)
 
-unfoldable pub lasting : Millis → Place → Place
-lasting clock none = none
-lasting clock (some e) = cond (dueAt clock (e .reading) (e .lifetime)) none (some e)
+unfoldable pub lasting : Millis → List Entry → List Entry
+lasting clock [] = []
+lasting clock (e ∷ es) = cond (dueAt clock (e .reading) (e .lifetime)) (lasting clock es) (e ∷ lasting clock es)
 
 unfoldable pub atClock : Millis → Gateway → Gateway
-atClock clock g = record { places = map (lasting clock) (g .places); lock = g .lock; clock = clock; next = g .next }
+atClock clock g = record { entries = lasting clock (g .entries); lock = g .lock; clock = clock; next = g .next }
 
 -- the later of two readings
 abbrev pub later : Millis → Millis → Millis
@@ -75,20 +73,21 @@ later a b = record { count = max (a .count) (b .count) }
 unfoldable pub advance : Millis → Gateway → Gateway
 advance reading g = atClock (later (g .clock) reading) g
 
--- ## Places
+-- ## Positions
 
--- the first place, from number i on, that passes a test
-abbrev pub seek : (Place → Bool) → ℕ → List Place → Found
+-- the entry at a position of the list, from 0 on
+abbrev pub entryAt : List Entry → ℕ → Option Entry
+entryAt [] i = none
+entryAt (e ∷ es) zero = some e
+entryAt (e ∷ es) (suc i) = entryAt es i
+
+-- the first position, from number i on, whose entry passes a test
+abbrev pub seek : (Entry → Bool) → ℕ → List Entry → Found
 seek test i [] = Nothing
-seek test i (p ∷ ps) = cond (test p) (At i) (seek test (suc i) ps)
+seek test i (e ∷ es) = cond (test e) (At i) (seek test (suc i) es)
 
-abbrev pub holds : List ℕ → Place → Bool
-holds blob none = false
-holds blob (some e) = same (e .blob) blob
-
-abbrev pub isFree : Place → Bool
-isFree none = true
-isFree (some e) = false
+abbrev pub holds : List ℕ → Entry → Bool
+holds blob e = same (e .blob) blob
 
 -- going on by where a search ended
 unfoldable pub found : {A : Type 0} → A → Found → (ℕ → A) → A
@@ -96,31 +95,62 @@ found z (At i) next = next i
 found z Nothing next = z
 
 -- the entry that has a blob, if one has it
-unfoldable pub entryWith : List ℕ → List Place → Option Entry
+unfoldable pub entryWith : List ℕ → List Entry → Option Entry
 entryWith blob [] = none
-entryWith blob (p ∷ ps) = cond (holds blob p) p (entryWith blob ps)
+entryWith blob (e ∷ es) = cond (holds blob e) (some e) (entryWith blob es)
 
--- "A held blob is replaced in its place ..; a new one takes the lowest free place."
-unfoldable pub placeFor : List ℕ → List Place → Found
-placeFor blob ps = found (seek isFree 0 ps) (seek (holds blob) 0 ps) At
+-- ## Room
+
+-- what an entry takes of the store: "blobs, fields and comments .. without gaps"
+unfoldable pub lengthsOf : Entry → ℕ
+lengthsOf e = length (e .blob) + (length (e .fields) + length (e .comment))
+
+unfoldable pub allLengths : List Entry → ℕ
+allLengths [] = 0
+allLengths (e ∷ es) = lengthsOf e + allLengths es
+
+-- the entries beside a key with this blob
+unfoldable pub others : List ℕ → List Entry → List Entry
+others blob [] = []
+others blob (e ∷ es) = cond (holds blob e) (others blob es) (e ∷ others blob es)
+
+-- "exactly when 24 others are held or the lengths after the change would pass 32,768" there is none
+unfoldable pub hasRoom : Entry → List Entry → Bool
+hasRoom e es = ltb (length (others (e .blob) es)) entriesLimit && leb (allLengths (others (e .blob) es) + lengthsOf e) storeSize
+
+-- "A new entry goes last." "A replaced entry keeps its list position"
+unfoldable pub positionFor : List ℕ → List Entry → ℕ
+positionFor blob es = found (length es) (seek (holds blob) 0 es) λ i. i
+
+unfoldable pub placeFor : Entry → List Entry → Found
+placeFor e es = cond (hasRoom e es) (At (positionFor (e .blob) es)) Nothing
 
 -- ## New states
 
-abbrev pub withPlaces : List Place → Gateway → Gateway
-withPlaces ps g = record { places = ps; lock = g .lock; clock = g .clock; next = g .next }
+abbrev pub withEntries : List Entry → Gateway → Gateway
+withEntries es g = record { entries = es; lock = g .lock; clock = g .clock; next = g .next }
 
 abbrev pub withLock : List ℕ → Gateway → Gateway
-withLock passphrase g = record { places = g .places; lock = passphrase; clock = g .clock; next = g .next }
+withLock passphrase g = record { entries = g .entries; lock = passphrase; clock = g .clock; next = g .next }
 
--- "removed", of one place and of all
+-- "Removal and expiry close the gap"
+unfoldable pub removeAt : ℕ → List Entry → List Entry
+removeAt i [] = []
+removeAt zero (e ∷ es) = es
+removeAt (suc i) (e ∷ es) = e ∷ removeAt i es
+
+-- "removed", one and all
 abbrev pub without : ℕ → Gateway → Gateway
-without i g = withPlaces (set (g .places) i none) g
-
-abbrev pub vacate : Place → Place
-vacate p = none
+without i g = withEntries (removeAt i (g .entries)) g
 
 abbrev pub withoutAll : Gateway → Gateway
-withoutAll g = withPlaces (map vacate (g .places)) g
+withoutAll g = withEntries [] g
+
+-- e stands at position i; behind the last one it is added
+unfoldable pub putAt : ℕ → Entry → List Entry → List Entry
+putAt i e [] = e ∷ []
+putAt zero e (x ∷ xs) = e ∷ xs
+putAt (suc i) e (x ∷ xs) = x ∷ putAt i e xs
 
 -- what an add request brings, and the entry keeps of it
 pub record NewKey : Type 0 where
@@ -144,4 +174,4 @@ newEntry number reading k = record {
 
 -- "stored, next number taken"
 abbrev pub withEntry : ℕ → Entry → Gateway → Gateway
-withEntry i e g = record { places = set (g .places) i (some e); lock = g .lock; clock = g .clock; next = g .next + 1 }
+withEntry i e g = record { entries = putAt i e (g .entries); lock = g .lock; clock = g .clock; next = g .next + 1 }

@@ -21,7 +21,7 @@ LockRule =
 abbrev pub LockHolds : Type 0
 LockHolds =
     (g : Gateway) (c : Call) (v : List ℕ) → Begins 22 (payloadOf c) → Carries v (payloadOf c) → call g c .outcome ≡ lands SUCCESS
-    → call g c .gateway ≡ record { places = atCall g c .places; lock = v; clock = atCall g c .clock; next = g .next }
+    → call g c .gateway ≡ record { entries = atCall g c .entries; lock = v; clock = atCall g c .clock; next = g .next }
 
 -- a locked gateway past the gate is opened by exactly the stored passphrase, whole
 abbrev pub UnlockRule : Type 0
@@ -33,4 +33,4 @@ UnlockRule =
 abbrev pub UnlockOpens : Type 0
 UnlockOpens =
     (g : Gateway) (c : Call) → Begins 23 (payloadOf c) → call g c .outcome ≡ lands SUCCESS
-    → call g c .gateway ≡ record { places = atCall g c .places; lock = []; clock = atCall g c .clock; next = g .next }
+    → call g c .gateway ≡ record { entries = atCall g c .entries; lock = []; clock = atCall g c .clock; next = g .next }

@@ -172,10 +172,10 @@ AtMostThree = (oracle : Oracle) (g : Gateway) (payload : List ℕ) → questions
 abbrev pub SoundRule : Type 0
 SoundRule = (g : Gateway) → (sound g ≡ true) ↔ Sound g
 
--- "blobs distinct, insertion numbers distinct", of any two places
+-- "blobs distinct, insertion numbers distinct", of any two positions
 abbrev pub SoundApart : Type 0
 SoundApart =
-    (g : Gateway) (i j : ℕ) (e x : Entry) → Sound g → i ≢ j → getD (g .places) i none ≡ some e → getD (g .places) j none ≡ some x
+    (g : Gateway) (i j : ℕ) (e x : Entry) → Sound g → i ≢ j → entryAt (g .entries) i ≡ some e → entryAt (g .entries) j ≡ some x
     → (e .blob ≢ x .blob) × (e .number ≢ x .number)
 
 abbrev pub FreshSound : Type 0

@@ -16,7 +16,7 @@ use Rattle.keys.specs.Kinds.{blobOf}
 use Rattle.keys.specs.Additions.{additionAt}
 use Rattle.rule.specs.declared.Hash.{Hash}
 use Rattle.rule.specs.declared.Hash.the-variants.{Plain, Sha256, Sha512}
-use Rattle.rule.specs.Gateway.{Entry, Place, Gateway, locked, opened, seek, holds, found, entryWith, placeFor, withLock, without, withoutAll, NewKey, newEntry, withEntry}
+use Rattle.rule.specs.Gateway.{Entry, Gateway, locked, opened, seek, holds, found, entryWith, placeFor, withLock, without, withoutAll, NewKey, newEntry, withEntry}
 use Rattle.rule.specs.Soundness.{fit}
 
 -- ## Questions, landings, plans ("One call, six outcomes")
@@ -57,30 +57,25 @@ closes g = land close g
 
 -- ## The bodies, past the gate: what follows the first byte starts at place 1
 
--- 11: "length, 12, count, then per entry in place order the blob as a string and" (#101) the comment "where the empty string stood"
+-- 11: "length, 12, count, then per entry in" list "order the blob as a string and" (#101) the comment "where the empty string stood"
 abbrev pub item : Entry → List ℕ
 item e = string (e .blob) ++ string (e .comment)
-
-unfoldable pub live : List Place → List Entry
-live [] = []
-live (none ∷ ps) = live ps
-live (some e ∷ ps) = e ∷ live ps
 
 unfoldable pub items : List Entry → List ℕ
 items [] = []
 items (e ∷ es) = item e ++ items es
 
-unfoldable pub listed : List Place → List ℕ
-listed ps = string (12 ∷ (be32 (length (live ps)) ++ items (live ps)))
+unfoldable pub listed : List Entry → List ℕ
+listed es = string (12 ∷ (be32 (length es) ++ items es))
 
 unfoldable pub listing : Gateway → Plan
-listing g = land (reply (listed (g .places))) g
+listing g = land (reply (listed (g .entries))) g
 
 -- 18: "blob string; held: removed .., SUCCESS. Absent or malformed: FAILURE."
 unfoldable pub removing : Gateway → List ℕ → Plan
 removing g payload =
     part (λ _. fails g) (stringAt payload 1) λ from to next.
-    found (fails g) (seek (holds (cutOf payload from to)) 0 (g .places)) λ i.
+    found (fails g) (seek (holds (cutOf payload from to)) 0 (g .entries)) λ i.
     land SUCCESS (without i g)
 
 -- 19: "all removed .., SUCCESS"
@@ -131,7 +126,7 @@ confirming g payload (some e) at =
 unfoldable pub signing : Gateway → List ℕ → Plan
 signing g payload =
     part (λ _. closes g) (stringAt payload 1) λ from to next.
-    confirming g payload (entryWith (cutOf payload from to) (g .places)) (next .at)
+    confirming g payload (entryWith (cutOf payload from to) (g .entries)) (next .at)
 
 -- going on with what an add request carries
 unfoldable pub added : {A : Type 0} → A → Addition → (Carried → A) → A
@@ -152,13 +147,13 @@ brought payload c blob = record {
 abbrev pub entryOf : Gateway → List ℕ → Carried → List ℕ → Entry
 entryOf g payload c blob = newEntry (g .next) (g .clock) (brought payload c blob)
 
--- "FAILURE if a length limit is passed, the next insertion number is 2^64-1, or the blob is new and no place is free. Then the key
--- check; no is FAILURE. Else stored, next number taken, SUCCESS."
+-- "FAILURE if a length limit is passed, the next insertion number is 2^64-1, or" there is no room (#112). "Then the key check; no is
+-- FAILURE. Else stored, next number taken, SUCCESS."
 unfoldable pub storing : Gateway → Entry → ℕ → Plan
 storing g e to =
     cond (fit (e .blob) (e .fields) (e .comment))
     (cond (ltb (g .next) lastNumber)
-    (found (fails g) (placeFor (e .blob) (g .places)) λ i.
+    (found (fails g) (placeFor e (g .entries)) λ i.
     ask (check 1 to) λ granted. cond granted (land SUCCESS (withEntry i e g)) (fails g))
     (fails g))
     (fails g)

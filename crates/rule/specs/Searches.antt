@@ -1,4 +1,4 @@
--- What a search over the places answers, in 01's values: the place, or none.
+-- What a search over the list answers, in 01's values: the position, or none.
 use Prim.Native.Nat.{ℕ}
 use mathlib.Core.Option.{Option, none, some}
 use Rattle.rule.specs.declared.Found.{Found}

@@ -1,34 +1,30 @@
 -- 01's soundness, as far as it is not byte layout: as facts, and as the test that refusal 3 makes.
 use Prim.Native.Nat.{ℕ, _≤_, _<_}
-use mathlib.Core.Path.{_≡_}
 use mathlib.Core.Logic.{_≢_}
 use mathlib.Core.Bool.{Bool, true, _&&_, not}
-use mathlib.Core.Option.{none, some}
 use mathlib.Core.List.{List, [], _∷_}
 use lib.ListN.{length}
 use lib.Dec.{leb, ltb, eqb}
-use Rattle.wire.specs.Limits.{blobLimit, fieldsLimit, commentLimit, passphraseLimit, lastNumber}
+use Rattle.wire.specs.Limits.{entriesLimit, storeSize, blobLimit, fieldsLimit, commentLimit, passphraseLimit, lastNumber}
 use Rattle.wire.specs.Numbers.{within}
 use Rattle.wire.specs.Read.{same}
 use Rattle.rule.specs.declared.Millis.{Millis}
-use Rattle.rule.specs.Gateway.{Entry, Place, Gateway}
+use Rattle.rule.specs.Gateway.{Entry, Gateway, allLengths}
 
 -- ## The facts
 
-abbrev pub EveryEntry : (Entry → Type 0) → List Place → Type 0
+abbrev pub EveryEntry : (Entry → Type 0) → List Entry → Type 0
 EveryEntry P [] = Unit {0}
-EveryEntry P (none ∷ ps) = EveryEntry P ps
-EveryEntry P (some e ∷ ps) = P e × EveryEntry P ps
+EveryEntry P (e ∷ es) = P e × EveryEntry P es
 
 -- "blobs distinct, insertion numbers distinct"
 pub record Apart (e x : Entry) : Type 0 where
   pub blobs : e .blob ≢ x .blob
   pub numbers : e .number ≢ x .number
 
-abbrev pub Distinct : List Place → Type 0
+abbrev pub Distinct : List Entry → Type 0
 Distinct [] = Unit {0}
-Distinct (none ∷ ps) = Distinct ps
-Distinct (some e ∷ ps) = EveryEntry (Apart e) ps × Distinct ps
+Distinct (e ∷ es) = EveryEntry (Apart e) es × Distinct es
 
 -- "lengths within limits"
 pub record Fits (blob fields comment : List ℕ) : Type 0 where
@@ -45,27 +41,26 @@ pub record SoundEntry (clock : Millis) (next : ℕ) (e : Entry) : Type 0 where
   pub reading-past : e .reading .count ≤ clock .count
 
 pub record Sound (g : Gateway) : Type 0 where
-  pub eight-places : length (g .places) ≡ 8
-  pub entries : EveryEntry (SoundEntry (g .clock) (g .next)) (g .places)
-  pub distinct : Distinct (g .places)
+  pub few : length (g .entries) ≤ entriesLimit
+  pub room : allLengths (g .entries) ≤ storeSize
+  pub entries : EveryEntry (SoundEntry (g .clock) (g .next)) (g .entries)
+  pub distinct : Distinct (g .entries)
   pub lock-fits : length (g .lock) ≤ passphraseLimit
   pub next-first : 1 ≤ g .next
   pub next-last : g .next ≤ lastNumber
 
 -- ## The test
 
-unfoldable pub everyEntry : (Entry → Bool) → List Place → Bool
+unfoldable pub everyEntry : (Entry → Bool) → List Entry → Bool
 everyEntry test [] = true
-everyEntry test (none ∷ ps) = everyEntry test ps
-everyEntry test (some e ∷ ps) = test e && everyEntry test ps
+everyEntry test (e ∷ es) = test e && everyEntry test es
 
 abbrev pub apart : Entry → Entry → Bool
 apart e x = not (same (e .blob) (x .blob)) && not (eqb (e .number) (x .number))
 
-unfoldable pub distinct : List Place → Bool
+unfoldable pub distinct : List Entry → Bool
 distinct [] = true
-distinct (none ∷ ps) = distinct ps
-distinct (some e ∷ ps) = everyEntry (apart e) ps && distinct ps
+distinct (e ∷ es) = everyEntry (apart e) es && distinct es
 
 unfoldable pub fit : List ℕ → List ℕ → List ℕ → Bool
 fit blob fields comment = within 1 blobLimit (length blob) && (within 1 fieldsLimit (length fields) && leb (length comment) commentLimit)
@@ -77,5 +72,5 @@ soundEntry clock next e =
 
 unfoldable pub sound : Gateway → Bool
 sound g =
-    (eqb (length (g .places)) 8 && everyEntry (soundEntry (g .clock) (g .next)) (g .places))
-    && (distinct (g .places) && (leb (length (g .lock)) passphraseLimit && within 1 lastNumber (g .next)))
+    ((leb (length (g .entries)) entriesLimit && leb (allLengths (g .entries)) storeSize) && everyEntry (soundEntry (g .clock) (g .next)) (g .entries))
+    && (distinct (g .entries) && (leb (length (g .lock)) passphraseLimit && within 1 lastNumber (g .next)))

@@ -8,6 +8,7 @@ use Rattle.wire.specs.Numbers.{Bytes}
 use Rattle.keys.specs.declared.constraints.Lifetime.the-variants.{For}
 use Rattle.rule.specs.declared.Millis.{Millis}
 use Rattle.rule.specs.Gateway.{Entry, Gateway, NewKey}
+use Rattle.rule.specs.Soundness.{Sound}
 use Rattle.rule.specs.Rule.{SUCCESS}
 use Rattle.rule.specs.Calls.{Call, refusal, lands, call}
 use Rattle.rule.specs.Words.{Begins, Carries, HeldAt, Held, payloadOf}
@@ -37,6 +38,8 @@ UsableUntil =
     (g : Gateway) (c : Call) (e : Entry) → Bytes (payloadOf c) → Held g e
     → Held (call g c .gateway) e ⊎ Leaves g c e
 
--- an entry that is still held stands where it stood
-abbrev pub PlacesStay : Type 0
-PlacesStay = (g : Gateway) (c : Call) (i : ℕ) (e : Entry) → HeldAt g i e → Held (call g c .gateway) e → HeldAt (call g c .gateway) i e
+-- entries that are still held stand in the order in which they stood
+abbrev pub OrderStays : Type 0
+OrderStays =
+    (g : Gateway) (c : Call) (i j k l : ℕ) (e x : Entry) → Sound g → HeldAt g i e → HeldAt g j x → i < j
+    → HeldAt (call g c .gateway) k e → HeldAt (call g c .gateway) l x → k < l

@@ -8,7 +8,7 @@ use lib.ListN.{length, getD}
 use Rattle.wire.specs.declared.read.Cursor.{Cursor}
 use Rattle.wire.specs.declared.read.Part.the-variants.{Whole}
 use Rattle.wire.specs.Read.{cutOf, stringAt}
-use Rattle.rule.specs.Gateway.{Entry, Gateway, advance}
+use Rattle.rule.specs.Gateway.{Entry, Gateway, entryAt, advance}
 use Rattle.rule.specs.Calls.{Call, refusal}
 
 -- the first byte of a payload that has one
@@ -24,17 +24,13 @@ pub record Carries (v payload : List ℕ) : Type 0 where
   pub read : stringAt payload 1 ≡ Whole from to next
   pub is : cutOf payload from to ≡ v
 
--- place i holds e
+-- e stands at position i of the list
 abbrev pub HeldAt : Gateway → ℕ → Entry → Type 0
-HeldAt g i e = getD (g .places) i none ≡ some e
+HeldAt g i e = entryAt (g .entries) i ≡ some e
 
 -- e is held
 abbrev pub Held : Gateway → Entry → Type 0
 Held g e = (i : ℕ) × HeldAt g i e
-
--- place i is free
-abbrev pub FreeAt : Gateway → ℕ → Type 0
-FreeAt g i = (i < length (g .places)) × (getD (g .places) i none ≡ none)
 
 -- the gateway at the call's landing: its clock raised, due entries gone
 abbrev pub atCall : Gateway → Call → Gateway
@@ -48,8 +44,8 @@ pub record PastGate (g : Gateway) (c : Call) : Type 0 where
   pub accepted : refusal g c ≡ none
   pub gate : c .answers .gate ≡ some true
 
--- two gateways agree in all but the places
-pub record SameButPlaces (g h : Gateway) : Type 0 where
+-- two gateways agree in all but the entries
+pub record SameButEntries (g h : Gateway) : Type 0 where
   pub lock : g .lock ≡ h .lock
   pub clock : g .clock ≡ h .clock
   pub next : g .next ≡ h .next

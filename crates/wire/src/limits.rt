@@ -2,7 +2,7 @@
 
 pub const PAYLOAD_LIMIT: usize = 262144;
 
-pub const PLACE_SIZE: usize = 4096;
+pub const ENTRIES_LIMIT: usize = 24;
 
 pub const STORE_SIZE: usize = 32768;
 
@@ -10,14 +10,12 @@ pub const BLOB_LIMIT: usize = 1024;
 
 pub const FIELDS_LIMIT: usize = 3072;
 
-pub const FIELDS_AT: usize = PLACE_SIZE - FIELDS_LIMIT;
-
 pub const COMMENT_LIMIT: usize = 255;
 
 pub const PASSPHRASE_LIMIT: usize = 1024;
 
 pub const SIGNATURE_LIMIT: usize = 2048;
 
-pub const REPLY_ROOM: usize = 10305;
+pub const REPLY_ROOM: usize = 30897;
 
 pub const LAST_NUMBER: u64 = 0xffff_ffff_ffff_ffff;
