@@ -5,10 +5,10 @@ use mathlib.Core.Logic.{_↔_, _≢_}
 use mathlib.Core.Bool.{Bool, true, false}
 use mathlib.Core.Option.{Option, none, some}
 use mathlib.Core.List.{List, [], _∷_}
-use lib.ListN.{length, getD}
+use lib.ListN.{length}
 use Rattle.wire.specs.Limits.{replyRoom}
 use Rattle.rule.specs.declared.Millis.{Millis}
-use Rattle.rule.specs.Gateway.{Entry, Gateway, zeroMillis, fresh, locked, advance}
+use Rattle.rule.specs.Gateway.{Entry, Gateway, entryAt, zeroMillis, fresh, locked, advance}
 use Rattle.rule.specs.Soundness.{Sound, sound}
 use Rattle.rule.specs.Rule.{Question, gate, check, confirmation, signature, Answer, Landing, reply, FAILURE, SUCCESS, Plan, land, ask, rule}
 use Rattle.rule.specs.Calls.{given, lent, Frame, Call, refusal, refused, asks, lands, call}
