@@ -14,7 +14,6 @@ use server::call::Row;
 use server::call::lent_length;
 use server::call::row_in;
 use soundness::is_sound;
-use table::COMMENTS_SIZE;
 use table::Kept;
 use table::locks::is_locked;
 use turnover::add::add_key;
@@ -43,7 +42,6 @@ fn respond(
     seconds: &mut [u32],
     limited: &mut [u8],
     confirm: &mut [u8],
-    comments: &mut [u8],
     passphrase: &mut [u8],
     kept: Kept,
     store: &mut [u8],
@@ -52,8 +50,8 @@ fn respond(
     signature: &[u8],
     reply: &mut [u8],
 ) -> Landed
-    requires { ⌜ (replyRoom ≤ length (now reply)) × (lentLength (lentOf answers (now signature) .signature) ≤ signatureLimit) × Sound (held (columns (now numbers) (now readings) (now «blob_lens») (now «fields_lens») (now «comment_lens») (now seconds) (now limited) (now confirm)) (now comments) (now passphrase) kept) (now store) ⌝ }
-    ensures { λ r. ⌜ Ends (now (reply .entry)) (record { outcome = r .outcome; state = (held (columns (now (numbers .exit)) (now (readings .exit)) (now («blob_lens» .exit)) (now («fields_lens» .exit)) (now («comment_lens» .exit)) (now (seconds .exit)) (now (limited .exit)) (now (confirm .exit))) (now (comments .exit)) (now (passphrase .exit)) (r .kept)) }) (now (store .exit)) (now (reply .exit)) (served (gatewayOf (held (columns (now (numbers .entry)) (now (readings .entry)) (now («blob_lens» .entry)) (now («fields_lens» .entry)) (now («comment_lens» .entry)) (now (seconds .entry)) (now (limited .entry)) (now (confirm .entry))) (now (comments .entry)) (now (passphrase .entry)) kept) (now (store .entry))) (record { payload = now (payload .entry) }) (lentOf answers (now (signature .entry)))) ⌝ }
+    requires { ⌜ (replyRoom ≤ length (now reply)) × (lentLength (lentOf answers (now signature) .signature) ≤ signatureLimit) × Sound (held (columns (now numbers) (now readings) (now «blob_lens») (now «fields_lens») (now «comment_lens») (now seconds) (now limited) (now confirm)) (now passphrase) kept) (now store) ⌝ }
+    ensures { λ r. ⌜ Ends (now (reply .entry)) (record { outcome = r .outcome; state = (held (columns (now (numbers .exit)) (now (readings .exit)) (now («blob_lens» .exit)) (now («fields_lens» .exit)) (now («comment_lens» .exit)) (now (seconds .exit)) (now (limited .exit)) (now (confirm .exit))) (now (passphrase .exit)) (r .kept)) }) (now (store .exit)) (now (reply .exit)) (served (gatewayOf (held (columns (now (numbers .entry)) (now (readings .entry)) (now («blob_lens» .entry)) (now («fields_lens» .entry)) (now («comment_lens» .entry)) (now (seconds .entry)) (now (limited .entry)) (now (confirm .entry))) (now (passphrase .entry)) kept) (now (store .entry))) (record { payload = now (payload .entry) }) (lentOf answers (now (signature .entry)))) ⌝ }
 {
     let locked = is_locked(kept.locked);
     let gate = answers.gate;
@@ -68,7 +66,14 @@ fn respond(
             kept,
         },
         Row::List => Landed {
-            outcome: request_identities(numbers, blob_lens, comment_lens, comments, store, reply),
+            outcome: request_identities(
+                numbers,
+                blob_lens,
+                fields_lens,
+                comment_lens,
+                store,
+                reply,
+            ),
             kept,
         },
         Row::Add(constrained) => add_key(
@@ -80,7 +85,6 @@ fn respond(
             seconds,
             limited,
             confirm,
-            comments,
             kept,
             store,
             payload,
@@ -98,7 +102,6 @@ fn respond(
                 seconds,
                 limited,
                 confirm,
-                comments,
                 store,
                 payload,
                 reply,
@@ -115,7 +118,6 @@ fn respond(
                 seconds,
                 limited,
                 confirm,
-                comments,
                 store,
                 reply,
             ),
@@ -126,6 +128,8 @@ fn respond(
                 numbers,
                 confirm,
                 blob_lens,
+                fields_lens,
+                comment_lens,
                 store,
                 payload,
                 answers,
@@ -158,7 +162,6 @@ fn call_sound(
     seconds: &mut [u32],
     limited: &mut [u8],
     confirm: &mut [u8],
-    comments: &mut [u8],
     passphrase: &mut [u8],
     kept: Kept,
     store: &mut [u8],
@@ -168,8 +171,8 @@ fn call_sound(
     signature: &[u8],
     reply: &mut [u8],
 ) -> Landed
-    requires { ⌜ Sound (held (columns (now numbers) (now readings) (now «blob_lens») (now «fields_lens») (now «comment_lens») (now seconds) (now limited) (now confirm)) (now comments) (now passphrase) kept) (now store) ⌝ }
-    ensures { λ r. ⌜ Meets (held (columns (now (numbers .entry)) (now (readings .entry)) (now («blob_lens» .entry)) (now («fields_lens» .entry)) (now («comment_lens» .entry)) (now (seconds .entry)) (now (limited .entry)) (now (confirm .entry))) (now (comments .entry)) (now (passphrase .entry)) kept) (now (store .entry)) (now (payload .entry)) reading answers (now (signature .entry)) (now (reply .entry)) (r .outcome) (held (columns (now (numbers .exit)) (now (readings .exit)) (now («blob_lens» .exit)) (now («fields_lens» .exit)) (now («comment_lens» .exit)) (now (seconds .exit)) (now (limited .exit)) (now (confirm .exit))) (now (comments .exit)) (now (passphrase .exit)) (r .kept)) (now (store .exit)) (now (reply .exit)) ⌝ }
+    requires { ⌜ Sound (held (columns (now numbers) (now readings) (now «blob_lens») (now «fields_lens») (now «comment_lens») (now seconds) (now limited) (now confirm)) (now passphrase) kept) (now store) ⌝ }
+    ensures { λ r. ⌜ Meets (held (columns (now (numbers .entry)) (now (readings .entry)) (now («blob_lens» .entry)) (now («fields_lens» .entry)) (now («comment_lens» .entry)) (now (seconds .entry)) (now (limited .entry)) (now (confirm .entry))) (now (passphrase .entry)) kept) (now (store .entry)) (now (payload .entry)) reading answers (now (signature .entry)) (now (reply .entry)) (r .outcome) (held (columns (now (numbers .exit)) (now (readings .exit)) (now («blob_lens» .exit)) (now («fields_lens» .exit)) (now («comment_lens» .exit)) (now (seconds .exit)) (now (limited .exit)) (now (confirm .exit))) (now (passphrase .exit)) (r .kept)) (now (store .exit)) (now (reply .exit)) ⌝ }
 {
     if reply.len() < limits::REPLY_ROOM {
         return refused(1, kept);
@@ -190,7 +193,6 @@ fn call_sound(
         seconds,
         limited,
         confirm,
-        comments,
         kept,
         store,
         reading,
@@ -204,7 +206,6 @@ fn call_sound(
         seconds,
         limited,
         confirm,
-        comments,
         passphrase,
         raised,
         store,
@@ -215,7 +216,7 @@ fn call_sound(
     )
 }
 
-// The core: columns, comments and passphrase are lent, and what is no column goes by value.
+// The core: columns and passphrase are lent, and what is no column goes by value.
 fn call_core(
     numbers: &mut [u64],
     readings: &mut [u64],
@@ -225,7 +226,6 @@ fn call_core(
     seconds: &mut [u32],
     limited: &mut [u8],
     confirm: &mut [u8],
-    comments: &mut [u8],
     passphrase: &mut [u8],
     kept: Kept,
     store: &mut [u8],
@@ -235,7 +235,7 @@ fn call_core(
     signature: &[u8],
     reply: &mut [u8],
 ) -> Landed
-    ensures { λ r. ⌜ Meets (held (columns (now (numbers .entry)) (now (readings .entry)) (now («blob_lens» .entry)) (now («fields_lens» .entry)) (now («comment_lens» .entry)) (now (seconds .entry)) (now (limited .entry)) (now (confirm .entry))) (now (comments .entry)) (now (passphrase .entry)) kept) (now (store .entry)) (now (payload .entry)) reading answers (now (signature .entry)) (now (reply .entry)) (r .outcome) (held (columns (now (numbers .exit)) (now (readings .exit)) (now («blob_lens» .exit)) (now («fields_lens» .exit)) (now («comment_lens» .exit)) (now (seconds .exit)) (now (limited .exit)) (now (confirm .exit))) (now (comments .exit)) (now (passphrase .exit)) (r .kept)) (now (store .exit)) (now (reply .exit)) ⌝ }
+    ensures { λ r. ⌜ Meets (held (columns (now (numbers .entry)) (now (readings .entry)) (now («blob_lens» .entry)) (now («fields_lens» .entry)) (now («comment_lens» .entry)) (now (seconds .entry)) (now (limited .entry)) (now (confirm .entry))) (now (passphrase .entry)) kept) (now (store .entry)) (now (payload .entry)) reading answers (now (signature .entry)) (now (reply .entry)) (r .outcome) (held (columns (now (numbers .exit)) (now (readings .exit)) (now («blob_lens» .exit)) (now («fields_lens» .exit)) (now («comment_lens» .exit)) (now (seconds .exit)) (now (limited .exit)) (now (confirm .exit))) (now (passphrase .exit)) (r .kept)) (now (store .exit)) (now (reply .exit)) ⌝ }
 {
     if reply.len() < limits::REPLY_ROOM {
         return refused(1, kept);
@@ -252,7 +252,6 @@ fn call_core(
         seconds,
         limited,
         confirm,
-        comments,
         passphrase,
         kept,
         store,
@@ -268,7 +267,6 @@ fn call_core(
         seconds,
         limited,
         confirm,
-        comments,
         passphrase,
         kept,
         store,
@@ -282,15 +280,14 @@ fn call_core(
 
 // One call over the lent arrays of a state; what is no array goes by value and comes back. Outcome, state, store and reply buffer are what `callOf` says.
 pub fn call_lent(
-    numbers: &mut [u64; 8],
-    readings: &mut [u64; 8],
-    blob_lens: &mut [usize; 8],
-    fields_lens: &mut [usize; 8],
-    comment_lens: &mut [usize; 8],
-    seconds: &mut [u32; 8],
-    limited: &mut [u8; 8],
-    confirm: &mut [u8; 8],
-    comments: &mut [u8; COMMENTS_SIZE],
+    numbers: &mut [u64; limits::ENTRIES_LIMIT],
+    readings: &mut [u64; limits::ENTRIES_LIMIT],
+    blob_lens: &mut [usize; limits::ENTRIES_LIMIT],
+    fields_lens: &mut [usize; limits::ENTRIES_LIMIT],
+    comment_lens: &mut [usize; limits::ENTRIES_LIMIT],
+    seconds: &mut [u32; limits::ENTRIES_LIMIT],
+    limited: &mut [u8; limits::ENTRIES_LIMIT],
+    confirm: &mut [u8; limits::ENTRIES_LIMIT],
     passphrase: &mut [u8; limits::PASSPHRASE_LIMIT],
     kept: Kept,
     store: &mut [u8],
@@ -300,7 +297,7 @@ pub fn call_lent(
     signature: &[u8],
     reply: &mut [u8],
 ) -> Landed
-    ensures { λ r. ⌜ Meets (held (columns (now (numbers .entry)) (now (readings .entry)) (now («blob_lens» .entry)) (now («fields_lens» .entry)) (now («comment_lens» .entry)) (now (seconds .entry)) (now (limited .entry)) (now (confirm .entry))) (now (comments .entry)) (now (passphrase .entry)) kept) (now (store .entry)) (now (payload .entry)) reading answers (now (signature .entry)) (now (reply .entry)) (r .outcome) (held (columns (now (numbers .exit)) (now (readings .exit)) (now («blob_lens» .exit)) (now («fields_lens» .exit)) (now («comment_lens» .exit)) (now (seconds .exit)) (now (limited .exit)) (now (confirm .exit))) (now (comments .exit)) (now (passphrase .exit)) (r .kept)) (now (store .exit)) (now (reply .exit)) ⌝ }
+    ensures { λ r. ⌜ Meets (held (columns (now (numbers .entry)) (now (readings .entry)) (now («blob_lens» .entry)) (now («fields_lens» .entry)) (now («comment_lens» .entry)) (now (seconds .entry)) (now (limited .entry)) (now (confirm .entry))) (now (passphrase .entry)) kept) (now (store .entry)) (now (payload .entry)) reading answers (now (signature .entry)) (now (reply .entry)) (r .outcome) (held (columns (now (numbers .exit)) (now (readings .exit)) (now («blob_lens» .exit)) (now («fields_lens» .exit)) (now («comment_lens» .exit)) (now (seconds .exit)) (now (limited .exit)) (now (confirm .exit))) (now (passphrase .exit)) (r .kept)) (now (store .exit)) (now (reply .exit)) ⌝ }
 {
     call_core(
         numbers,
@@ -311,7 +308,6 @@ pub fn call_lent(
         seconds,
         limited,
         confirm,
-        comments,
         passphrase,
         kept,
         store,

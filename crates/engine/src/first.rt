@@ -5,7 +5,6 @@ use rule::Millis;
 use server::first::First;
 use server::first::first_in;
 use server::first::nothing_lent;
-use table::COMMENTS_SIZE;
 use table::Kept;
 use wire::frame::Split;
 use wire::frame::frame_payload;
@@ -24,15 +23,14 @@ pub struct Heard {
 
 // What the bytes that no request has used come to, over the lent arrays of a state; state, store and reply buffer as `firstOf` says.
 pub fn first_lent(
-    numbers: &mut [u64; 8],
-    readings: &mut [u64; 8],
-    blob_lens: &mut [usize; 8],
-    fields_lens: &mut [usize; 8],
-    comment_lens: &mut [usize; 8],
-    seconds: &mut [u32; 8],
-    limited: &mut [u8; 8],
-    confirm: &mut [u8; 8],
-    comments: &mut [u8; COMMENTS_SIZE],
+    numbers: &mut [u64; limits::ENTRIES_LIMIT],
+    readings: &mut [u64; limits::ENTRIES_LIMIT],
+    blob_lens: &mut [usize; limits::ENTRIES_LIMIT],
+    fields_lens: &mut [usize; limits::ENTRIES_LIMIT],
+    comment_lens: &mut [usize; limits::ENTRIES_LIMIT],
+    seconds: &mut [u32; limits::ENTRIES_LIMIT],
+    limited: &mut [u8; limits::ENTRIES_LIMIT],
+    confirm: &mut [u8; limits::ENTRIES_LIMIT],
     passphrase: &mut [u8; limits::PASSPHRASE_LIMIT],
     kept: Kept,
     store: &mut [u8],
@@ -40,7 +38,7 @@ pub fn first_lent(
     reading: Millis,
     reply: &mut [u8],
 ) -> Heard
-    ensures { λ r. ⌜ FirstMeets (held (columns (now (numbers .entry)) (now (readings .entry)) (now («blob_lens» .entry)) (now («fields_lens» .entry)) (now («comment_lens» .entry)) (now (seconds .entry)) (now (limited .entry)) (now (confirm .entry))) (now (comments .entry)) (now (passphrase .entry)) kept) (now (store .entry)) (now (bytes .entry)) reading (now (reply .entry)) (r .first) (held (columns (now (numbers .exit)) (now (readings .exit)) (now («blob_lens» .exit)) (now («fields_lens» .exit)) (now («comment_lens» .exit)) (now (seconds .exit)) (now (limited .exit)) (now (confirm .exit))) (now (comments .exit)) (now (passphrase .exit)) (r .kept)) (now (store .exit)) (now (reply .exit)) ⌝ }
+    ensures { λ r. ⌜ FirstMeets (held (columns (now (numbers .entry)) (now (readings .entry)) (now («blob_lens» .entry)) (now («fields_lens» .entry)) (now («comment_lens» .entry)) (now (seconds .entry)) (now (limited .entry)) (now (confirm .entry))) (now (passphrase .entry)) kept) (now (store .entry)) (now (bytes .entry)) reading (now (reply .entry)) (r .first) (held (columns (now (numbers .exit)) (now (readings .exit)) (now («blob_lens» .exit)) (now («fields_lens» .exit)) (now («comment_lens» .exit)) (now (seconds .exit)) (now (limited .exit)) (now (confirm .exit))) (now (passphrase .exit)) (r .kept)) (now (store .exit)) (now (reply .exit)) ⌝ }
 {
     match read_frame(bytes) {
         Split::MoreNeeded => Heard {
@@ -63,7 +61,6 @@ pub fn first_lent(
                 seconds,
                 limited,
                 confirm,
-                comments,
                 passphrase,
                 kept,
                 store,

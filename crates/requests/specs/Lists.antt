@@ -1,14 +1,8 @@
--- What one place adds to a list reply: to its items, and to its count. A free place adds nothing.
-use Prim.Native.Nat.{ℕ}
-use mathlib.Core.Option.{none, some}
-use mathlib.Core.List.{List, []}
-use Rattle.rule.specs.Gateway.{Place}
-use Rattle.rule.specs.Rule.{item}
+-- What one entry adds to a list reply, by where its bytes lie: its blob of n bytes, and its comment of c bytes behind m bytes of fields.
+use Prim.Native.Nat.{ℕ, _+_}
+use mathlib.Core.List.{List, _++_}
+use lib.ListN.{take, drop}
+use Rattle.wire.specs.Write.{string}
 
-abbrev pub itemIn : Place → List ℕ
-itemIn none = []
-itemIn (some e) = item e
-
-abbrev pub countIn : Place → ℕ
-countIn none = 0
-countIn (some e) = 1
+abbrev pub itemIn : List ℕ → ℕ → ℕ → ℕ → ℕ → List ℕ
+itemIn x from n m c = string (take n (drop from x)) ++ string (take c (drop (from + (n + m)) x))

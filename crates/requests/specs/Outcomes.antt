@@ -11,11 +11,9 @@ use Rattle.wire.specs.Promises.{OneToOne}
 use Rattle.wire.specs.Write.{write}
 use Rattle.rule.specs.declared.Hash.{Hash}
 use Rattle.rule.specs.declared.Hash.the-variants.{Plain, Sha256, Sha512}
-use Rattle.rule.specs.Gateway.{Place}
 use Rattle.rule.specs.Rule.{gate, check, confirmation, signature, reply, close}
 use Rattle.rule.specs.Calls as rule
 use Rattle.rule.specs.Calls.{Numbered, forNumber, refused, asks, lands}
-use Rattle.table.specs.Meaning.{numberIn, confirmIn}
 use Rattle.requests.specs.declared.Said.{Said}
 use Rattle.requests.specs.declared.Said.the-variants as said
 use Rattle.requests.specs.declared.Confirmed.{Confirmed}
@@ -37,9 +35,9 @@ abbrev pub confirmationOf : Confirmed → Option (Numbered Bool)
 confirmationOf confirmed.Missing = none
 confirmationOf (confirmed.Given n granted) = some (record { number = n; answer = granted })
 
--- what is said of a signature with the key of a place: yes where it has no Confirm, else the confirmation that counts for it
-unfoldable pub agreed : Place → Option (Numbered Bool) → Option Bool
-agreed p c = cond (confirmIn p) (forNumber (numberIn p) c) (some true)
+-- what is said of a signature with a key of this number: yes where it has no Confirm, else the confirmation that counts for it
+unfoldable pub agreed : ℕ → Bool → Option (Numbered Bool) → Option Bool
+agreed number confirm c = cond confirm (forNumber number c) (some true)
 
 abbrev pub signatureOf : Signed → List ℕ → Option (Numbered (Option (List ℕ)))
 signatureOf signed.Missing bytes = none

@@ -27,7 +27,7 @@ ghost use Rattle.requests.specs.Ends.{Ends, Answered};
 // The lock is this passphrase; an empty one opens.
 fn set_lock(passphrase: &mut [u8], kept: Kept, p: &[u8], reply: &mut [u8]) -> Landed
     requires { ⌜ (5 ≤ length (now reply)) × (length (now passphrase) ≡ passphraseLimit) × (length (now p) ≤ passphraseLimit) ⌝ }
-    ensures { λ r. ⌜ Answered 6 (now (reply .entry)) (r .outcome) (now (reply .exit)) × ((t : Columns) (cs x : List ℕ) → Sound (held t cs (now (passphrase .entry)) kept) x → Means (held t cs (now (passphrase .exit)) (r .kept)) x (withLock (now (p .entry)) (gatewayOf (held t cs (now (passphrase .entry)) kept) x))) ⌝ }
+    ensures { λ r. ⌜ Answered 6 (now (reply .entry)) (r .outcome) (now (reply .exit)) × ((t : Columns) (x : List ℕ) → Sound (held t (now (passphrase .entry)) kept) x → Means (held t (now (passphrase .exit)) (r .kept)) x (withLock (now (p .entry)) (gatewayOf (held t (now (passphrase .entry)) kept) x))) ⌝ }
 {
     let clock = kept.clock;
     let locked = locks::keep_passphrase(passphrase, p);
@@ -44,7 +44,7 @@ fn set_lock(passphrase: &mut [u8], kept: Kept, p: &[u8], reply: &mut [u8]) -> La
 // 22
 pub fn lock(passphrase: &mut [u8], kept: Kept, payload: &[u8], reply: &mut [u8]) -> Landed
     requires { ⌜ (5 ≤ length (now reply)) × SoundKept (now passphrase) kept ⌝ }
-    ensures { λ r. ⌜ ((t : Columns) (cs x : List ℕ) → Sound (held t cs (now (passphrase .entry)) kept) x → (a : rule.Answers) → Ends (now (reply .entry)) (record { outcome = r .outcome; state = held t cs (now (passphrase .exit)) (r .kept) }) x (now (reply .exit)) (follow (lent a) (gatewayOf (held t cs (now (passphrase .entry)) kept) x) (locking (gatewayOf (held t cs (now (passphrase .entry)) kept) x) (now (payload .entry))))) ⌝ }
+    ensures { λ r. ⌜ ((t : Columns) (x : List ℕ) → Sound (held t (now (passphrase .entry)) kept) x → (a : rule.Answers) → Ends (now (reply .entry)) (record { outcome = r .outcome; state = held t (now (passphrase .exit)) (r .kept) }) x (now (reply .exit)) (follow (lent a) (gatewayOf (held t (now (passphrase .entry)) kept) x) (locking (gatewayOf (held t (now (passphrase .entry)) kept) x) (now (payload .entry))))) ⌝ }
 {
     let start = Cursor { at: 1 };
     let Part::Whole { from, to, next: _ } = start.string(payload) else {
@@ -65,7 +65,7 @@ pub fn lock(passphrase: &mut [u8], kept: Kept, payload: &[u8], reply: &mut [u8])
 // 23
 pub fn unlock(passphrase: &mut [u8], kept: Kept, payload: &[u8], reply: &mut [u8]) -> Landed
     requires { ⌜ (5 ≤ length (now reply)) × SoundKept (now passphrase) kept ⌝ }
-    ensures { λ r. ⌜ ((t : Columns) (cs x : List ℕ) → Sound (held t cs (now (passphrase .entry)) kept) x → (a : rule.Answers) → Ends (now (reply .entry)) (record { outcome = r .outcome; state = held t cs (now (passphrase .exit)) (r .kept) }) x (now (reply .exit)) (follow (lent a) (gatewayOf (held t cs (now (passphrase .entry)) kept) x) (unlocking (gatewayOf (held t cs (now (passphrase .entry)) kept) x) (now (payload .entry))))) ⌝ }
+    ensures { λ r. ⌜ ((t : Columns) (x : List ℕ) → Sound (held t (now (passphrase .entry)) kept) x → (a : rule.Answers) → Ends (now (reply .entry)) (record { outcome = r .outcome; state = held t (now (passphrase .exit)) (r .kept) }) x (now (reply .exit)) (follow (lent a) (gatewayOf (held t (now (passphrase .entry)) kept) x) (unlocking (gatewayOf (held t (now (passphrase .entry)) kept) x) (now (payload .entry))))) ⌝ }
 {
     let start = Cursor { at: 1 };
     let Part::Whole { from, to, next: _ } = start.string(payload) else {

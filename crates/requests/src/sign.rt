@@ -9,7 +9,8 @@ use crate::Signed;
 use crate::replies::failure;
 use rule::Found;
 use rule::Hash;
-use table::places;
+use table::entries;
+use table::is_set;
 use wire::msg;
 use wire::read::Cursor;
 use wire::read::Number;
@@ -20,16 +21,16 @@ use wire::write::put_number;
 use wire::write::put_string;
 ghost use mathlib.Core.Path.{_≡_};
 ghost use mathlib.Core.List.{List};
-ghost use mathlib.Core.Option.{none, some};
-ghost use Prim.Native.Nat.{ℕ, _≤_, _<_};
-ghost use lib.ListN.{length, getD};
+ghost use mathlib.Core.Option.{some};
+ghost use Prim.Native.Nat.{ℕ, _≤_};
+ghost use lib.ListN.{length};
 ghost use Rattle.wire.specs.Limits.{signatureLimit, replyRoom};
 ghost use Rattle.wire.specs.Write.{write};
 ghost use Rattle.rule.specs.Gateway.{Entry as Key};
 ghost use Rattle.rule.specs.Rule.{hashOf, signatureReply, signingData, confirming, signing};
 ghost use Rattle.rule.specs.Calls.{lent, forNumber, lentLength, follow};
 ghost use Rattle.table.specs.declared.State.{State};
-ghost use Rattle.table.specs.Meaning.{gatewayOf};
+ghost use Rattle.table.specs.Meaning.{isSet, gatewayOf};
 ghost use Rattle.table.specs.Soundness.{Sound};
 ghost use Rattle.table.specs.Shown.{SoundOf, ShowsKeys};
 ghost use Rattle.requests.specs.Outcomes.{confirmationOf, agreed, signatureOf, grantOf, handed, lentOf};
@@ -66,15 +67,14 @@ fn confirmed_for(c: Confirmed, number: u64) -> Said
     }
 }
 
-// What is said of a signature with the key of place i: yes where it has no Confirm.
-fn consent(numbers: &[u64], confirm: &[u8], i: usize, c: Confirmed) -> Said
-    requires { ⌜ (i < 8) × (length (now numbers) ≡ 8) × (length (now confirm) ≡ 8) ⌝ }
-    ensures { λ r. ⌜ ((s : State) (x : List ℕ) → s .columns .numbers ≡ now (numbers .entry) → s .columns .confirm ≡ now (confirm .entry) → Sound s x → agreed (getD (gatewayOf s x .places) i none) (confirmationOf c) ≡ grantOf r) ⌝ }
+// What is said of a signature with a key of this number and this flag for Confirm: yes where it has no Confirm.
+fn consent(number: u64, confirm: u8, c: Confirmed) -> Said
+    ensures { λ r. ⌜ agreed number (isSet confirm) (confirmationOf c) ≡ grantOf r ⌝ }
 {
-    if !places::confirm_at(confirm, i) {
+    if !is_set(confirm) {
         return Said::Yes;
     }
-    confirmed_for(c, places::number_at(numbers, i))
+    confirmed_for(c, number)
 }
 
 // The signer's answer that counts for this insertion number: none, nothing given, or the bytes beside it.
@@ -143,23 +143,21 @@ fn sign_data(
     }
 }
 
-// The key of place i was found: its Confirm, then the rest.
+// A key of this number and this flag for Confirm was found: its Confirm, then the rest.
 fn sign_with(
-    numbers: &[u64],
-    confirm: &[u8],
+    number: u64,
+    confirm: u8,
     payload: &[u8],
     at: Cursor,
-    i: usize,
     answers: Answers,
     signature: &[u8],
     reply: &mut [u8],
 ) -> Outcome
-    requires { ⌜ (i < 8) × (length (now numbers) ≡ 8) × (length (now confirm) ≡ 8) × (replyRoom ≤ length (now reply)) × (lentLength (lentOf answers (now signature) .signature) ≤ signatureLimit) ⌝ }
-    ensures { λ r. ⌜ ((s : State) (x : List ℕ) → s .columns .numbers ≡ now (numbers .entry) → s .columns .confirm ≡ now (confirm .entry) → Sound s x → (k : Key) → getD (gatewayOf s x .places) i none ≡ some k → Ends (now (reply .entry)) (record { outcome = r; state = s }) x (now (reply .exit)) (follow (lent (lentOf answers (now (signature .entry)))) (gatewayOf s x) (confirming (gatewayOf s x) (now (payload .entry)) (some k) (at .at)))) ⌝ }
+    requires { ⌜ (replyRoom ≤ length (now reply)) × (lentLength (lentOf answers (now signature) .signature) ≤ signatureLimit) ⌝ }
+    ensures { λ r. ⌜ ((s : State) (x : List ℕ) → Sound s x → (k : Key) → k .number ≡ number → k .confirm ≡ isSet confirm → Ends (now (reply .entry)) (record { outcome = r; state = s }) x (now (reply .exit)) (follow (lent (lentOf answers (now (signature .entry)))) (gatewayOf s x) (confirming (gatewayOf s x) (now (payload .entry)) (some k) (at .at)))) ⌝ }
 {
-    let number = places::number_at(numbers, i);
     let given = answers.confirmation;
-    match consent(numbers, confirm, i, given) {
+    match consent(number, confirm, given) {
         Said::Missing => Outcome::Confirm { number },
         Said::No => failure(reply),
         Said::Yes => sign_data(payload, at, number, answers, signature, reply),
@@ -171,27 +169,35 @@ pub fn try_sign(
     numbers: &[u64],
     confirm: &[u8],
     blob_lens: &[usize],
+    fields_lens: &[usize],
+    comment_lens: &[usize],
     store: &[u8],
     payload: &[u8],
     answers: Answers,
     signature: &[u8],
     reply: &mut [u8],
 ) -> Outcome
-    requires { ⌜ (replyRoom ≤ length (now reply)) × (lentLength (lentOf answers (now signature) .signature) ≤ signatureLimit) × SoundOf (ShowsKeys (now numbers) (now confirm) (now «blob_lens»)) (now store) ⌝ }
-    ensures { λ r. ⌜ ((s : State) → ShowsKeys (now (numbers .entry)) (now (confirm .entry)) (now («blob_lens» .entry)) s → Sound s (now (store .entry)) → Ends (now (reply .entry)) (record { outcome = r; state = s }) (now (store .entry)) (now (reply .exit)) (follow (lent (lentOf answers (now (signature .entry)))) (gatewayOf s (now (store .entry))) (signing (gatewayOf s (now (store .entry))) (now (payload .entry))))) ⌝ }
+    requires { ⌜ (replyRoom ≤ length (now reply)) × (lentLength (lentOf answers (now signature) .signature) ≤ signatureLimit) × SoundOf (ShowsKeys (now numbers) (now confirm) (now «blob_lens») (now «fields_lens») (now «comment_lens»)) (now store) ⌝ }
+    ensures { λ r. ⌜ ((s : State) → ShowsKeys (now (numbers .entry)) (now (confirm .entry)) (now («blob_lens» .entry)) (now («fields_lens» .entry)) (now («comment_lens» .entry)) s → Sound s (now (store .entry)) → Ends (now (reply .entry)) (record { outcome = r; state = s }) (now (store .entry)) (now (reply .exit)) (follow (lent (lentOf answers (now (signature .entry)))) (gatewayOf s (now (store .entry))) (signing (gatewayOf s (now (store .entry))) (now (payload .entry))))) ⌝ }
 {
     let start = Cursor { at: 1 };
     let Part::Whole { from, to, next } = start.string(payload) else {
         return Outcome::Close;
     };
-    match places::find(numbers, blob_lens, store, cut(payload, from, to)) {
+    match entries::find(
+        numbers,
+        blob_lens,
+        fields_lens,
+        comment_lens,
+        store,
+        cut(payload, from, to),
+    ) {
         Found::Nothing => failure(reply),
         Found::At(i) => sign_with(
-            numbers,
-            confirm,
+            numbers[i],
+            confirm[i],
             payload,
             next,
-            i,
             answers,
             signature,
             reply,

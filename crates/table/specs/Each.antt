@@ -8,11 +8,6 @@ unfoldable pub each : {E A : Type 0} → (E → List ℕ → A) → (E → ℕ) 
 each f size [] s = []
 each f size (e ∷ es) s = f e (take (size e) s) ∷ each f size es (drop (size e) s)
 
--- P holds of each entry and its bytes
-abbrev pub Each : {E : Type 0} → (E → List ℕ → Type 0) → (E → ℕ) → List E → List ℕ → Type 0
-Each P size [] s = Unit {0}
-Each P size (e ∷ es) s = P e (take (size e) s) × Each P size es (drop (size e) s)
-
 -- where the bytes of entry i begin
 unfoldable pub offset : {E : Type 0} → (E → ℕ) → List E → ℕ → ℕ
 offset size es zero = 0

@@ -1,29 +1,16 @@
--- The columns side by side: an entry is what they have at one index, with its comment.
-use Prim.Native.Nat.{ℕ, zero, suc, _*_}
+-- The columns side by side: the figures of an entry are what they have at one index. Entries are those before the first number that is 0.
+use Prim.Native.Nat.{ℕ, zero, suc, _+_}
 use mathlib.Core.Path.{_≡_}
-use mathlib.Core.List.{List, [], _∷_, _++_, map}
-use lib.ListN.{length, take, drop, getD, set}
-use Rattle.wire.specs.Limits.{commentLimit}
+use mathlib.Core.Bool.{cond}
+use mathlib.Core.List.{List, [], _∷_, map}
+use lib.ListN.{length, take, getD, set}
+use lib.Dec.{eqb}
+use Rattle.wire.specs.Limits.{entriesLimit}
 use Rattle.wire.specs.declared.Seconds.{Seconds}
 use Rattle.rule.specs.declared.Millis.{Millis}
 use Rattle.table.specs.declared.Columns.{Columns}
 use Rattle.table.specs.declared.Figures.{Figures}
-
--- the bytes for a comment, and its length
-pub record Comment : Type 0 where
-  pub bytes : List ℕ
-  pub len : ℕ
-
--- what is kept of a place beside its bytes
-pub record Entry : Type 0 where
-  pub number : ℕ
-  pub reading : Millis
-  pub limited : ℕ
-  pub seconds : Seconds
-  pub confirm : ℕ
-  pub «blob_len» : ℕ
-  pub «fields_len» : ℕ
-  pub comment : Comment
+use Rattle.table.specs.Bytes.{sumOf, padded}
 
 -- ## What the columns show
 
@@ -39,15 +26,16 @@ columns numbers readings blobs fields comments seconds limited confirm = record 
   confirm = confirm;
 }
 
-pub record Eight (t : Columns) : Type 0 where
-  pub numbers : length (t .numbers) ≡ 8
-  pub readings : length (t .readings) ≡ 8
-  pub blobs : length (t .«blob_lens») ≡ 8
-  pub fields : length (t .«fields_lens») ≡ 8
-  pub comments : length (t .«comment_lens») ≡ 8
-  pub seconds : length (t .seconds) ≡ 8
-  pub limited : length (t .limited) ≡ 8
-  pub confirm : length (t .confirm) ≡ 8
+-- each column has 24 numbers
+pub record Long (t : Columns) : Type 0 where
+  pub numbers : length (t .numbers) ≡ entriesLimit
+  pub readings : length (t .readings) ≡ entriesLimit
+  pub blobs : length (t .«blob_lens») ≡ entriesLimit
+  pub fields : length (t .«fields_lens») ≡ entriesLimit
+  pub comments : length (t .«comment_lens») ≡ entriesLimit
+  pub seconds : length (t .seconds) ≡ entriesLimit
+  pub limited : length (t .limited) ≡ entriesLimit
+  pub confirm : length (t .confirm) ≡ entriesLimit
 
 abbrev pub figuresAt : Columns → ℕ → Figures
 figuresAt t i = record {
@@ -61,54 +49,37 @@ figuresAt t i = record {
   confirm = getD (t .confirm) i 0;
 }
 
--- #101: "up to 255 bytes", for each of eight places
-abbrev pub commentsSize : ℕ
-commentsSize = 8 * commentLimit
-
-abbrev pub commentPart : List ℕ → ℕ → List ℕ
-commentPart comments i = take commentLimit (drop (i * commentLimit) comments)
-
-abbrev pub entryBy : Figures → List ℕ → Entry
-entryBy f comment = record {
-  number = f .number;
-  reading = f .reading;
-  limited = f .limited;
-  seconds = f .seconds;
-  confirm = f .confirm;
-  «blob_len» = f .«blob_len»;
-  «fields_len» = f .«fields_len»;
-  comment = record { bytes = comment; len = f .«comment_len» };
-}
-
-abbrev pub entryAt : Columns → List ℕ → ℕ → Entry
-entryAt t comments i = entryBy (figuresAt t i) (commentPart comments i)
+-- how many numbers stand before the first 0; no key has that number
+unfoldable pub countOf : List ℕ → ℕ
+countOf [] = 0
+countOf (n ∷ ns) = cond (eqb n 0) 0 (suc (countOf ns))
 
 -- f of each number below n
 unfoldable pub upTo : {A : Type 0} → (ℕ → A) → ℕ → List A
 upTo f zero = []
 upTo f (suc n) = f 0 ∷ upTo (λ i. f (suc i)) n
 
-unfoldable pub entriesIn : Columns → List ℕ → List Entry
-entriesIn t comments = upTo (entryAt t comments) 8
+unfoldable pub entriesIn : Columns → List Figures
+entriesIn t = upTo (figuresAt t) (countOf (t .numbers))
+
+-- what the first i entries take of the store, by the columns of lengths
+unfoldable pub startIn : List ℕ → List ℕ → List ℕ → ℕ → ℕ
+startIn blobs fields comments i = sumOf (take i blobs) + (sumOf (take i fields) + sumOf (take i comments))
 
 -- ## How entries are written in columns
 
-unfoldable pub columnsOf : List Entry → Columns
-columnsOf es = columns
-    (map (λ e. e .number) es)
-    (map (λ e. e .reading .count) es)
-    (map (λ e. e .«blob_len») es)
-    (map (λ e. e .«fields_len») es)
-    (map (λ e. e .comment .len) es)
-    (map (λ e. e .seconds .count) es)
-    (map (λ e. e .limited) es)
-    (map (λ e. e .confirm) es)
+unfoldable pub columnsOf : List Figures → Columns
+columnsOf fs = columns
+    (padded entriesLimit (map (λ f. f .number) fs))
+    (padded entriesLimit (map (λ f. f .reading .count) fs))
+    (padded entriesLimit (map (λ f. f .«blob_len») fs))
+    (padded entriesLimit (map (λ f. f .«fields_len») fs))
+    (padded entriesLimit (map (λ f. f .«comment_len») fs))
+    (padded entriesLimit (map (λ f. f .seconds .count) fs))
+    (padded entriesLimit (map (λ f. f .limited) fs))
+    (padded entriesLimit (map (λ f. f .confirm) fs))
 
-unfoldable pub commentsOf : List Entry → List ℕ
-commentsOf [] = []
-commentsOf (e ∷ es) = e .comment .bytes ++ commentsOf es
-
--- the figures of one place written anew
+-- the figures at one index written anew
 abbrev pub figuresSet : ℕ → Figures → Columns → Columns
 figuresSet i f t = columns
     (set (t .numbers) i (f .number))

@@ -13,32 +13,29 @@ pub record SoundOf (Shows : State → Type 0) (x : List ℕ) : Type 0 where
   pub shows : Shows state
   pub sound : Sound state x
 
--- what a list reads
-pub record ShowsList (numbers blobs lens comments : List ℕ) (s : State) : Type 0 where
+-- what a list and a search read: the numbers, and where the bytes lie
+pub record ShowsParts (numbers blobs fields comments : List ℕ) (s : State) : Type 0 where
   pub numbers-are : s .columns .numbers ≡ numbers
   pub blobs-are : s .columns .«blob_lens» ≡ blobs
-  pub lens-are : s .columns .«comment_lens» ≡ lens
-  pub comments-are : s .comments ≡ comments
+  pub fields-are : s .columns .«fields_lens» ≡ fields
+  pub comments-are : s .columns .«comment_lens» ≡ comments
 
 -- what a signature reads
-pub record ShowsKeys (numbers confirm blobs : List ℕ) (s : State) : Type 0 where
-  pub numbers-are : s .columns .numbers ≡ numbers
+pub record ShowsKeys (numbers confirm blobs fields comments : List ℕ) (s : State) : Type 0 where
+  pub parts : ShowsParts numbers blobs fields comments s
   pub confirm-is : s .columns .confirm ≡ confirm
-  pub blobs-are : s .columns .«blob_lens» ≡ blobs
 
 -- what a removal writes
-pub record ShowsTable (t : Columns) (comments : List ℕ) (s : State) : Type 0 where
-  pub columns-are : s .columns ≡ t
-  pub comments-are : s .comments ≡ comments
+abbrev pub ShowsTable : Columns → State → Type 0
+ShowsTable t s = s .columns ≡ t
 
 -- what an addition writes, and the clock; the passphrase is all that they leave out
-pub record SoundWith (t : Columns) (comments : List ℕ) (kept : Kept) (x : List ℕ) : Type 0 where
+pub record SoundWith (t : Columns) (kept : Kept) (x : List ℕ) : Type 0 where
   pub bytes : List ℕ
-  pub sound : Sound (held t comments bytes kept) x
+  pub sound : Sound (held t bytes kept) x
 
--- what a lock writes: all but columns, comments and store
+-- what a lock writes: all but columns and store
 pub record SoundKept (bytes : List ℕ) (kept : Kept) : Type 0 where
   pub columns : Columns
-  pub comments : List ℕ
   pub store : List ℕ
-  pub sound : Sound (held columns comments bytes kept) store
+  pub sound : Sound (held columns bytes kept) store

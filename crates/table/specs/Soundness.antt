@@ -1,58 +1,49 @@
 -- 01's soundness of a state and its store, test by test, and the facts that the tests say.
-use Prim.Native.Nat.{ℕ, _≤_, _<_}
+use Prim.Native.Nat.{ℕ, _+_, _*_, _-_, _≤_, _<_}
 use mathlib.Core.Path.{_≡_}
-use mathlib.Core.Bool.{Bool, true, false, _&&_, _||_, cond}
-use mathlib.Core.Option.{none, some}
-use mathlib.Core.List.{List, [], _∷_}
-use lib.ListN.{length, getD, take, drop}
+use mathlib.Core.Bool.{Bool, true, false, _&&_, _||_}
+use mathlib.Core.List.{List, [], _∷_, map}
+use lib.ListN.{length, take, drop, getD}
 use lib.Dec.{leb, ltb, eqb}
-use Rattle.wire.specs.Limits.{storeSize, blobLimit, fieldsLimit, fieldsAt, commentLimit, passphraseLimit, lastNumber}
+use Rattle.wire.specs.Limits.{entriesLimit, storeSize, blobLimit, fieldsLimit, commentLimit, passphraseLimit, lastNumber}
 use Rattle.wire.specs.Numbers.{within}
 use Rattle.wire.specs.declared.Seconds.{Seconds}
 use Rattle.rule.specs.declared.Millis.{Millis}
-use Rattle.rule.specs.Gateway.{Place, Gateway}
-use Rattle.rule.specs.Soundness.{everyEntry, apart, distinct, Distinct}
+use Rattle.rule.specs.Gateway.{Gateway}
+use Rattle.rule.specs.Soundness.{distinct, Distinct}
 use Rattle.table.specs.declared.Columns.{Columns}
+use Rattle.table.specs.declared.Figures.{Figures}
 use Rattle.table.specs.declared.LockRecord.{LockRecord}
 use Rattle.table.specs.declared.State.{State}
-use Rattle.table.specs.Bytes.{allZero, Zeros}
-use Rattle.table.specs.Each.{each, Each}
-use Rattle.table.specs.Entries.{Comment, Entry, Eight, commentsSize}
-use Rattle.table.specs.Meaning.{size, isSet, entriesOf, view, gatewayOf, freeEntry}
+use Rattle.table.specs.Bytes.{allZero, Zeros, sumOf}
+use Rattle.table.specs.Entries.{Long, countOf, upTo, startIn}
+use Rattle.table.specs.Meaning.{isSet, entriesOf, view, gatewayOf, endOf}
 
 -- ## The tests
 
--- the columns are of eight places, as the arrays' types are
-unfoldable pub eightColumns : Columns → Bool
-eightColumns t =
-    eqb (length (t .numbers)) 8
-    && (eqb (length (t .readings)) 8
-    && (eqb (length (t .«blob_lens»)) 8
-    && (eqb (length (t .«fields_lens»)) 8
-    && (eqb (length (t .«comment_lens»)) 8
-    && (eqb (length (t .seconds)) 8
-    && (eqb (length (t .limited)) 8
-    && eqb (length (t .confirm)) 8))))))
+-- the columns are of 24 entries, as the arrays' types are
+unfoldable pub longColumns : Columns → Bool
+longColumns t =
+    eqb (length (t .numbers)) entriesLimit
+    && (eqb (length (t .readings)) entriesLimit
+    && (eqb (length (t .«blob_lens»)) entriesLimit
+    && (eqb (length (t .«fields_lens»)) entriesLimit
+    && (eqb (length (t .«comment_lens»)) entriesLimit
+    && (eqb (length (t .seconds)) entriesLimit
+    && (eqb (length (t .limited)) entriesLimit
+    && eqb (length (t .confirm)) entriesLimit))))))
 
--- #101: "Soundness gains its length and zero rest"
-unfoldable pub soundComment : Comment → Bool
-soundComment c = eqb (length (c .bytes)) commentLimit && (leb (c .len) commentLimit && allZero (drop (c .len) (c .bytes)))
-
--- no comment, and no byte of one
-unfoldable pub zeroComment : Comment → Bool
-zeroComment c = eqb (length (c .bytes)) commentLimit && (eqb (c .len) 0 && allZero (c .bytes))
-
--- "free places zero"
-unfoldable pub soundFree : Entry → List ℕ → Bool
-soundFree e p =
-    eqb (e .reading .count) 0
-    && (eqb (e .limited) 0
-    && (eqb (e .seconds .count) 0
-    && (eqb (e .confirm) 0
-    && (eqb (e .«blob_len») 0
-    && (eqb (e .«fields_len») 0
-    && (zeroComment (e .comment)
-    && allZero p))))))
+-- unused entries are zero: behind the first n, in every column
+unfoldable pub zeroBehind : ℕ → Columns → Bool
+zeroBehind n t =
+    allZero (drop n (t .numbers))
+    && (allZero (drop n (t .readings))
+    && (allZero (drop n (t .«blob_lens»))
+    && (allZero (drop n (t .«fields_lens»))
+    && (allZero (drop n (t .«comment_lens»))
+    && (allZero (drop n (t .seconds))
+    && (allZero (drop n (t .limited))
+    && allZero (drop n (t .confirm))))))))
 
 -- a flag is a byte, 0 or 1
 abbrev pub isFlag : ℕ → Bool
@@ -66,76 +57,78 @@ soundFlags limited confirm = isFlag limited && isFlag confirm
 unfoldable pub soundLifetime : ℕ → Seconds → Bool
 soundLifetime limited seconds = isSet limited || eqb (seconds .count) 0
 
--- "lengths within limits, unused bytes .. zero"
-unfoldable pub soundContent : Entry → List ℕ → Bool
-soundContent e p =
-    within 1 blobLimit (e .«blob_len»)
-    && (within 1 fieldsLimit (e .«fields_len»)
-    && (soundComment (e .comment)
-    && (allZero (drop (e .«blob_len») (take fieldsAt p))
-    && allZero (drop (e .«fields_len») (drop fieldsAt p)))))
+-- "lengths within limits"
+unfoldable pub soundLengths : Figures → Bool
+soundLengths f = within 1 blobLimit (f .«blob_len») && (within 1 fieldsLimit (f .«fields_len») && leb (f .«comment_len») commentLimit)
 
 -- "insertion numbers .. below the next one, .. insertion readings not above the kept clock"
-unfoldable pub soundHeld : Millis → ℕ → Entry → List ℕ → Bool
-soundHeld clock next e p = ltb (e .number) next && (leb (e .reading .count) (clock .count) && (soundFlags (e .limited) (e .confirm) && (soundLifetime (e .limited) (e .seconds) && soundContent e p)))
-
-unfoldable pub soundPlace : Millis → ℕ → Entry → List ℕ → Bool
-soundPlace clock next e p = cond (eqb (e .number) 0) (soundFree e p) (soundHeld clock next e p)
+unfoldable pub soundFigures : Millis → ℕ → Figures → Bool
+soundFigures clock next f = ltb (f .number) next && (leb (f .reading .count) (clock .count) && (soundFlags (f .limited) (f .confirm) && (soundLifetime (f .limited) (f .seconds) && soundLengths f)))
 
 unfoldable pub all : List Bool → Bool
 all [] = true
 all (b ∷ bs) = b && all bs
 
-unfoldable pub soundPlaces : Millis → ℕ → List Entry → List ℕ → Bool
-soundPlaces clock next es x = all (each (soundPlace clock next) size es x)
+unfoldable pub soundEntries : Millis → ℕ → List Figures → Bool
+soundEntries clock next fs = all (map (soundFigures clock next) fs)
+
+-- the lengths do not pass 32,768, and what is behind their bytes is zero
+unfoldable pub soundStore : List Figures → List ℕ → Bool
+soundStore fs x = leb (endOf fs) storeSize && allZero (drop (endOf fs) x)
 
 -- "The passphrase is kept with its length, at most 1,024 bytes, the rest zero."
 unfoldable pub soundLock : LockRecord → Bool
 soundLock l = eqb (length (l .bytes)) passphraseLimit && (leb (l .len) passphraseLimit && allZero (drop (l .len) (l .bytes)))
 
--- the blob and the number of a place are no other's
-unfoldable pub unlike : Place → List Place → Bool
-unlike none ps = true
-unlike (some e) ps = everyEntry (apart e) ps
-
 unfoldable pub soundState : State → List ℕ → Bool
 soundState s x =
     eqb (length x) storeSize
-    && (eqb (length (s .comments)) commentsSize
-    && (eightColumns (s .columns)
+    && (longColumns (s .columns)
     && (within 1 lastNumber (s .next)
     && (soundLock (s .lock)
-    && (soundPlaces (s .clock) (s .next) (entriesOf s) x
-    && distinct (view (entriesOf s) x))))))
+    && (zeroBehind (countOf (s .columns .numbers)) (s .columns)
+    && (soundEntries (s .clock) (s .next) (entriesOf s)
+    && (soundStore (entriesOf s) x
+    && distinct (view (entriesOf s) x)))))))
+
+-- a short number of a blob: blobs whose short numbers differ are not the same
+unfoldable pub shortOf : List ℕ → ℕ
+shortOf blob = length blob * 65536 + sumOf (drop (length blob - 32) blob)
+
+-- .. of the blobs of n entries, by the columns of lengths
+unfoldable pub shortsIn : List ℕ → List ℕ → List ℕ → ℕ → List ℕ → List ℕ
+shortsIn blobs fields comments n x = upTo (λ i. shortOf (take (getD blobs i 0) (drop (startIn blobs fields comments i) x))) n
 
 -- ## The facts
+
+pub record ZeroBehind (n : ℕ) (t : Columns) : Type 0 where
+  pub numbers : Zeros (drop n (t .numbers))
+  pub readings : Zeros (drop n (t .readings))
+  pub blobs : Zeros (drop n (t .«blob_lens»))
+  pub fields : Zeros (drop n (t .«fields_lens»))
+  pub comments : Zeros (drop n (t .«comment_lens»))
+  pub seconds : Zeros (drop n (t .seconds))
+  pub limited : Zeros (drop n (t .limited))
+  pub confirm : Zeros (drop n (t .confirm))
 
 abbrev pub Flag : ℕ → Type 0
 Flag b = b ≤ 1
 
-pub record SoundComment (c : Comment) : Type 0 where
-  pub comment-size : length (c .bytes) ≡ commentLimit
-  pub comment-fits : c .len ≤ commentLimit
-  pub comment-rest : Zeros (drop (c .len) (c .bytes))
+pub record SoundFigures (clock : Millis) (next : ℕ) (f : Figures) : Type 0 where
+  pub number-taken : f .number < next
+  pub reading-past : f .reading .count ≤ clock .count
+  pub limited-flag : Flag (f .limited)
+  pub confirm-flag : Flag (f .confirm)
+  pub no-seconds : isSet (f .limited) ≡ false → f .seconds .count ≡ 0
+  pub blob-some : 1 ≤ f .«blob_len»
+  pub blob-fits : f .«blob_len» ≤ blobLimit
+  pub fields-some : 1 ≤ f .«fields_len»
+  pub fields-fit : f .«fields_len» ≤ fieldsLimit
+  pub comment-fits : f .«comment_len» ≤ commentLimit
 
-pub record SoundHeld (clock : Millis) (next : ℕ) (e : Entry) (p : List ℕ) : Type 0 where
-  pub number-first : 1 ≤ e .number
-  pub number-taken : e .number < next
-  pub reading-past : e .reading .count ≤ clock .count
-  pub limited-flag : Flag (e .limited)
-  pub confirm-flag : Flag (e .confirm)
-  pub no-seconds : isSet (e .limited) ≡ false → e .seconds .count ≡ 0
-  pub blob-some : 1 ≤ e .«blob_len»
-  pub blob-fits : e .«blob_len» ≤ blobLimit
-  pub fields-some : 1 ≤ e .«fields_len»
-  pub fields-fit : e .«fields_len» ≤ fieldsLimit
-  pub comment : SoundComment (e .comment)
-  pub blob-rest : Zeros (drop (e .«blob_len») (take fieldsAt p))
-  pub fields-rest : Zeros (drop (e .«fields_len») (drop fieldsAt p))
-
-pub data SoundPlace (clock : Millis) (next : ℕ) (e : Entry) (p : List ℕ) : Type 0 where
-  free : e ≡ freeEntry → Zeros p → SoundPlace clock next e p
-  held : SoundHeld clock next e p → SoundPlace clock next e p
+abbrev pub EveryFigures : (Figures → Type 0) → List Figures → Type 0
+EveryFigures P [] = Unit {0}
+EveryFigures P (f ∷ fs) = P f × EveryFigures P fs
 
 pub record SoundLock (l : LockRecord) : Type 0 where
   pub record-size : length (l .bytes) ≡ passphraseLimit
@@ -143,21 +136,24 @@ pub record SoundLock (l : LockRecord) : Type 0 where
   pub lock-rest : Zeros (drop (l .len) (l .bytes))
 
 pub record Sound (s : State) (x : List ℕ) : Type 0 where
-  pub eight : Eight (s .columns)
-  pub comments-size : length (s .comments) ≡ commentsSize
+  pub long : Long (s .columns)
   pub store-size : length x ≡ storeSize
   pub next-first : 1 ≤ s .next
   pub next-last : s .next ≤ lastNumber
   pub lock : SoundLock (s .lock)
-  pub places : Each (SoundPlace (s .clock) (s .next)) size (entriesOf s) x
+  pub unused : ZeroBehind (countOf (s .columns .numbers)) (s .columns)
+  pub entries : EveryFigures (SoundFigures (s .clock) (s .next)) (entriesOf s)
+  pub room : endOf (entriesOf s) ≤ storeSize
+  pub end : Zeros (drop (endOf (entriesOf s)) x)
   pub distinct : Distinct (view (entriesOf s) x)
 
--- numbers and blobs' lengths of eight places, and a store in which the blobs lie within their places
-pub record Housed (numbers blobs x : List ℕ) : Type 0 where
-  pub eight-numbers : length numbers ≡ 8
-  pub eight-blobs : length blobs ≡ 8
-  pub store-size : length x ≡ storeSize
-  pub blobs-fit : (i : ℕ) → i < 8 → getD blobs i 0 ≤ blobLimit
+-- numbers and lengths of up to 24 entries, and a store in which their bytes lie
+pub record Housed (numbers blobs fields comments x : List ℕ) : Type 0 where
+  pub long-numbers : length numbers ≡ entriesLimit
+  pub long-blobs : length blobs ≡ entriesLimit
+  pub long-fields : length fields ≡ entriesLimit
+  pub long-comments : length comments ≡ entriesLimit
+  pub room : startIn blobs fields comments (countOf numbers) ≤ length x
 
 -- a state and store that mean this gateway, and are sound
 pub record Means (s : State) (x : List ℕ) (g : Gateway) : Type 0 where

@@ -1,10 +1,10 @@
-// The gateway's state and its key store: eight places of 4,096 bytes, their figures in columns, the lock record, the kept clock, the next number.
-// Columns and store are lent to what works on them. Above, only soundness and changes name an offset in a place or its size.
+// The gateway's state and its key store: the figures of up to 24 entries in columns, the lock record, the kept clock, the next number; in the store for each
+// entry blob, key fields and comment, behind each other and without gaps. Columns and store are lent to what works on them. Above, only soundness and
+// changes name an offset.
 pub mod bytes;
 pub mod clock;
-pub mod comments;
+pub mod entries;
 pub mod locks;
-pub mod places;
 
 use rule::Millis;
 use wire::Seconds;
@@ -13,10 +13,7 @@ ghost use mathlib.Core.Path.{_≡_};
 ghost use Rattle.rule.specs.Gateway.{fresh as freshGateway};
 ghost use Rattle.table.specs.Meaning.{isSet, stateOf};
 
-// The comments of eight places, 255 bytes for each.
-pub const COMMENTS_SIZE: usize = 8 * limits::COMMENT_LIMIT;
-
-// What the columns have at one index; `limited` and `confirm` are 0 or 1. Those of a free place are all zero.
+// What the columns have at one index; `limited` and `confirm` are 0 or 1.
 pub struct Figures {
     pub number: u64,
     pub reading: Millis,
@@ -28,17 +25,17 @@ pub struct Figures {
     pub confirm: u8,
 }
 
-// What is kept of each place beside its bytes and its comment. Readings count milliseconds.
+// What is kept of each entry beside its bytes, in list order. Readings count milliseconds. Behind the last entry all is zero.
 #[repr(C)]
 pub struct Columns {
-    pub numbers: [u64; 8],
-    pub readings: [u64; 8],
-    pub blob_lens: [usize; 8],
-    pub fields_lens: [usize; 8],
-    pub comment_lens: [usize; 8],
-    pub seconds: [u32; 8],
-    pub limited: [u8; 8],
-    pub confirm: [u8; 8],
+    pub numbers: [u64; limits::ENTRIES_LIMIT],
+    pub readings: [u64; limits::ENTRIES_LIMIT],
+    pub blob_lens: [usize; limits::ENTRIES_LIMIT],
+    pub fields_lens: [usize; limits::ENTRIES_LIMIT],
+    pub comment_lens: [usize; limits::ENTRIES_LIMIT],
+    pub seconds: [u32; limits::ENTRIES_LIMIT],
+    pub limited: [u8; limits::ENTRIES_LIMIT],
+    pub confirm: [u8; limits::ENTRIES_LIMIT],
 }
 
 // The passphrase and its length; the rest is zero. A length of 0 is open.
@@ -48,11 +45,9 @@ pub struct LockRecord {
     pub len: usize,
 }
 
-// Behind a comment its 255 bytes are zero.
 #[repr(C)]
 pub struct State {
     pub columns: Columns,
-    pub comments: [u8; COMMENTS_SIZE],
     pub lock: LockRecord,
     pub clock: Millis,
     pub next: u64,
@@ -78,16 +73,15 @@ pub fn fresh() -> State
 {
     State {
         columns: Columns {
-            numbers: [0u64; 8],
-            readings: [0u64; 8],
-            blob_lens: [0usize; 8],
-            fields_lens: [0usize; 8],
-            comment_lens: [0usize; 8],
-            seconds: [0u32; 8],
-            limited: [0u8; 8],
-            confirm: [0u8; 8],
+            numbers: [0u64; limits::ENTRIES_LIMIT],
+            readings: [0u64; limits::ENTRIES_LIMIT],
+            blob_lens: [0usize; limits::ENTRIES_LIMIT],
+            fields_lens: [0usize; limits::ENTRIES_LIMIT],
+            comment_lens: [0usize; limits::ENTRIES_LIMIT],
+            seconds: [0u32; limits::ENTRIES_LIMIT],
+            limited: [0u8; limits::ENTRIES_LIMIT],
+            confirm: [0u8; limits::ENTRIES_LIMIT],
         },
-        comments: [0u8; COMMENTS_SIZE],
         lock: LockRecord {
             bytes: [0u8; limits::PASSPHRASE_LIMIT],
             len: 0,

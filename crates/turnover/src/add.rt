@@ -12,7 +12,7 @@ use requests::replies::failure;
 use requests::replies::success;
 use rule::Found;
 use table::Kept;
-use table::places;
+use table::entries;
 use wire::limits;
 use wire::read::cut;
 ghost use mathlib.Core.Path.{_≡_};
@@ -50,7 +50,7 @@ fn fits(blob: &[u8], fields: &[u8], comment: &[u8]) -> bool
     comment.len() <= limits::COMMENT_LIMIT
 }
 
-// The key with this blob is stored, if its lengths, the numbers, a place and the key check allow it.
+// The key with this blob is stored, if its lengths, the numbers, the room and the key check allow it.
 fn store_key(
     numbers: &mut [u64],
     readings: &mut [u64],
@@ -60,7 +60,6 @@ fn store_key(
     seconds: &mut [u32],
     limited: &mut [u8],
     confirm: &mut [u8],
-    comments: &mut [u8],
     kept: Kept,
     store: &mut [u8],
     payload: &[u8],
@@ -69,16 +68,14 @@ fn store_key(
     check: Said,
     reply: &mut [u8],
 ) -> Landed
-    requires { ⌜ (5 ≤ length (now reply)) × SoundWith (columns (now numbers) (now readings) (now «blob_lens») (now «fields_lens») (now «comment_lens») (now seconds) (now limited) (now confirm)) (now comments) kept (now store) ⌝ }
-    ensures { λ r. ⌜ ((b : List ℕ) → Sound (held (columns (now (numbers .entry)) (now (readings .entry)) (now («blob_lens» .entry)) (now («fields_lens» .entry)) (now («comment_lens» .entry)) (now (seconds .entry)) (now (limited .entry)) (now (confirm .entry))) (now (comments .entry)) b kept) (now (store .entry)) → (a : rule.Answers) → a .check ≡ grantOf check → Ends (now (reply .entry)) (record { outcome = r .outcome; state = held (columns (now (numbers .exit)) (now (readings .exit)) (now («blob_lens» .exit)) (now («fields_lens» .exit)) (now («comment_lens» .exit)) (now (seconds .exit)) (now (limited .exit)) (now (confirm .exit))) (now (comments .exit)) b (r .kept) }) (now (store .exit)) (now (reply .exit)) (follow (lent a) (gatewayOf (held (columns (now (numbers .entry)) (now (readings .entry)) (now («blob_lens» .entry)) (now («fields_lens» .entry)) (now («comment_lens» .entry)) (now (seconds .entry)) (now (limited .entry)) (now (confirm .entry))) (now (comments .entry)) b kept) (now (store .entry))) (storing (gatewayOf (held (columns (now (numbers .entry)) (now (readings .entry)) (now («blob_lens» .entry)) (now («fields_lens» .entry)) (now («comment_lens» .entry)) (now (seconds .entry)) (now (limited .entry)) (now (confirm .entry))) (now (comments .entry)) b kept) (now (store .entry))) (entryOf (gatewayOf (held (columns (now (numbers .entry)) (now (readings .entry)) (now («blob_lens» .entry)) (now («fields_lens» .entry)) (now («comment_lens» .entry)) (now (seconds .entry)) (now (limited .entry)) (now (confirm .entry))) (now (comments .entry)) b kept) (now (store .entry))) (now (payload .entry)) carried (now (blob .entry))) (carried .places .end)))) ⌝ }
+    requires { ⌜ (5 ≤ length (now reply)) × SoundWith (columns (now numbers) (now readings) (now «blob_lens») (now «fields_lens») (now «comment_lens») (now seconds) (now limited) (now confirm)) kept (now store) ⌝ }
+    ensures { λ r. ⌜ ((b : List ℕ) → Sound (held (columns (now (numbers .entry)) (now (readings .entry)) (now («blob_lens» .entry)) (now («fields_lens» .entry)) (now («comment_lens» .entry)) (now (seconds .entry)) (now (limited .entry)) (now (confirm .entry))) b kept) (now (store .entry)) → (a : rule.Answers) → a .check ≡ grantOf check → Ends (now (reply .entry)) (record { outcome = r .outcome; state = held (columns (now (numbers .exit)) (now (readings .exit)) (now («blob_lens» .exit)) (now («fields_lens» .exit)) (now («comment_lens» .exit)) (now (seconds .exit)) (now (limited .exit)) (now (confirm .exit))) b (r .kept) }) (now (store .exit)) (now (reply .exit)) (follow (lent a) (gatewayOf (held (columns (now (numbers .entry)) (now (readings .entry)) (now («blob_lens» .entry)) (now («fields_lens» .entry)) (now («comment_lens» .entry)) (now (seconds .entry)) (now (limited .entry)) (now (confirm .entry))) b kept) (now (store .entry))) (storing (gatewayOf (held (columns (now (numbers .entry)) (now (readings .entry)) (now («blob_lens» .entry)) (now («fields_lens» .entry)) (now («comment_lens» .entry)) (now (seconds .entry)) (now (limited .entry)) (now (confirm .entry))) b kept) (now (store .entry))) (entryOf (gatewayOf (held (columns (now (numbers .entry)) (now (readings .entry)) (now («blob_lens» .entry)) (now («fields_lens» .entry)) (now («comment_lens» .entry)) (now (seconds .entry)) (now (limited .entry)) (now (confirm .entry))) b kept) (now (store .entry))) (now (payload .entry)) carried (now (blob .entry))) (carried .places .end)))) ⌝ }
 {
     let to = carried.places.end;
     let comment = carried.comment;
-    if !fits(
-        blob,
-        cut(payload, 1, to),
-        cut(payload, comment.from, comment.to),
-    ) {
+    let fields = cut(payload, 1, to);
+    let text = cut(payload, comment.from, comment.to);
+    if !fits(blob, fields, text) {
         return Landed {
             outcome: failure(reply),
             kept,
@@ -90,7 +87,16 @@ fn store_key(
             kept,
         };
     }
-    match places::place_for(numbers, blob_lens, store, blob) {
+    let size = blob.len() + (fields.len() + text.len());
+    match entries::place_for(
+        numbers,
+        blob_lens,
+        fields_lens,
+        comment_lens,
+        store,
+        blob,
+        size,
+    ) {
         Found::Nothing => Landed {
             outcome: failure(reply),
             kept,
@@ -114,7 +120,6 @@ fn store_key(
                     seconds,
                     limited,
                     confirm,
-                    comments,
                     kept,
                     store,
                     i,
@@ -131,7 +136,7 @@ fn store_key(
     }
 }
 
-// The blob is derived beside the table, in as many bytes as a place has for it.
+// The blob is derived beside the table, in as many bytes as the limit is.
 fn store_fields(
     numbers: &mut [u64],
     readings: &mut [u64],
@@ -141,7 +146,6 @@ fn store_fields(
     seconds: &mut [u32],
     limited: &mut [u8],
     confirm: &mut [u8],
-    comments: &mut [u8],
     kept: Kept,
     store: &mut [u8],
     payload: &[u8],
@@ -149,8 +153,8 @@ fn store_fields(
     check: Said,
     reply: &mut [u8],
 ) -> Landed
-    requires { ⌜ (5 ≤ length (now reply)) × SoundWith (columns (now numbers) (now readings) (now «blob_lens») (now «fields_lens») (now «comment_lens») (now seconds) (now limited) (now confirm)) (now comments) kept (now store) ⌝ }
-    ensures { λ r. ⌜ ((b : List ℕ) → Sound (held (columns (now (numbers .entry)) (now (readings .entry)) (now («blob_lens» .entry)) (now («fields_lens» .entry)) (now («comment_lens» .entry)) (now (seconds .entry)) (now (limited .entry)) (now (confirm .entry))) (now (comments .entry)) b kept) (now (store .entry)) → (a : rule.Answers) → a .check ≡ grantOf check → Ends (now (reply .entry)) (record { outcome = r .outcome; state = held (columns (now (numbers .exit)) (now (readings .exit)) (now («blob_lens» .exit)) (now («fields_lens» .exit)) (now («comment_lens» .exit)) (now (seconds .exit)) (now (limited .exit)) (now (confirm .exit))) (now (comments .exit)) b (r .kept) }) (now (store .exit)) (now (reply .exit)) (follow (lent a) (gatewayOf (held (columns (now (numbers .entry)) (now (readings .entry)) (now («blob_lens» .entry)) (now («fields_lens» .entry)) (now («comment_lens» .entry)) (now (seconds .entry)) (now (limited .entry)) (now (confirm .entry))) (now (comments .entry)) b kept) (now (store .entry))) (storing (gatewayOf (held (columns (now (numbers .entry)) (now (readings .entry)) (now («blob_lens» .entry)) (now («fields_lens» .entry)) (now («comment_lens» .entry)) (now (seconds .entry)) (now (limited .entry)) (now (confirm .entry))) (now (comments .entry)) b kept) (now (store .entry))) (entryOf (gatewayOf (held (columns (now (numbers .entry)) (now (readings .entry)) (now («blob_lens» .entry)) (now («fields_lens» .entry)) (now («comment_lens» .entry)) (now (seconds .entry)) (now (limited .entry)) (now (confirm .entry))) (now (comments .entry)) b kept) (now (store .entry))) (now (payload .entry)) carried (blobOf (now (payload .entry)) 1 (carried .places))) (carried .places .end)))) ⌝ }
+    requires { ⌜ (5 ≤ length (now reply)) × SoundWith (columns (now numbers) (now readings) (now «blob_lens») (now «fields_lens») (now «comment_lens») (now seconds) (now limited) (now confirm)) kept (now store) ⌝ }
+    ensures { λ r. ⌜ ((b : List ℕ) → Sound (held (columns (now (numbers .entry)) (now (readings .entry)) (now («blob_lens» .entry)) (now («fields_lens» .entry)) (now («comment_lens» .entry)) (now (seconds .entry)) (now (limited .entry)) (now (confirm .entry))) b kept) (now (store .entry)) → (a : rule.Answers) → a .check ≡ grantOf check → Ends (now (reply .entry)) (record { outcome = r .outcome; state = held (columns (now (numbers .exit)) (now (readings .exit)) (now («blob_lens» .exit)) (now («fields_lens» .exit)) (now («comment_lens» .exit)) (now (seconds .exit)) (now (limited .exit)) (now (confirm .exit))) b (r .kept) }) (now (store .exit)) (now (reply .exit)) (follow (lent a) (gatewayOf (held (columns (now (numbers .entry)) (now (readings .entry)) (now («blob_lens» .entry)) (now («fields_lens» .entry)) (now («comment_lens» .entry)) (now (seconds .entry)) (now (limited .entry)) (now (confirm .entry))) b kept) (now (store .entry))) (storing (gatewayOf (held (columns (now (numbers .entry)) (now (readings .entry)) (now («blob_lens» .entry)) (now («fields_lens» .entry)) (now («comment_lens» .entry)) (now (seconds .entry)) (now (limited .entry)) (now (confirm .entry))) b kept) (now (store .entry))) (entryOf (gatewayOf (held (columns (now (numbers .entry)) (now (readings .entry)) (now («blob_lens» .entry)) (now («fields_lens» .entry)) (now («comment_lens» .entry)) (now (seconds .entry)) (now (limited .entry)) (now (confirm .entry))) b kept) (now (store .entry))) (now (payload .entry)) carried (blobOf (now (payload .entry)) 1 (carried .places))) (carried .places .end)))) ⌝ }
 {
     let at = carried.places;
     let mut room = [0u8; limits::BLOB_LIMIT];
@@ -168,7 +172,6 @@ fn store_fields(
             seconds,
             limited,
             confirm,
-            comments,
             kept,
             store,
             payload,
@@ -190,7 +193,6 @@ pub fn add_key(
     seconds: &mut [u32],
     limited: &mut [u8],
     confirm: &mut [u8],
-    comments: &mut [u8],
     kept: Kept,
     store: &mut [u8],
     payload: &[u8],
@@ -198,8 +200,8 @@ pub fn add_key(
     check: Said,
     reply: &mut [u8],
 ) -> Landed
-    requires { ⌜ (5 ≤ length (now reply)) × SoundWith (columns (now numbers) (now readings) (now «blob_lens») (now «fields_lens») (now «comment_lens») (now seconds) (now limited) (now confirm)) (now comments) kept (now store) ⌝ }
-    ensures { λ r. ⌜ ((b : List ℕ) → Sound (held (columns (now (numbers .entry)) (now (readings .entry)) (now («blob_lens» .entry)) (now («fields_lens» .entry)) (now («comment_lens» .entry)) (now (seconds .entry)) (now (limited .entry)) (now (confirm .entry))) (now (comments .entry)) b kept) (now (store .entry)) → (a : rule.Answers) → a .check ≡ grantOf check → Ends (now (reply .entry)) (record { outcome = r .outcome; state = held (columns (now (numbers .exit)) (now (readings .exit)) (now («blob_lens» .exit)) (now («fields_lens» .exit)) (now («comment_lens» .exit)) (now (seconds .exit)) (now (limited .exit)) (now (confirm .exit))) (now (comments .exit)) b (r .kept) }) (now (store .exit)) (now (reply .exit)) (follow (lent a) (gatewayOf (held (columns (now (numbers .entry)) (now (readings .entry)) (now («blob_lens» .entry)) (now («fields_lens» .entry)) (now («comment_lens» .entry)) (now (seconds .entry)) (now (limited .entry)) (now (confirm .entry))) (now (comments .entry)) b kept) (now (store .entry))) (adding constrained (gatewayOf (held (columns (now (numbers .entry)) (now (readings .entry)) (now («blob_lens» .entry)) (now («fields_lens» .entry)) (now («comment_lens» .entry)) (now (seconds .entry)) (now (limited .entry)) (now (confirm .entry))) (now (comments .entry)) b kept) (now (store .entry))) (now (payload .entry))))) ⌝ }
+    requires { ⌜ (5 ≤ length (now reply)) × SoundWith (columns (now numbers) (now readings) (now «blob_lens») (now «fields_lens») (now «comment_lens») (now seconds) (now limited) (now confirm)) kept (now store) ⌝ }
+    ensures { λ r. ⌜ ((b : List ℕ) → Sound (held (columns (now (numbers .entry)) (now (readings .entry)) (now («blob_lens» .entry)) (now («fields_lens» .entry)) (now («comment_lens» .entry)) (now (seconds .entry)) (now (limited .entry)) (now (confirm .entry))) b kept) (now (store .entry)) → (a : rule.Answers) → a .check ≡ grantOf check → Ends (now (reply .entry)) (record { outcome = r .outcome; state = held (columns (now (numbers .exit)) (now (readings .exit)) (now («blob_lens» .exit)) (now («fields_lens» .exit)) (now («comment_lens» .exit)) (now (seconds .exit)) (now (limited .exit)) (now (confirm .exit))) b (r .kept) }) (now (store .exit)) (now (reply .exit)) (follow (lent a) (gatewayOf (held (columns (now (numbers .entry)) (now (readings .entry)) (now («blob_lens» .entry)) (now («fields_lens» .entry)) (now («comment_lens» .entry)) (now (seconds .entry)) (now (limited .entry)) (now (confirm .entry))) b kept) (now (store .entry))) (adding constrained (gatewayOf (held (columns (now (numbers .entry)) (now (readings .entry)) (now («blob_lens» .entry)) (now («fields_lens» .entry)) (now («comment_lens» .entry)) (now (seconds .entry)) (now (limited .entry)) (now (confirm .entry))) b kept) (now (store .entry))) (now (payload .entry))))) ⌝ }
 {
     match addition_at(payload, 1, constrained) {
         Addition::Fault(_) => Landed {
@@ -215,7 +217,6 @@ pub fn add_key(
             seconds,
             limited,
             confirm,
-            comments,
             kept,
             store,
             payload,

@@ -4,7 +4,7 @@ use requests::Outcome;
 use requests::replies::failure;
 use requests::replies::success;
 use rule::Found;
-use table::places;
+use table::entries;
 use wire::read::Cursor;
 use wire::read::Part;
 use wire::read::cut;
@@ -30,19 +30,25 @@ pub fn remove_identity(
     seconds: &mut [u32],
     limited: &mut [u8],
     confirm: &mut [u8],
-    comments: &mut [u8],
     store: &mut [u8],
     payload: &[u8],
     reply: &mut [u8],
 ) -> Outcome
-    requires { ⌜ (5 ≤ length (now reply)) × (SoundOf (ShowsTable (columns (now numbers) (now readings) (now «blob_lens») (now «fields_lens») (now «comment_lens») (now seconds) (now limited) (now confirm)) (now comments)) (now store)) ⌝ }
-    ensures { λ r. ⌜ ((s : State) → ShowsTable (columns (now (numbers .entry)) (now (readings .entry)) (now («blob_lens» .entry)) (now («fields_lens» .entry)) (now («comment_lens» .entry)) (now (seconds .entry)) (now (limited .entry)) (now (confirm .entry))) (now (comments .entry)) s → Sound s (now (store .entry)) → (a : rule.Answers) → Ends (now (reply .entry)) (record { outcome = r; state = withTable (columns (now (numbers .exit)) (now (readings .exit)) (now («blob_lens» .exit)) (now («fields_lens» .exit)) (now («comment_lens» .exit)) (now (seconds .exit)) (now (limited .exit)) (now (confirm .exit))) (now (comments .exit)) s }) (now (store .exit)) (now (reply .exit)) (follow (lent a) (gatewayOf s (now (store .entry))) (removing (gatewayOf s (now (store .entry))) (now (payload .entry))))) ⌝ }
+    requires { ⌜ (5 ≤ length (now reply)) × (SoundOf (ShowsTable (columns (now numbers) (now readings) (now «blob_lens») (now «fields_lens») (now «comment_lens») (now seconds) (now limited) (now confirm))) (now store)) ⌝ }
+    ensures { λ r. ⌜ ((s : State) → ShowsTable (columns (now (numbers .entry)) (now (readings .entry)) (now («blob_lens» .entry)) (now («fields_lens» .entry)) (now («comment_lens» .entry)) (now (seconds .entry)) (now (limited .entry)) (now (confirm .entry))) s → Sound s (now (store .entry)) → (a : rule.Answers) → Ends (now (reply .entry)) (record { outcome = r; state = withTable (columns (now (numbers .exit)) (now (readings .exit)) (now («blob_lens» .exit)) (now («fields_lens» .exit)) (now («comment_lens» .exit)) (now (seconds .exit)) (now (limited .exit)) (now (confirm .exit))) s }) (now (store .exit)) (now (reply .exit)) (follow (lent a) (gatewayOf s (now (store .entry))) (removing (gatewayOf s (now (store .entry))) (now (payload .entry))))) ⌝ }
 {
     let start = Cursor { at: 1 };
     let Part::Whole { from, to, next: _ } = start.string(payload) else {
         return failure(reply);
     };
-    match places::find(numbers, blob_lens, store, cut(payload, from, to)) {
+    match entries::find(
+        numbers,
+        blob_lens,
+        fields_lens,
+        comment_lens,
+        store,
+        cut(payload, from, to),
+    ) {
         Found::At(i) => {
             changes::remove(
                 numbers,
@@ -53,7 +59,6 @@ pub fn remove_identity(
                 seconds,
                 limited,
                 confirm,
-                comments,
                 store,
                 i,
             );
@@ -73,12 +78,11 @@ pub fn remove_all_identities(
     seconds: &mut [u32],
     limited: &mut [u8],
     confirm: &mut [u8],
-    comments: &mut [u8],
     store: &mut [u8],
     reply: &mut [u8],
 ) -> Outcome
-    requires { ⌜ (5 ≤ length (now reply)) × (SoundOf (ShowsTable (columns (now numbers) (now readings) (now «blob_lens») (now «fields_lens») (now «comment_lens») (now seconds) (now limited) (now confirm)) (now comments)) (now store)) ⌝ }
-    ensures { λ r. ⌜ ((s : State) → ShowsTable (columns (now (numbers .entry)) (now (readings .entry)) (now («blob_lens» .entry)) (now («fields_lens» .entry)) (now («comment_lens» .entry)) (now (seconds .entry)) (now (limited .entry)) (now (confirm .entry))) (now (comments .entry)) s → Sound s (now (store .entry)) → (a : rule.Answers) → Ends (now (reply .entry)) (record { outcome = r; state = withTable (columns (now (numbers .exit)) (now (readings .exit)) (now («blob_lens» .exit)) (now («fields_lens» .exit)) (now («comment_lens» .exit)) (now (seconds .exit)) (now (limited .exit)) (now (confirm .exit))) (now (comments .exit)) s }) (now (store .exit)) (now (reply .exit)) (follow (lent a) (gatewayOf s (now (store .entry))) (removingAll (gatewayOf s (now (store .entry)))))) ⌝ }
+    requires { ⌜ (5 ≤ length (now reply)) × (SoundOf (ShowsTable (columns (now numbers) (now readings) (now «blob_lens») (now «fields_lens») (now «comment_lens») (now seconds) (now limited) (now confirm))) (now store)) ⌝ }
+    ensures { λ r. ⌜ ((s : State) → ShowsTable (columns (now (numbers .entry)) (now (readings .entry)) (now («blob_lens» .entry)) (now («fields_lens» .entry)) (now («comment_lens» .entry)) (now (seconds .entry)) (now (limited .entry)) (now (confirm .entry))) s → Sound s (now (store .entry)) → (a : rule.Answers) → Ends (now (reply .entry)) (record { outcome = r; state = withTable (columns (now (numbers .exit)) (now (readings .exit)) (now («blob_lens» .exit)) (now («fields_lens» .exit)) (now («comment_lens» .exit)) (now (seconds .exit)) (now (limited .exit)) (now (confirm .exit))) s }) (now (store .exit)) (now (reply .exit)) (follow (lent a) (gatewayOf s (now (store .entry))) (removingAll (gatewayOf s (now (store .entry)))))) ⌝ }
 {
     changes::remove_all(
         numbers,
@@ -89,7 +93,6 @@ pub fn remove_all_identities(
         seconds,
         limited,
         confirm,
-        comments,
         store,
     );
     success(reply)
