@@ -2,14 +2,13 @@
 use Prim.Native.Nat.{_≤_, _-_}
 use native.Mathlib.Omega.{arith}
 use mathlib.Core.Path.{_≡_, refl, ap, _∙_}
-use mathlib.Core.Bool.{true}
-use mathlib.Core.Option.{none, some}
-use mathlib.Core.List.{List, [], _∷_, map}
+use mathlib.Core.Bool.{true, cond}
+use mathlib.Core.List.{List, [], _∷_}
 use borrow.Author.Tests.{le-leb, leb-true}
 use Rattle.keys.specs.declared.constraints.Lifetime.{Lifetime}
 use Rattle.keys.specs.declared.constraints.Lifetime.the-variants.{Forever, For}
 use Rattle.rule.specs.declared.Millis.{Millis}
-use Rattle.rule.specs.Gateway.{Place, Gateway, millisOf, dueAt, lasting, atClock, later, advance}
+use Rattle.rule.specs.Gateway.{Entry, Gateway, millisOf, dueAt, lasting, atClock, later, advance}
 use Rattle.rule.proofs.Cases.{cond-cases}
 
 pub same-count : {a b : Millis} → a .count ≡ b .count → a ≡ b
@@ -23,19 +22,18 @@ due-later c d reading (For seconds) h e =
     let r : millisOf seconds .count ≤ d .count - reading .count = omega arith in
     le-leb _ _ r
 
-lasting-later : (c d : Millis) → c .count ≤ d .count → (p : Place) → lasting d (lasting c p) ≡ lasting d p
+-- what lasts to a later reading has lasted to an earlier one
+lasting-later : (c d : Millis) → c .count ≤ d .count → (es : List Entry) → lasting d (lasting c es) ≡ lasting d es
 unfolding lasting
-lasting-later c d h none = refl
-lasting-later c d h (some e) =
-    cond-cases (λ p. lasting d p ≡ lasting d (some e)) (dueAt c (e .reading) (e .lifetime)) (λ t. rw (due-later c d (e .reading) (e .lifetime) h t)) (λ t. refl)
-
-all-lasting-later : (c d : Millis) → c .count ≤ d .count → (ps : List Place) → map (lasting d) (map (lasting c) ps) ≡ map (lasting d) ps
-all-lasting-later c d h [] = refl
-all-lasting-later c d h (p ∷ ps) = λ i. lasting-later c d h p i ∷ all-lasting-later c d h ps i
+lasting-later c d h [] = refl
+lasting-later c d h (e ∷ es) =
+    cond-cases (λ l. lasting d l ≡ lasting d (e ∷ es)) (dueAt c (e .reading) (e .lifetime))
+    (λ t. rw (due-later c d (e .reading) (e .lifetime) h t) (lasting-later c d h es))
+    (λ t. ap (λ l. cond (dueAt d (e .reading) (e .lifetime)) l (e ∷ l)) (lasting-later c d h es))
 
 at-clock-later : (c d : Millis) (g : Gateway) → c .count ≤ d .count → atClock d (atClock c g) ≡ atClock d g
 unfolding atClock
-at-clock-later c d g h = λ i. record { places = all-lasting-later c d h (g .places) i; lock = g .lock; clock = d; next = g .next }
+at-clock-later c d g h = λ i. record { entries = lasting-later c d h (g .entries) i; lock = g .lock; clock = d; next = g .next }
 
 pub advance-clock : (r : Millis) (g : Gateway) → advance r g .clock ≡ later (g .clock) r
 unfolding advance atClock

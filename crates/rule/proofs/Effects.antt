@@ -25,13 +25,13 @@ use Rattle.rule.proofs.Plans.{EveryLanding}
 pub record Storable (g : Gateway) (e : Entry) (i : ℕ) : Type 0 where
   pub fits : fit (e .blob) (e .fields) (e .comment) ≡ true
   pub numbers-left : g .next < lastNumber
-  pub place : placeFor (e .blob) (g .places) ≡ At i
+  pub place : placeFor e (g .entries) ≡ At i
   pub number : e .number ≡ g .next
   pub reading : e .reading ≡ g .clock
 
 pub data Effect (g : Gateway) (l : Landing) (after : Gateway) : Type 0 where
   leaves : after ≡ g → Effect g l after
-  removes : (blob : List ℕ) (i : ℕ) → seek (holds blob) 0 (g .places) ≡ At i → l ≡ SUCCESS → after ≡ without i g → Effect g l after
+  removes : (blob : List ℕ) (i : ℕ) → seek (holds blob) 0 (g .entries) ≡ At i → l ≡ SUCCESS → after ≡ without i g → Effect g l after
   clears : l ≡ SUCCESS → after ≡ withoutAll g → Effect g l after
   locks : (passphrase : List ℕ) → length passphrase ≤ passphraseLimit → l ≡ SUCCESS → after ≡ withLock passphrase g → Effect g l after
   stores : (e : Entry) (i : ℕ) → Storable g e i → l ≡ SUCCESS → after ≡ withEntry i e g → Effect g l after
@@ -44,7 +44,7 @@ module _ (g : Gateway) where
   unfolding removing
   removing-effect payload =
       part-cases Lands (stringAt payload 1) (λ _ _. leaves refl) λ f t k _.
-      found-cases Lands (seek (holds (cutOf payload f t)) 0 (g .places)) (λ _. leaves refl) λ i e.
+      found-cases Lands (seek (holds (cutOf payload f t)) 0 (g .entries)) (λ _. leaves refl) λ i e.
       removes (cutOf payload f t) i e refl refl
 
   locking-effect : (payload : List ℕ) → Lands (locking g payload)
@@ -80,7 +80,7 @@ module _ (g : Gateway) where
   unfolding signing confirming
   signing-effect payload =
       part-cases Lands (stringAt payload 1) (λ _ _. leaves refl) λ f t k _.
-      by-key (entryWith (cutOf payload f t) (g .places)) (k .at)
+      by-key (entryWith (cutOf payload f t) (g .entries)) (k .at)
     where
       by-key : (o : Option Entry) (at : ℕ) → Lands (confirming g payload o at)
       by-key none at = leaves refl
@@ -97,7 +97,7 @@ module _ (g : Gateway) where
       (λ fits.
       cond-cases Lands (ltb (g .next) lastNumber)
       (λ left.
-      found-cases Lands (placeFor (e .blob) (g .places)) (λ _. leaves refl) λ i place granted.
+      found-cases Lands (placeFor e (g .entries)) (λ _. leaves refl) λ i place granted.
       cond-cases Lands granted
       (λ _. stores e i (record { fits = fits; numbers-left = ltb-true _ _ left; place = place; number = refl; reading = refl }) refl refl)
       (λ _. leaves refl))

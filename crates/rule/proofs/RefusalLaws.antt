@@ -15,7 +15,7 @@ use Rattle.rule.specs.Rule.{Question, Answer, Plan, land, ask, rule}
 use Rattle.rule.specs.Calls.{lent, lentLength, refusalOf, Call, refused, Result, follow, served, refusal, call}
 use Rattle.rule.proofs.Cases.{cond-cases, given-cases}
 use Rattle.rule.proofs.Plans.{refused-not-lands, refused-not-asks}
-use Rattle.rule.proofs.PlaceLaws.{some-not-none}
+use Rattle.rule.proofs.PositionLaws.{some-not-none}
 
 -- what holds of a call that no refusal meets
 pub record Accepted (g : Gateway) (c : Call) : Type 0 where

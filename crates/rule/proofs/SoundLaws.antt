@@ -4,16 +4,17 @@ use native.Mathlib.Omega.{arith}
 use mathlib.Core.Path.{_≡_, refl, sym, ap, _∙_}
 use mathlib.Core.Logic.{_↔_, _≢_}
 use mathlib.Core.Bool.{Bool, true, _&&_, not}
-use mathlib.Core.Option.{Option, none, some}
+use mathlib.Core.Option.{Option}
 use mathlib.Core.List.{List, [], _∷_}
 use borrow.Author.Tests.{leb-true, ltb-true, eqb-true, eqb-false, le-leb, lt-ltb, eq-eqb, ne-eqb}
 use lib.Dec.{leb, ltb, eqb}
-use lib.ListN.{length, length-set, length-map}
-use Rattle.wire.specs.Limits.{blobLimit, fieldsLimit, commentLimit, passphraseLimit, lastNumber}
+use lib.ListN.{length}
+use Rattle.wire.specs.Limits.{entriesLimit, storeSize, blobLimit, fieldsLimit, commentLimit, passphraseLimit, lastNumber}
 use Rattle.wire.specs.Numbers.{within}
 use Rattle.wire.specs.Read.{same}
 use Rattle.rule.specs.declared.Millis.{Millis}
-use Rattle.rule.specs.Gateway.{Entry, Place, Gateway, lasting, atClock, later, advance, withLock, without, withoutAll, withEntry, vacate}
+use Rattle.rule.specs.declared.Found.the-variants.{At}
+use Rattle.rule.specs.Gateway.{Entry, Gateway, atClock, later, advance, lengthsOf, allLengths, others, hasRoom, placeFor, removeAt, putAt, withLock, without, withoutAll, withEntry}
 use Rattle.rule.specs.Soundness.{EveryEntry, Apart, Distinct, Fits, SoundEntry, Sound, everyEntry, apart, distinct, fit, soundEntry, sound}
 use Rattle.rule.specs.Rule.{Question, Answer, Landing, Plan, land, ask, rule}
 use Rattle.rule.specs.Calls.{lent, Call, refusal, refused, Result, follow, served, call}
@@ -24,7 +25,8 @@ use Rattle.rule.proofs.Clock.{advance-next}
 use Rattle.rule.proofs.Plans.{EveryLanding, every-landing-imp}
 use Rattle.rule.proofs.Effects.{Storable, Effect, leaves, removes, clears, locks, stores, rule-effect}
 use Rattle.rule.proofs.RefusalLaws.{refusal-3, refused-by}
-use Rattle.rule.proofs.PlaceLaws.{Holds, every-at, every-imp, fewer-every, fewer-distinct, Fewer, freed-fewer, lasting-frees, vacate-frees, set-every, set-distinct, set-none-fewer, not-same, differs, found-at, absent-differs, Placed, replacing, anew, placed, distinct-at}
+use Rattle.rule.proofs.PositionLaws.{Holds, every-at, every-imp, Fewer, fewer-every, fewer-distinct, fewer-length, fewer-none, lasting-fewer, remove-fewer, put-every, put-distinct, not-same, differs, found-at, absent-differs, distinct-at, one-blob}
+use Rattle.rule.proofs.RoomLaws.{fewer-lengths, put-length, put-lengths, Placed, replacing, anew, placed-others, place-inside, has-place}
 
 -- ## The test
 
@@ -48,11 +50,10 @@ eq-says m n = (eqb-true m n, eq-eqb m n)
 pub within-says : (low high n : ℕ) → Says (within low high n) ((low ≤ n) × (n ≤ high))
 within-says low high n = both-say _ _ _ _ (le-says low n) (le-says n high)
 
-every-says : (test : Entry → Bool) (P : Entry → Type 0) → ((e : Entry) → Says (test e) (P e)) → (ps : List Place) → Says (everyEntry test ps) (EveryEntry P ps)
+pub every-says : (test : Entry → Bool) (P : Entry → Type 0) → ((e : Entry) → Says (test e) (P e)) → (es : List Entry) → Says (everyEntry test es) (EveryEntry P es)
 unfolding everyEntry
 every-says test P f [] = ((λ _. tt), (λ _. refl))
-every-says test P f (none ∷ ps) = every-says test P f ps
-every-says test P f (some e ∷ ps) = both-say _ _ _ _ (f e) (every-says test P f ps)
+every-says test P f (e ∷ es) = both-say _ _ _ _ (f e) (every-says test P f es)
 
 same-says : (a b : List ℕ) → Says (not (same a b)) (a ≢ b)
 same-says a b = ((λ t. not-same a b (not-true _ t)), (λ n. ap not (differs a b n)))
@@ -65,11 +66,22 @@ apart-says e x =
     let all = both-say _ _ _ _ (same-says (e .blob) (x .blob)) (number-says (e .number) (x .number)) in
     ((λ t. record { blobs = all .0 t .0; numbers = all .0 t .1 }), (λ a. all .1 (a .blobs, a .numbers)))
 
-pub distinct-says : (ps : List Place) → Says (distinct ps) (Distinct ps)
+pub distinct-says : (es : List Entry) → Says (distinct es) (Distinct es)
 unfolding distinct
 distinct-says [] = ((λ _. tt), (λ _. refl))
-distinct-says (none ∷ ps) = distinct-says ps
-distinct-says (some e ∷ ps) = both-say _ _ _ _ (every-says (apart e) (Apart e) (apart-says e) ps) (distinct-says ps)
+distinct-says (e ∷ es) = both-say _ _ _ _ (every-says (apart e) (Apart e) (apart-says e) es) (distinct-says es)
+
+-- beside these there is room
+pub record RoomBeside (os : List Entry) (e : Entry) : Type 0 where
+  pub count : length os < entriesLimit
+  pub bytes : allLengths os + lengthsOf e ≤ storeSize
+
+pub room-says : (e : Entry) (es : List Entry) → Says (hasRoom e es) (RoomBeside (others (e .blob) es) e)
+unfolding hasRoom
+room-says e es =
+    let os = others (e .blob) es in
+    let all = both-say _ _ _ _ (lt-says (length os) entriesLimit) (le-says (allLengths os + lengthsOf e) storeSize) in
+    ((λ t. record { count = all .0 t .0; bytes = all .0 t .1 }), (λ r. all .1 (r .count, r .bytes)))
 
 pub fit-says : (blob fields comment : List ℕ) → Says (fit blob fields comment) (Fits blob fields comment)
 unfolding fit
@@ -100,51 +112,61 @@ entry-says clock next e =
 pub sound-rule : SoundRule
 unfolding sound
 sound-rule g =
-    let p = both-say _ _ _ _ (eq-says (length (g .places)) 8) (every-says _ _ (entry-says (g .clock) (g .next)) (g .places)) in
-    let q = both-say _ _ _ _ (distinct-says (g .places)) (both-say _ _ _ _ (le-says (length (g .lock)) passphraseLimit) (within-says 1 lastNumber (g .next))) in
+    let room = both-say _ _ _ _ (le-says (length (g .entries)) entriesLimit) (le-says (allLengths (g .entries)) storeSize) in
+    let p = both-say _ _ _ _ room (every-says _ _ (entry-says (g .clock) (g .next)) (g .entries)) in
+    let q = both-say _ _ _ _ (distinct-says (g .entries)) (both-say _ _ _ _ (le-says (length (g .lock)) passphraseLimit) (within-says 1 lastNumber (g .next))) in
     let all = both-say _ _ _ _ p q in (
       (λ t.
           let h = all .0 t in
           record {
-            eight-places = h .0 .0;
+            few = h .0 .0 .0;
+            room = h .0 .0 .1;
             entries = h .0 .1;
             distinct = h .1 .0;
             lock-fits = h .1 .1 .0;
             next-first = h .1 .1 .1 .0;
             next-last = h .1 .1 .1 .1;
           }),
-      (λ s. all .1 ((s .eight-places, s .entries), (s .distinct, (s .lock-fits, (s .next-first, s .next-last))))),
+      (λ s. all .1 (((s .few, s .room), s .entries), (s .distinct, (s .lock-fits, (s .next-first, s .next-last))))),
     )
 
 pub sound-apart : SoundApart
-sound-apart g i j e x s n h k = let a = distinct-at (g .places) (s .distinct) i j e x n h k in (a .blobs, a .numbers)
+sound-apart g i j e x s n h k = let a = distinct-at (g .entries) (s .distinct) i j e x n h k in (a .blobs, a .numbers)
 
 pub fresh-sound : FreshSound
-fresh-sound = record { eight-places = refl; entries = tt; distinct = tt; lock-fits = omega arith; next-first = omega arith; next-last = omega arith }
+unfolding allLengths
+fresh-sound = record { few = omega arith; room = omega arith; entries = tt; distinct = tt; lock-fits = omega arith; next-first = omega arith; next-last = omega arith }
 
 -- ## What keeps it
 
 -- fewer entries, a later clock
-pub sound-fewer : (g after : Gateway) → length (after .places) ≡ length (g .places) → Fewer (g .places) (after .places)
+pub sound-fewer : (g after : Gateway) → Fewer (g .entries) (after .entries)
     → after .lock ≡ g .lock → g .clock .count ≤ after .clock .count → after .next ≡ g .next → Sound g → Sound after
-sound-fewer g after l f lock clock next s = record {
-  eight-places = l ∙ s .eight-places;
-  entries = fewer-every _ (g .places) (after .places) f (every-imp (SoundEntry (g .clock) (g .next)) _ (λ e h. omega arith) (g .places) (s .entries));
-  distinct = fewer-distinct (g .places) (after .places) f (s .distinct);
-  lock-fits = rw lock (s .lock-fits);
-  next-first = rw next (s .next-first);
-  next-last = rw next (s .next-last);
-}
+sound-fewer g after f lock clock next s =
+    let count = fewer-length f in
+    let bytes = fewer-lengths f in
+    let few : length (g .entries) ≤ entriesLimit = s .few in
+    let room : allLengths (g .entries) ≤ storeSize = s .room in
+    record {
+      few = omega arith;
+      room = omega arith;
+      entries = fewer-every _ f (every-imp (SoundEntry (g .clock) (g .next)) _ (λ e h. omega arith) (g .entries) (s .entries));
+      distinct = fewer-distinct f (s .distinct);
+      lock-fits = rw lock (s .lock-fits);
+      next-first = rw next (s .next-first);
+      next-last = rw next (s .next-last);
+    }
 
 pub sound-advance : (r : Millis) (g : Gateway) → Sound g → Sound (advance r g)
 unfolding advance atClock
 sound-advance r g s =
     let raised : g .clock .count ≤ later (g .clock) r .count = omega arith in
-    sound-fewer g (advance r g) (length-map (g .places) _) (freed-fewer (lasting (later (g .clock) r)) (lasting-frees (later (g .clock) r)) (g .places)) refl raised refl s
+    sound-fewer g (advance r g) (lasting-fewer (later (g .clock) r) (g .entries)) refl raised refl s
 
 pub sound-lock : (passphrase : List ℕ) (g : Gateway) → length passphrase ≤ passphraseLimit → Sound g → Sound (withLock passphrase g)
 sound-lock passphrase g h s = record {
-  eight-places = s .eight-places;
+  few = s .few;
+  room = s .room;
   entries = s .entries;
   distinct = s .distinct;
   lock-fits = h;
@@ -152,20 +174,30 @@ sound-lock passphrase g h s = record {
   next-last = s .next-last;
 }
 
--- the entry that is put in differs from all but the one whose place it takes
-new-apart : (g : Gateway) (e : Entry) (i : ℕ) → Sound g → e .number ≡ g .next → Placed (e .blob) (g .places) i
-    → (j : ℕ) (x : Entry) → j ≢ i → Holds (g .places) j x → Apart e x
+-- the entry that is put in differs from all but the one whose position it takes
+new-apart : (g : Gateway) (e : Entry) (i : ℕ) → Sound g → e .number ≡ g .next → Placed (e .blob) (g .entries) i
+    → (j : ℕ) (x : Entry) → j ≢ i → Holds (g .entries) j x → Apart e x
 new-apart g e i s n p j x d h =
-    let old-number = every-at (SoundEntry (g .clock) (g .next)) (g .places) (s .entries) j x h .number-taken in
+    let old-number = every-at (SoundEntry (g .clock) (g .next)) (g .entries) (s .entries) j x h .number-taken in
     record { blobs = other-blob p; numbers = λ q. omega arith }
   where
-    other-blob : Placed (e .blob) (g .places) i → e .blob ≢ x .blob
+    other-blob : Placed (e .blob) (g .entries) i → e .blob ≢ x .blob
     other-blob (replacing at) q =
-        let old = found-at (e .blob) (g .places) i at in
-        distinct-at (g .places) (s .distinct) j i x (old .entry) d h (old .there) .blobs (sym q ∙ sym (old .is))
-    other-blob (anew absent _) q = every-at (λ x. x .blob ≢ e .blob) (g .places) (absent-differs (e .blob) (g .places) absent) j x h (sym q)
+        let old = found-at (e .blob) (g .entries) i at in
+        d (one-blob (g .entries) (s .distinct) j i x (old .entry) h (old .there) (sym q ∙ sym (old .is)))
+    other-blob (anew absent _) q = every-at (λ x. x .blob ≢ e .blob) (g .entries) (absent-differs (e .blob) (g .entries) absent) j x h (sym q)
 
-sound-entry : (g : Gateway) (e : Entry) (i : ℕ) → Storable g e i → Sound g → Sound (withEntry i e g)
+-- what is put in takes the room that was tested
+pub room-after : (e : Entry) (es : List Entry) (i : ℕ) → Distinct es → placeFor e es ≡ At i
+    → (length (putAt i e es) ≤ entriesLimit) × (allLengths (putAt i e es) ≤ storeSize)
+room-after e es i d p =
+    let place = has-place e es i p in
+    let room : RoomBeside (removeAt i es) e = rw (placed-others d (place .placed)) at (room-says e es .0 (place .room)) in
+    let count = put-length i e es in
+    let bytes = put-lengths i e es in
+    (omega arith, omega arith)
+
+pub sound-entry : (g : Gateway) (e : Entry) (i : ℕ) → Storable g e i → Sound g → Sound (withEntry i e g)
 sound-entry g e i h s =
     let left : g .next < lastNumber = h .numbers-left in
     let number : e .number ≡ g .next = h .number in
@@ -173,11 +205,14 @@ sound-entry g e i h s =
     let first : 1 ≤ g .next = s .next-first in
     let new : SoundEntry (g .clock) (g .next + 1) e
     = record { lengths = fit-says (e .blob) (e .fields) (e .comment) .0 (h .fits); number-first = omega arith; number-taken = omega arith; reading-past = omega arith } in
-    let old = every-imp (SoundEntry (g .clock) (g .next)) (SoundEntry (g .clock) (g .next + 1)) (λ x k. omega arith) (g .places) (s .entries) in
+    let old = every-imp (SoundEntry (g .clock) (g .next)) (SoundEntry (g .clock) (g .next + 1)) (λ x k. omega arith) (g .entries) (s .entries) in
+    let place = has-place e (g .entries) i (h .place) .placed in
+    let room = room-after e (g .entries) i (s .distinct) (h .place) in
     record {
-      eight-places = length-set (g .places) i (some e) ∙ s .eight-places;
-      entries = set-every (SoundEntry (g .clock) (g .next + 1)) (g .places) i e new old;
-      distinct = set-distinct (g .places) i e (new-apart g e i s number (placed (e .blob) (g .places) i (h .place))) (s .distinct);
+      few = room .0;
+      room = room .1;
+      entries = put-every (g .entries) i e (place-inside place) (SoundEntry (g .clock) (g .next + 1)) new old;
+      distinct = put-distinct (g .entries) i e (place-inside place) (new-apart g e i s number place) (s .distinct);
       lock-fits = s .lock-fits;
       next-first = omega arith;
       next-last = omega arith;
@@ -185,10 +220,8 @@ sound-entry g e i h s =
 
 sound-effect : {g after : Gateway} {l : Landing} → Sound g → Effect g l after → Sound after
 sound-effect s (leaves e) = rw e s
-sound-effect {g} s (removes blob i _ _ e) =
-    rw e (sound-fewer g (without i g) (length-set (g .places) i none) (set-none-fewer (g .places) i) refl (omega arith) refl s)
-sound-effect {g} s (clears _ e) =
-    rw e (sound-fewer g (withoutAll g) (length-map (g .places) vacate) (freed-fewer vacate vacate-frees (g .places)) refl (omega arith) refl s)
+sound-effect {g} s (removes blob i _ _ e) = rw e (sound-fewer g (without i g) (remove-fewer i (g .entries)) refl (omega arith) refl s)
+sound-effect {g} s (clears _ e) = rw e (sound-fewer g (withoutAll g) (fewer-none (g .entries)) refl (omega arith) refl s)
 sound-effect {g} s (locks passphrase fits _ e) = rw e (sound-lock passphrase g fits s)
 sound-effect {g} s (stores entry i storable _ e) = rw e (sound-entry g entry i storable s)
 
