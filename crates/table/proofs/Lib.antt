@@ -1,2 +1,5 @@
 -- The laws that the proofs of functions cite, and the proofs of what is promised.
 pub mod ByteLaws
+pub mod EachLaws
+pub mod EntryLaws
+pub mod WritingLaws

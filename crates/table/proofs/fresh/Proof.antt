@@ -1,13 +1,13 @@
--- Every column, the comments and the passphrase are zeros, as of eight free places. Assumes nothing.
+-- Every column and the passphrase are zeros, as where nothing is held. Assumes nothing.
 use mathlib.Core.Path.{refl}
 use Rattle.table.specs.Bytes.{padded}
-use Rattle.table.specs.Entries.{columnsOf, commentsOf}
-use Rattle.table.specs.Meaning.{entryFor, lockOf, stateOf}
+use Rattle.table.specs.Entries.{columnsOf}
+use Rattle.table.specs.Meaning.{lockOf, stateOf}
 use Rattle.table.proofs.fresh.Statement.{statement}
 use Rattle.table.proofs.fresh.Tie as tie
 
 returns : tie.Need-returns
-unfolding stateOf columnsOf commentsOf entryFor lockOf padded
+unfolding stateOf columnsOf lockOf padded
 returns c = refl
 
 pub fresh-spec : {M : Type 1} → statement M
