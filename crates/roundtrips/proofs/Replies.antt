@@ -1,7 +1,6 @@
 -- The agent's list is one as it is written, its comments UTF-8, so the reader takes it; lengths are those of a sound gateway.
-use Prim.Native.Nat.{ℕ, zero, suc, _+_, _^_, _≤_, _<_}
+use Prim.Native.Nat.{ℕ, zero, suc, _+_, _^_, _<_}
 use mathlib.Core.Path.{_≡_, refl, sym, ap, ap₂, subst, _∙_}
-use mathlib.Core.Option.{none, some}
 use mathlib.Core.List.{List, [], _∷_, _++_, map}
 use native.Mathlib.Omega.{arith}
 use lib.ListN.{length, getD, take, length-map}
@@ -10,15 +9,15 @@ use Rattle.wire.specs.Abnf.{Octets}
 use Rattle.wire.specs.Write.{string}
 use Rattle.wire.specs.Refusals.{grants}
 use Rattle.wire.proofs.FrameLaws.{splits}
-use Rattle.rule.specs.Gateway.{Entry, Place, fresh}
+use Rattle.rule.specs.Gateway.{Entry, fresh}
 use Rattle.rule.specs.Soundness.{EveryEntry, SoundEntry}
 use Rattle.rule.specs.Rule.{reply, signatureReply}
 use Rattle.rule.specs.Calls.{lands}
 use Rattle.rule.specs.Runs.{endOf}
 use Rattle.rule.specs.Words.{atCall}
 use Rattle.rule.specs.Rows.{list}
-use Rattle.rule.specs.Listing.{Lists, none-left, free, taken, itemForms}
-use Rattle.rule.proofs.PlaceLaws.{every-at, every-of}
+use Rattle.rule.specs.Listing.{itemForms}
+use Rattle.rule.proofs.PositionLaws.{every-at, every-of}
 use Rattle.rule.proofs.RefusalLaws.{accepted}
 use Rattle.rule.proofs.SoundLaws.{sound-rule, sound-advance}
 use Rattle.rule.proofs.ReplyLaws.{replies-fit}
@@ -66,20 +65,9 @@ list-reply-read es h few =
 
 -- ## What the agent sends
 
-lists-of : (ps : List Place) → (es : List Entry) × Lists ps es
-lists-of [] = ([], none-left)
-lists-of (none ∷ ps) = let (es, l) = lists-of ps in (es, free l)
-lists-of (some e ∷ ps) = let (es, l) = lists-of ps in (e ∷ es, taken e l)
-
-lists-few : {ps : List Place} {es : List Entry} → Lists ps es → length es ≤ length ps
-lists-few none-left = omega arith
-lists-few (free l) = let n = lists-few l in omega arith
-lists-few (taken e l) = let n = lists-few l in omega arith
-
-lists-each : (P : Entry → Type 0) {ps : List Place} {es : List Entry} → Lists ps es → EveryEntry P ps → Each P es
-lists-each P none-left h = tt
-lists-each P (free l) h = lists-each P l h
-lists-each P (taken e l) (p, h) = (p, lists-each P l h)
+every-each : (P : Entry → Type 0) (es : List Entry) → EveryEntry P es → Each P es
+every-each P [] h = tt
+every-each P (e ∷ es) (p, h) = (p, every-each P es h)
 
 same-reply : {a b : List ℕ} → lands (reply a) ≡ lands (reply b) → a ≡ b
 same-reply e = cc
@@ -92,28 +80,25 @@ agent-list-read g c text blobs sent begins e answers =
     let sound-now = sound-advance (c .reading) g sound in
     let text-now = advance-has (λ e. Octets (e .comment)) (c .reading) g text in
     let blobs-now = advance-has (λ e. Bytes (e .blob)) (c .reading) g blobs in
-    let (es, l) = lists-of (now .places) in
-    let is : sent ≡ string (listReply es) = same-reply (sym e ∙ list-rule g c es (way .past) (way .fit) begins l) in
+    let es = now .entries in
+    let is : sent ≡ string (listReply es) = same-reply (sym e ∙ list-rule g c es (way .past) (way .fit) begins refl) in
     let fits = replies-fit g c sent sound e in
     let size = ap length is in
-    let listable : EveryEntry (λ e. Listable (listed e)) (now .places) =
-    every-of (λ e. Listable (listed e)) (now .places) (λ i x there.
-    let lengths = every-at (SoundEntry (now .clock) (now .next)) (now .places) (sound-now .entries) i x there .lengths in
+    let listable : EveryEntry (λ e. Listable (listed e)) es =
+    every-of (λ e. Listable (listed e)) es (λ i x there.
+    let lengths = every-at (SoundEntry (now .clock) (now .next)) es (sound-now .entries) i x there .lengths in
     record {
-      bytes = every-at (λ e. Bytes (e .blob)) (now .places) blobs-now i x there;
-      text = every-at (λ e. Octets (e .comment)) (now .places) text-now i x there;
+      bytes = every-at (λ e. Bytes (e .blob)) es blobs-now i x there;
+      text = every-at (λ e. Octets (e .comment)) es text-now i x there;
       blob-small = omega (arith, lengths .blob-fits);
       comment-small = omega (arith, lengths .comment-fits);
     }) in
-    let few : length es < 2 ^ 32 = omega (arith, lists-few l, sound-now .eight-places) in (
-      es,
-      l,
-      record {
-        payload = listReply es;
-        splits = rw is (splits (listReply es) (omega arith) .alone);
-        reads = list-reply-read es (lists-each (λ e. Listable (listed e)) l listable) few;
-      },
-    )
+    let few : length es < 2 ^ 32 = omega (arith, sound-now .few) in
+    record {
+      payload = listReply es;
+      splits = rw is (splits (listReply es) (omega arith) .alone);
+      reads = list-reply-read es (every-each (λ e. Listable (listed e)) es listable) few;
+    }
 
 pub fresh-list-read : FreshListRead
 fresh-list-read cs c small = agent-list-read (endOf fresh cs) c (text-from-fresh cs small) (bytes-from-fresh cs small)

@@ -24,7 +24,7 @@ use Rattle.rule.specs.Rule.{reply, FAILURE, signatureReply}
 use Rattle.rule.specs.Calls.{Call, lands, call}
 use Rattle.rule.specs.Runs.{endOf}
 use Rattle.rule.specs.Words.{Begins, Carries, atCall, payloadOf}
-use Rattle.rule.specs.Listing.{Lists, itemForms}
+use Rattle.rule.specs.Listing.{itemForms}
 use Rattle.rule.specs.Signing.{SignRequest}
 use Rattle.rule.specs.Comments.{TextComments, ByteBlobs, BytesIn}
 use Rattle.client.specs.Requests.{requestIdentities, signRequest, lockRequest, unlockRequest, addSmartcardAnswer, addSmartcardLeft}
@@ -135,11 +135,11 @@ pub record ReachesClient (sent : List ℕ) (es : List Entry) : Type 0 where
   pub splits : Holds sent payload
   pub reads : ReadsEntries payload es
 
--- a list request that lands, and does not fail, sends the entries of this moment, in place order, to the client
+-- a list request that lands, and does not fail, sends the entries of this moment, in list order, to the client
 abbrev pub SendsList : Gateway → Call → Type 0
 SendsList g c =
     (sent : List ℕ) → Begins 11 (payloadOf c) → call g c .outcome ≡ lands (reply sent) → reply sent ≢ FAILURE
-    → (es : List Entry) × Lists (atCall g c .places) es × ReachesClient sent es
+    → ReachesClient sent (atCall g c .entries)
 
 -- where every held comment is UTF-8, the client reads every list; a call that lands is of a sound gateway
 abbrev pub AgentListRead : Type 0

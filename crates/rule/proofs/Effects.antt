@@ -21,7 +21,7 @@ use Rattle.rule.specs.Rule.{Landing, FAILURE, SUCCESS, Plan, listing, re
 use Rattle.rule.proofs.Cases.{cond-cases, part-cases, number-cases, found-cases, added-cases}
 use Rattle.rule.proofs.Plans.{EveryLanding}
 
--- an entry that may be stored, at a place for it
+-- an entry that may be stored, at a position for it
 pub record Storable (g : Gateway) (e : Entry) (i : ℕ) : Type 0 where
   pub fits : fit (e .blob) (e .fields) (e .comment) ≡ true
   pub numbers-left : g .next < lastNumber

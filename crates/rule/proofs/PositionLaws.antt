@@ -2,7 +2,7 @@
 use Prim.Native.Nat.{ℕ, zero, suc, _+_, _≤_, _<_}
 use native.Mathlib.Omega.{arith}
 use mathlib.Core.Path.{_≡_, refl, sym, ap, _∙_}
-use mathlib.Core.Logic.{_≢_}
+use mathlib.Core.Logic.{_≢_, _⊎_, inl, inr}
 use mathlib.Core.Bool.{Bool, true, false}
 use mathlib.Core.Option.{none, some}
 use mathlib.Core.List.{List, [], _∷_, _++_}
@@ -22,6 +22,14 @@ some-not-none e = let z : _≡_ {A = ℕ} 0 1 = cc in omega arith
 
 pub same-entry : {e x : Entry} → some e ≡ some x → e ≡ x
 same-entry p = cc
+
+-- one position, or two
+pub same-or-other : (i j : ℕ) → (i ≡ j) ⊎ (i ≢ j)
+same-or-other i j = by-test (eqb i j) refl
+  where
+    by-test : (b : Bool) → eqb i j ≡ b → (i ≡ j) ⊎ (i ≢ j)
+    by-test true t = inl (eqb-true i j t)
+    by-test false t = inr (eqb-false i j t)
 
 -- e stands at position i
 abbrev pub Holds : List Entry → ℕ → Entry → Type 0
@@ -80,11 +88,11 @@ distinct-of (y ∷ es) f = (
 
 -- an entry, and a blob, stands at one position
 pub one-blob : (es : List Entry) → Distinct es → (i j : ℕ) (e x : Entry) → Holds es i e → Holds es j x → e .blob ≡ x .blob → i ≡ j
-one-blob es d i j e x h k p = by-position (eqb i j) refl
+one-blob es d i j e x h k p = by-position (same-or-other i j)
   where
-    by-position : (b : Bool) → eqb i j ≡ b → i ≡ j
-    by-position true t = eqb-true i j t
-    by-position false t = absurd (distinct-at es d i j e x (eqb-false i j t) h k .blobs p)
+    by-position : (i ≡ j) ⊎ (i ≢ j) → i ≡ j
+    by-position (inl here) = here
+    by-position (inr other) = absurd (distinct-at es d i j e x other h k .blobs p)
 
 pub one-position : (es : List Entry) → Distinct es → (i j : ℕ) (e : Entry) → Holds es i e → Holds es j e → i ≡ j
 one-position es d i j e h k = one-blob es d i j e e h k refl
@@ -150,6 +158,18 @@ pub lasting-fewer : (clock : Millis) (es : List Entry) → Fewer es (lasting clo
 unfolding lasting
 lasting-fewer clock [] = ended
 lasting-fewer clock (e ∷ es) = cond-cases (Fewer (e ∷ es)) (dueAt clock (e .reading) (e .lifetime)) (λ _. gone e (lasting-fewer clock es)) (λ _. kept e (lasting-fewer clock es))
+
+-- what is not due stays
+pub lasting-keeps : (clock : Millis) (es : List Entry) (i : ℕ) (e : Entry) → Holds es i e → dueAt clock (e .reading) (e .lifetime) ≡ false
+    → (j : ℕ) × Holds (lasting clock es) j e
+unfolding lasting
+lasting-keeps clock [] i e h early = absurd (some-not-none (sym h))
+lasting-keeps clock (x ∷ es) zero e h early =
+    let same : x ≡ e = same-entry h in
+    rw same (rw early (0, refl))
+lasting-keeps clock (x ∷ es) (suc i) e h early =
+    let (j, there) = lasting-keeps clock es i e h early in
+    cond-cases (λ l. (j : ℕ) × Holds l j e) (dueAt clock (x .reading) (x .lifetime)) (λ _. (j, there)) (λ _. (suc j, there))
 
 -- ## An entry taken out
 
@@ -230,14 +250,13 @@ pub data AfterPut (es : List Entry) (i : ℕ) (e : Entry) (j : ℕ) (x : Entry) 
 
 module _ (es : List Entry) (i : ℕ) (e : Entry) (inside : i ≤ length es) where
   pub put-holds : (j : ℕ) (x : Entry) → Holds (putAt i e es) j x → AfterPut es i e j x
-  put-holds j x h = by-position (eqb j i) refl
+  put-holds j x h = by-position (same-or-other j i)
     where
-      by-position : (b : Bool) → eqb j i ≡ b → AfterPut es i e j x
-      by-position true t =
-          let p : j ≡ i = eqb-true j i t in
-          let there : Holds (putAt i e es) i x = rw p at h in
-          put-in p (same-entry (sym (put-there i e es inside) ∙ there))
-      by-position false t = let n = eqb-false j i t in stood n (sym (put-elsewhere i e es inside j n) ∙ h)
+      by-position : (j ≡ i) ⊎ (j ≢ i) → AfterPut es i e j x
+      by-position (inl here) =
+          let there : Holds (putAt i e es) i x = rw here at h in
+          put-in here (same-entry (sym (put-there i e es inside) ∙ there))
+      by-position (inr other) = stood other (sym (put-elsewhere i e es inside j other) ∙ h)
 
   pub put-every : (P : Entry → Type 0) → P e → EveryEntry P es → EveryEntry P (putAt i e es)
   put-every P new all = every-of P (putAt i e es) (λ j x h. old-or-new j x (put-holds j x h))
@@ -279,8 +298,8 @@ NonePasses test es = EveryEntry (λ x. test x ≡ false) es
 pub at-not-nothing : {i : ℕ} → At i ≡ Nothing → ⊥
 at-not-nothing e = let z : _≡_ {A = ℕ} 0 1 = cc in omega arith
 
-pub same-place : {i j : ℕ} → At i ≡ At j → i ≡ j
-same-place e = cc
+pub same-position : {i j : ℕ} → At i ≡ At j → i ≡ j
+same-position e = cc
 
 module _ (test : Entry → Bool) where
   first-here : (e : Entry) (es : List Entry) → test e ≡ true → First test (e ∷ es) 0
@@ -309,7 +328,7 @@ module _ (test : Entry → Bool) where
   seek-from k [] i = λ e. absurd (at-not-nothing (sym e))
   seek-from k (x ∷ es) i =
       cond-cases (λ f. f ≡ At i → (n : ℕ) × (i ≡ k + n) × First test (x ∷ es) n) (test x)
-      (λ t e. (0, let h = same-place e in omega arith, first-here x es t))
+      (λ t e. (0, let h = same-position e in omega arith, first-here x es t))
       (λ t e. let (n, h, f) = seek-from (suc k) es i e in (suc n, omega arith, first-behind x es n t f))
 
   pub seek-first : (es : List Entry) (i : ℕ) → seek test 0 es ≡ At i → First test es i

@@ -10,7 +10,7 @@ use Rattle.rule.specs.declared.Found.the-variants.{At, Nothing}
 use Rattle.rule.specs.Gateway.{Entry, seek, holds, lengthsOf, allLengths, others, hasRoom, positionFor, placeFor, removeAt, putAt}
 use Rattle.rule.specs.Soundness.{EveryEntry, Apart, Distinct}
 use Rattle.rule.proofs.Cases.{cond-cases, found-cases}
-use Rattle.rule.proofs.PositionLaws.{some-not-none, Holds, every-imp, Fewer, ended, gone, kept, First, NonePasses, seek-first, seek-none, differs, first-passes, first-rest, at-not-nothing, same-place}
+use Rattle.rule.proofs.PositionLaws.{some-not-none, Holds, every-imp, Fewer, ended, gone, kept, First, NonePasses, seek-first, seek-none, differs, first-passes, first-rest, at-not-nothing, same-position}
 
 -- ## Bytes and positions
 
@@ -107,10 +107,13 @@ pub has-place : (e : Entry) (es : List Entry) (i : ℕ) → placeFor e es ≡ At
 unfolding placeFor
 has-place e es i =
     cond-cases (λ f. f ≡ At i → HasPlace e es i) (hasRoom e es)
-    (λ room at. let p : positionFor (e .blob) es ≡ i = same-place at in record { room = room; placed = rw p at (position-placed (e .blob) es) })
+    (λ room at. let p : positionFor (e .blob) es ≡ i = same-position at in record { room = room; placed = rw p at (position-placed (e .blob) es) })
     (λ _ never. absurd (at-not-nothing (sym never)))
 
-pub no-place : (e : Entry) (es : List Entry) → placeFor e es ≡ Nothing → hasRoom e es ≡ false
+pub room-place : (e : Entry) (es : List Entry) → hasRoom e es ≡ true → placeFor e es ≡ At (positionFor (e .blob) es)
 unfolding placeFor
-no-place e es =
-    cond-cases (λ f. f ≡ Nothing → hasRoom e es ≡ false) (hasRoom e es) (λ _ never. absurd (at-not-nothing never)) (λ none-left _. none-left)
+room-place e es room = rw room
+
+pub no-place : (e : Entry) (es : List Entry) → hasRoom e es ≡ false → placeFor e es ≡ Nothing
+unfolding placeFor
+no-place e es full = rw full

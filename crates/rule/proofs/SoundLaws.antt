@@ -3,7 +3,7 @@ use Prim.Native.Nat.{ℕ, _+_, _≤_, _<_}
 use native.Mathlib.Omega.{arith}
 use mathlib.Core.Path.{_≡_, refl, sym, ap, _∙_}
 use mathlib.Core.Logic.{_↔_, _≢_}
-use mathlib.Core.Bool.{Bool, true, _&&_, not}
+use mathlib.Core.Bool.{Bool, true, false, _&&_, not}
 use mathlib.Core.Option.{Option}
 use mathlib.Core.List.{List, [], _∷_}
 use borrow.Author.Tests.{leb-true, ltb-true, eqb-true, eqb-false, le-leb, lt-ltb, eq-eqb, ne-eqb}
@@ -37,6 +37,11 @@ Says b P = (b ≡ true) ↔ P
 -- two tests say two facts
 pub both-say : (a b : Bool) (P Q : Type 0) → Says a P → Says b Q → Says (a && b) (P × Q)
 both-say a b P Q p q = ((λ t. (p .0 (and-left a b t), q .0 (and-right a b t))), (λ (x, y). both-true a b (p .1 x) (q .1 y)))
+
+-- where the fact does not hold, the test is not passed
+pub says-not : (b : Bool) {P : Type 0} → Says b P → (P → ⊥) → b ≡ false
+says-not true says never = absurd (never (says .0 refl))
+says-not false says never = refl
 
 pub le-says : (m n : ℕ) → Says (leb m n) (m ≤ n)
 le-says m n = (leb-true m n, le-leb m n)
@@ -235,7 +240,7 @@ module _ (P : Gateway → Type 0) where
   follow-keeps lent g (land l after) h k = k
   follow-keeps lent g (ask q onwards) h k = given-cases (λ (r : Result). P (r .gateway)) (lent q) (λ _. h) (λ a _. follow-keeps lent g (onwards a) h (k a))
 
-  call-keeps : (g : Gateway) (c : Call) → P g → P (advance (c .reading) g)
+  pub call-keeps : (g : Gateway) (c : Call) → P g → P (advance (c .reading) g)
       → ((l : Landing) (after : Gateway) → Effect (advance (c .reading) g) l after → P after) → P (call g c .gateway)
   unfolding call served
   call-keeps g c h k f =
