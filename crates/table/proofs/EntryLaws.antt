@@ -1,7 +1,7 @@
 -- Laws of columns side by side: how many entries they show, where the bytes of each begin, and that they are written in one way.
 use Prim.Native.Nat.{ℕ, zero, suc, _+_, _-_, _≤_, _<_}
 use mathlib.Core.Path.{_≡_, refl, sym, ap, _∙_}
-use mathlib.Core.Logic.{_≢_}
+use mathlib.Core.Logic.{_≢_, _⊎_, inl, inr}
 use mathlib.Core.Bool.{Bool, true, false, cond}
 use mathlib.Core.List.{List, [], _∷_, _++_, map}
 use native.Mathlib.Omega.{arith}
@@ -11,6 +11,7 @@ use lib.ListN.{length, take, drop, getD, replicate, length-map, length-drop, tak
 use lib.Seq.{getD-drop, take-nil}
 use lib.Dec.{eqb}
 use Rattle.wire.specs.Limits.{entriesLimit}
+use Rattle.wire.proofs.Reading.{le-or-lt}
 use Rattle.rule.proofs.Cases.{cond-cases}
 use Rattle.table.specs.declared.Columns.{Columns}
 use Rattle.table.specs.declared.Figures.{Figures}
@@ -95,6 +96,13 @@ count-step (n ∷ ns) i = cond-cases (λ c. i ≤ c → getD (n ∷ ns) i 0 ≢ 
     by-index : (i : ℕ) → ((i : ℕ) → i ≤ countOf ns → getD ns i 0 ≢ 0 → i + 1 ≤ countOf ns) → i ≤ suc (countOf ns) → getD (n ∷ ns) i 0 ≢ 0 → i + 1 ≤ suc (countOf ns)
     by-index zero rest h f = omega arith
     by-index (suc i) rest h f = let r = rest i (le-of-suc-le-suc h) f in omega arith
+
+pub count-ends : (ns : List ℕ) (i : ℕ) → i ≤ countOf ns → getD ns i 0 ≡ 0 → i ≡ countOf ns
+count-ends ns i h z = by-order (le-or-lt (countOf ns) i)
+  where
+    by-order : (countOf ns ≤ i) ⊎ (i < countOf ns) → i ≡ countOf ns
+    by-order (inl k) = omega arith
+    by-order (inr k) = absurd (count-held ns i k z)
 
 module _ (t : Columns) where
   pub entries-length : length (entriesIn t) ≡ countOf (t .numbers)
