@@ -7,8 +7,8 @@ use mathlib.Core.List.{List, [], _∷_, _++_, map}
 use native.Mathlib.Omega.{arith}
 use native.Mathlib.Nat.{not-suc-le-zero, le-of-suc-le-suc}
 use borrow.Author.Tests.{eqb-true, eqb-false, eq-eqb, ne-eqb}
-use lib.ListN.{length, take, drop, getD, replicate, length-map, length-drop, take-append-drop}
-use lib.Seq.{getD-drop, take-nil}
+use lib.ListN.{length, take, drop, getD, replicate, length-map, drop-of-length-le}
+use lib.Seq.{take-nil, drop-cons}
 use lib.Dec.{eqb}
 use Rattle.wire.specs.Limits.{entriesLimit}
 use Rattle.wire.proofs.Reading.{le-or-lt}
@@ -120,6 +120,15 @@ unfolding sumOf
 sum-step [] i = rw take-nil
 sum-step (n ∷ l) zero = omega arith
 sum-step (n ∷ l) (suc i) = let r = sum-step l i in omega arith
+
+-- a sum from its front: nothing so far, one more, none left
+pub sum-more : (l : List ℕ) (i : ℕ) → i < length l → sumOf (drop i l) ≡ getD l i 0 + sumOf (drop (i + 1) l)
+unfolding sumOf
+sum-more l i h = let next : i + 1 ≡ suc i = omega arith in rw (next, drop-cons l i 0 h)
+
+pub sum-ended : (l : List ℕ) (i : ℕ) → length l ≤ i → sumOf (drop i l) ≡ 0
+unfolding sumOf
+sum-ended l i h = rw (drop-of-length-le l h)
 
 pub start-step : (b f c : List ℕ) (i : ℕ) → startIn b f c (suc i) ≡ startIn b f c i + (getD b i 0 + (getD f i 0 + getD c i 0))
 unfolding startIn

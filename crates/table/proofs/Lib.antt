@@ -7,3 +7,4 @@ pub mod TestLaws
 pub mod WritingLaws
 pub mod SeekLaws
 pub mod ReadLaws
+pub mod FoundLaws

@@ -88,6 +88,17 @@ held-blob s x i h = blob-lies s x i h
 
 -- ## Bytes within the store, by the columns of lengths
 
+-- entry i, whose bytes begin at `at`: each column has it, and its bytes lie in the store
+pub record Entered (numbers blobs fields comments x : List ℕ) (i at : ℕ) : Type 0 where
+  pub held : i < countOf numbers
+  pub numbered : i < length numbers
+  pub blobs-have : i < length blobs
+  pub fields-have : i < length fields
+  pub comments-have : i < length comments
+  pub starts : at ≡ startIn blobs fields comments i
+  pub within : at + (getD blobs i 0 + (getD fields i 0 + getD comments i 0)) ≤ length x
+  pub next : at + (getD blobs i 0 + (getD fields i 0 + getD comments i 0)) ≡ startIn blobs fields comments (i + 1)
+
 module _ (numbers blobs fields comments x : List ℕ) (H : Housed numbers blobs fields comments x) (i : ℕ) (h : i < countOf numbers) where
   pub part-within : startIn blobs fields comments i + (getD blobs i 0 + (getD fields i 0 + getD comments i 0)) ≤ length x
   part-within =
@@ -98,3 +109,30 @@ module _ (numbers blobs fields comments x : List ℕ) (H : Housed numbers blobs 
 
   pub index-within : i < entriesLimit
   index-within = let w = count-within numbers in let l = H .long-numbers in omega arith
+
+  pub entered : (at : ℕ) → at ≡ startIn blobs fields comments i → Entered numbers blobs fields comments x i at
+  entered at starts =
+      let inside = index-within in
+      let part = part-within in
+      let next = start-step blobs fields comments i in
+      let suc-is : i + 1 ≡ suc i = omega arith in
+      record {
+        held = h;
+        numbered = let l = H .long-numbers in omega arith;
+        blobs-have = let l = H .long-blobs in omega arith;
+        fields-have = let l = H .long-fields in omega arith;
+        comments-have = let l = H .long-comments in omega arith;
+        starts = starts;
+        within = omega arith;
+        next = rw suc-is (omega arith);
+      }
+
+-- of a state with these columns: entry i has the blob that lies there, and another is told from it by the bytes
+pub shown-holds : (s : State) (x numbers blobs fields comments : List ℕ) → ShowsParts numbers blobs fields comments s → (i : ℕ) → i < countOf numbers
+    → (b : Bool) (blob part : List ℕ) → part ≡ take (getD blobs i 0) (drop (startIn blobs fields comments i) x) → b ≡ same part blob
+    → (entryAt (gatewayOf s x .entries) i ≡ some (keyAt s x i)) × (holds blob (keyAt s x i) ≡ b)
+shown-holds s x numbers blobs fields comments shows i h b blob part part-is test =
+    let inside : i < countOf (s .columns .numbers) = rw (shows .numbers-are) h in
+    let lies : keyAt s x i .blob ≡ take (getD blobs i 0) (drop (startIn blobs fields comments i) x)
+    = blob-lies s x i inside ∙ (λ j. take (getD (shows .blobs-are j) i 0) (drop (startIn (shows .blobs-are j) (shows .fields-are j) (shows .comments-are j) i) x)) in
+    (state-entry s x i inside, ap (λ (l : List ℕ). same l blob) (lies ∙ sym part-is) ∙ sym test)

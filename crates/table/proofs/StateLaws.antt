@@ -87,7 +87,10 @@ module _ (s : State) (x : List ℕ) where
         ∙ take-take c c (drop f (drop b (drop at x))) (omega arith)
         ∙ ap (λ (p : List ℕ). take c (drop f p)) (drop-drop b at x)
         ∙ ap (take c) (drop-drop f (at + b) x)
-        ∙ ap (λ (n : ℕ). take c (drop n x)) (omega arith)
+        ∙ ap (λ (n : ℕ). take c (drop n x)) behind
+      where
+        behind : at + b + f ≡ at + (b + f)
+        behind = omega arith
 
 -- ## Of a state and its store
 
@@ -106,7 +109,13 @@ module _ (s : State) (x : List ℕ) (i : ℕ) (h : i < countOf (s .columns .numb
       omega arith
 
   key-said : KeySays s x i (keyAt s x i)
-  key-said = record {
+  key-said =
+    let start = from-is in
+    let b = getD (s .columns .«blob_lens») i 0 in
+    let f = getD (s .columns .«fields_lens») i 0 in
+    let fields-start : startIn (s .columns .«blob_lens») (s .columns .«fields_lens») (s .columns .«comment_lens») i + b ≡ fieldsFrom s i = omega arith in
+    let comment-start : startIn (s .columns .«blob_lens») (s .columns .«fields_lens») (s .columns .«comment_lens») i + (b + f) ≡ commentFrom s i = omega arith in
+    record {
     number = refl;
     reading = refl;
     lifetime = λ f. rw f;
@@ -114,8 +123,8 @@ module _ (s : State) (x : List ℕ) (i : ℕ) (h : i < countOf (s .columns .numb
     confirm = λ f. rw f;
     no-confirm = λ f. rw f;
     blob = blob-lies s x i h ∙ ap (λ (n : ℕ). take (getD (s .columns .«blob_lens») i 0) (drop n x)) from-is;
-    fields = fields-lie s x i h ∙ ap (λ (n : ℕ). take (getD (s .columns .«fields_lens») i 0) (drop n x)) (let e = from-is in omega arith);
-    comment = comment-lies s x i h ∙ ap (λ (n : ℕ). take (getD (s .columns .«comment_lens») i 0) (drop n x)) (let e = from-is in omega arith);
+    fields = fields-lie s x i h ∙ ap (λ (n : ℕ). take (getD (s .columns .«fields_lens») i 0) (drop n x)) fields-start;
+    comment = comment-lies s x i h ∙ ap (λ (n : ℕ). take (getD (s .columns .«comment_lens») i 0) (drop n x)) comment-start;
   }
 
 pub state-rule : StateRule
