@@ -18,7 +18,7 @@ use Rattle.rule.specs.Searches.{foundPlace}
 use Rattle.rule.specs.Soundness as rule
 use Rattle.rule.proofs.Cases.{cond-cases, true-not-false}
 use Rattle.rule.proofs.PositionLaws.{some-not-none, every-at, every-of, found-at, absent-differs, differs-absent, held-found}
-use Rattle.rule.proofs.RoomLaws.{remove-length, remove-lengths, others-absent, others-found, Placed, HasPlace, has-place, room-place}
+use Rattle.rule.proofs.RoomLaws.{remove-length, remove-lengths, others-absent, others-found, Placed, replacing, anew, HasPlace, has-place, room-place}
 use Rattle.table.specs.declared.State.{State}
 use Rattle.table.specs.Each.{offset}
 use Rattle.table.specs.Entries.{countOf, startIn}
@@ -27,7 +27,7 @@ use Rattle.table.specs.Soundness.{Sound}
 use Rattle.table.specs.Shown.{SoundOf, ShowsParts}
 use Rattle.table.specs.Promises.{FoundsApart, HoldsBlob, FindRule, PlaceForRule}
 use Rattle.table.proofs.EntryLaws.{entries-length, start-is}
-use Rattle.table.proofs.StateLaws.{keyAt, state-held, blob-lies, fields-lie, comment-lies}
+use Rattle.table.proofs.StateLaws.{state-count, state-held, blob-lies, fields-lie, comment-lies}
 use Rattle.table.proofs.WritingLaws.{sound-writing, end-lengths, sound-meaning}
 use Rattle.table.proofs.ReadLaws.{state-end, state-whole-end, state-few, state-housed, part-within}
 
@@ -182,6 +182,45 @@ shown-own numbers blobs fields comments x shown blob i r at is =
       within = own-within s x S i (f .entry) (f .there);
     })
 
+-- ## How the code finds the place
+
+-- what the code's search found, of every state with these columns
+abbrev Searched : (numbers blobs fields comments x blob : List ℕ) → Found → Type 0
+Searched numbers blobs fields comments x blob r = (s : State) → ShowsParts numbers blobs fields comments s → r ≡ seek (holds blob) 0 (gatewayOf s x .entries)
+
+-- what the code says of a place, of every state with these columns and every key with this blob and size
+abbrev Chosen : (numbers blobs fields comments x blob : List ℕ) → ℕ → Found → Type 0
+Chosen numbers blobs fields comments x blob size r =
+    (s : State) (e : Key) → ShowsParts numbers blobs fields comments s → Sound s x → e .blob ≡ blob → lengthsOf e ≡ size → r ≡ placeFor e (gatewayOf s x .entries)
+
+module _ (numbers blobs fields comments x blob : List ℕ) (r : Found) (searched : Searched numbers blobs fields comments x blob r) (size : ℕ) where
+  sought : (s : State) (e : Key) → ShowsParts numbers blobs fields comments s → e .blob ≡ blob → seek (holds (e .blob)) 0 (gatewayOf s x .entries) ≡ r
+  sought s e shows is = ap (λ b. seek (holds b) 0 (gatewayOf s x .entries)) is ∙ sym (searched s shows)
+
+  pub goes-replaced : (i end own : ℕ) → r ≡ At i → end ≡ startIn blobs fields comments entriesLimit → own ≡ getD blobs i 0 + (getD fields i 0 + getD comments i 0)
+      → (f : Found) → f ≡ cond (leb (end - own + size) storeSize) (At i) Nothing → Chosen numbers blobs fields comments x blob size f
+  goes-replaced i end own at ends owns f is s e shows S same-blob sizes =
+      let ends-there = ends ∙ (λ j. startIn (sym (shows .blobs-are) j) (sym (shows .fields-are) j) (sym (shows .comments-are) j) entriesLimit) in
+      let owns-there = owns ∙ (λ j. getD (sym (shows .blobs-are) j) i 0 + (getD (sym (shows .fields-are) j) i 0 + getD (sym (shows .comments-are) j) i 0)) in
+      is ∙ (λ j. cond (leb (ends-there j - owns-there j + sym sizes j) storeSize) (At i) Nothing) ∙ replaced s x S e i (sought s e shows same-blob ∙ at)
+
+  module _ (n : ℕ) (counted : n ≡ countOf numbers) where
+    many : (s : State) → ShowsParts numbers blobs fields comments s → length (gatewayOf s x .entries) ≡ n
+    many s shows = state-count s x ∙ ap countOf (shows .numbers-are) ∙ sym counted
+
+    pub goes-last : (end : ℕ) → r ≡ Nothing → (n ≡ entriesLimit → ⊥) → end ≡ startIn blobs fields comments entriesLimit
+        → (f : Found) → f ≡ cond (leb (end + size) storeSize) (At n) Nothing → Chosen numbers blobs fields comments x blob size f
+    goes-last end none not-full ends f is s e shows S same-blob sizes =
+        let ends-there = ends ∙ (λ j. startIn (sym (shows .blobs-are) j) (sym (shows .fields-are) j) (sym (shows .comments-are) j) entriesLimit) in
+        let long = many s shows in
+        let few = sound-meaning s x S .few in
+        is ∙ (λ j. cond (leb (ends-there j + sym sizes j) storeSize) (At (sym long j)) Nothing) ∙ appended s x S e (sought s e shows same-blob ∙ none) (omega arith)
+
+    pub goes-nowhere : r ≡ Nothing → n ≡ entriesLimit → Chosen numbers blobs fields comments x blob size Nothing
+    goes-nowhere none full s e shows S same-blob sizes =
+        let long = many s shows in
+        no-position s x S e (sought s e shows same-blob ∙ none) (omega arith)
+
 pub place-for-rule : PlaceForRule
 unfolding positionFor found
 place-for-rule s x e i S =
@@ -192,7 +231,8 @@ place-for-rule s x e i S =
   where
     chosen : rule.Sound (gatewayOf s x) → Placed (e .blob) (gatewayOf s x .entries) i
         → HoldsBlob (gatewayOf s x .entries) (e .blob) i ⊎ (((j : ℕ) → HoldsBlob (gatewayOf s x .entries) (e .blob) j → ⊥) × (i ≡ length (gatewayOf s x .entries)))
-    chosen G p = ?
+    chosen G (replacing at) = inl (held-at (gatewayOf s x) G (e .blob) i at)
+    chosen G (anew absent last) = inr (none-held (gatewayOf s x) G (e .blob) absent, last)
 
     position : rule.Sound (gatewayOf s x) → HoldsBlob (gatewayOf s x .entries) (e .blob) i ⊎ (((j : ℕ) → HoldsBlob (gatewayOf s x .entries) (e .blob) j → ⊥) × (i ≡ length (gatewayOf s x .entries)))
         → positionFor (e .blob) (gatewayOf s x .entries) ≡ i
