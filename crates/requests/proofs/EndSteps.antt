@@ -25,15 +25,15 @@ use Rattle.keys.specs.declared.addition.Addition.{Addition}
 use Rattle.rule.specs.declared.Millis.{Millis}
 use Rattle.rule.specs.declared.Found.{Found}
 use Rattle.rule.specs.declared.Found.the-variants.{At, Nothing}
-use Rattle.rule.specs.Gateway.{Place, Gateway, seek, holds, found}
+use Rattle.rule.specs.Gateway.{Entry as Key, Gateway, seek, holds, found}
 use Rattle.rule.specs.Rule.{Question, Answer, Landing, reply, close, Plan, land, ask, added}
 use Rattle.rule.specs.Calls.{asks, lands, follow}
-use Rattle.rule.proofs.PlaceLaws.{seek-first}
+use Rattle.rule.proofs.PositionLaws.{seek-first}
 use Rattle.table.specs.declared.State.{State}
-use Rattle.table.specs.Meaning.{size, placeOf, entriesOf, gatewayOf}
+use Rattle.table.specs.Entries.{countOf}
+use Rattle.table.specs.Meaning.{gatewayOf}
 use Rattle.table.specs.Soundness.{Sound, Means}
-use Rattle.table.proofs.EachLaws.{each-length}
-use Rattle.table.proofs.StateLaws.{entries-length}
+use Rattle.table.proofs.StateLaws.{state-count}
 use Rattle.requests.specs.declared.Called.{Called}
 use Rattle.requests.specs.declared.Outcome.{Outcome}
 use Rattle.requests.specs.declared.Outcome.the-variants.{Reply, Close}
@@ -133,22 +133,22 @@ five o m out k at n e a f l h =
 pub means-itself : (s : State) (x : List ℕ) → Sound s x → Means s x (gatewayOf s x)
 means-itself s x h = record { gateway = refl; sound = h }
 
-abbrev with-lock : List ℕ → List Place → Millis → ℕ → Gateway
-with-lock p ps clock next = record { places = ps; lock = p; clock = clock; next = next }
+abbrev with-lock : List ℕ → List Key → Millis → ℕ → Gateway
+with-lock p ks clock next = record { entries = ks; lock = p; clock = clock; next = next }
 
 -- the lock is bytes that a call gave
-pub lock-means : (s : State) (x p q : List ℕ) (ps : List Place) (clock : Millis) (next : ℕ) → p ≡ q → Means s x (with-lock p ps clock next) → Means s x (with-lock q ps clock next)
-lock-means s x p q ps clock next e m = rw (← e) m
+pub lock-means : (s : State) (x p q : List ℕ) (ks : List Key) (clock : Millis) (next : ℕ) → p ≡ q → Means s x (with-lock p ks clock next) → Means s x (with-lock q ks clock next)
+lock-means s x p q ks clock next e m = rw (← e) m
 
 -- an empty part opens
-pub open-means : (s : State) (x p l : List ℕ) (ps : List Place) (clock : Millis) (next : ℕ) → p ≡ cutOf l 0 0 → Means s x (with-lock p ps clock next)
-    → Means s x (with-lock [] ps clock next)
+pub open-means : (s : State) (x p l : List ℕ) (ks : List Key) (clock : Millis) (next : ℕ) → p ≡ cutOf l 0 0 → Means s x (with-lock p ks clock next)
+    → Means s x (with-lock [] ks clock next)
 unfolding cutOf
-open-means s x p l ps clock next e m = lock-means s x p [] ps clock next (rw (le-leb 0 (length l) (omega arith)) at e) m
+open-means s x p l ks clock next e m = lock-means s x p [] ks clock next (rw (le-leb 0 (length l) (omega arith)) at e) m
 
 -- a search for bytes that a call gave
-pub sought : (p q : List ℕ) (ps : List Place) (w : Found) → p ≡ q → w ≡ seek (holds p) 0 ps → w ≡ seek (holds q) 0 ps
-sought p q ps w e f = rw (← e) f
+pub sought : (p q : List ℕ) (ks : List Key) (w : Found) → p ≡ q → w ≡ seek (holds p) 0 ks → w ≡ seek (holds q) 0 ks
+sought p q ks w e f = rw (← e) f
 
 -- the passphrase is tested with bytes that a call gave
 pub passphrase-of : (s : State) (x p q : List ℕ) (v b : Bool) → p ≡ q → b ≡ v → b ≡ same (take (s .lock .len) (s .lock .bytes)) p → v ≡ same (gatewayOf s x .lock) q
@@ -167,17 +167,13 @@ cut-fits s p f t n e h = rw e (⊎-elim (λ a. ⊎-elim (there a) (past a) (le-o
     back : t < f → length (cutOf s f t) ≤ n
     back a = rw (← cut-back s f t a) (omega arith)
 
--- ## Places
+-- ## Positions
 
-pub eight-places : (s : State) (x : List ℕ) → length (gatewayOf s x .places) ≡ 8
-unfolding gatewayOf
-eight-places s x = each-length size placeOf (entriesOf s) x ∙ entries-length (s .columns) (s .comments)
-
--- a search over eight places ends at one of them
-pub place-within : (s : State) (x : List ℕ) (test : Place → Bool) (w : Found) (i : ℕ) → w ≡ At i → w ≡ seek test 0 (gatewayOf s x .places) → i < 8
+-- a search over the entries ends at one of them
+pub place-within : (s : State) (x : List ℕ) (test : Key → Bool) (w : Found) (i : ℕ) → w ≡ At i → w ≡ seek test 0 (gatewayOf s x .entries) → i < countOf (s .columns .numbers)
 place-within s x test w i e f =
-    let inside = seek-first test (gatewayOf s x .places) i (sym f ∙ e) .inside in
-    let eight = eight-places s x in
+    let inside = seek-first test (gatewayOf s x .entries) i (sym f ∙ e) .inside in
+    let many = state-count s x in
     omega arith
 
 pub ruleset ends = (cond-yes, cond-no, part-fault, part-whole, number-fault, number-value, found-at, found-nothing, landed, means-itself, sought, passphrase-of, cut-fits, place-within, leb-yes, leb-no, plain, string-order, needs)

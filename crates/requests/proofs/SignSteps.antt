@@ -1,6 +1,6 @@
 -- The sign request: the answers that count for an insertion number, the signature's reply, and each end of `sign_data` and `try_sign`.
-use Prim.Native.Nat.{ℕ, _+_, _≤_}
-use mathlib.Core.Path.{_≡_, refl, sym, ap, _∙_, subst}
+use Prim.Native.Nat.{ℕ, _+_, _≤_, _<_}
+use mathlib.Core.Path.{_≡_, refl, sym, ap, _∙_}
 use mathlib.Core.Bool.{Bool, true, false, cond}
 use mathlib.Core.Option.{Option, none, some}
 use mathlib.Core.List.{List, [], _∷_, _++_}
@@ -12,16 +12,17 @@ use Rattle.wire.proofs.Writing.{write-behind}
 use Rattle.rule.specs.declared.Hash.{Hash}
 use Rattle.rule.specs.declared.Found.{Found}
 use Rattle.rule.specs.declared.Found.the-variants.{At, Nothing}
-use Rattle.rule.specs.Gateway.{Entry as Key, Place, Gateway, seek, holds, entryWith}
+use Rattle.rule.specs.Gateway.{Entry as Key, Gateway, entryAt, seek, holds, entryWith}
 use Rattle.rule.specs.Rule.{Question, Answer, Plan, ask, close, FAILURE, fails, confirmation, signature, signatureReply, signed, signingData, confirming}
 use Rattle.rule.specs.Calls.{lands, forNumber, lent, lentLength, follow}
-use Rattle.rule.proofs.PlaceLaws.{found-at as found-entry, entry-found, entry-absent}
+use Rattle.rule.proofs.PositionLaws.{found-at as found-entry, entry-found, entry-absent}
 use Rattle.rule.proofs.SignLaws.{own-number}
 use Rattle.table.specs.declared.State.{State}
-use Rattle.table.specs.Meaning.{numberIn, gatewayOf}
+use Rattle.table.specs.Entries.{countOf}
+use Rattle.table.specs.Meaning.{isSet, gatewayOf}
 use Rattle.table.specs.Soundness.{Sound, Housed}
 use Rattle.table.specs.Shown.{SoundOf, ShowsKeys}
-use Rattle.table.proofs.ReadLaws.{state-housed}
+use Rattle.table.proofs.ReadLaws.{state-housed, state-few, held-number, held-confirm}
 use Rattle.requests.specs.declared.Said.{Said}
 use Rattle.requests.specs.declared.Said.the-variants.{Missing, No, Yes}
 use Rattle.requests.specs.declared.Answers.{Answers}
@@ -79,8 +80,8 @@ module _ (answers : Answers) (bytes : List ℕ) (n : ℕ) (w : Said) (says : (b 
 
 -- ## The confirmation
 
-module _ (answers : Answers) (bytes : List ℕ) (s : State) (x buffer : List ℕ) (r : Called) (out payload : List ℕ) (p : Place) (e : Key) (there : p ≡ some e) (at n : ℕ) (number : n ≡ numberIn p)
-    (w : Said) (says : agreed p (confirmationOf (answers .confirmation)) ≡ grantOf w) where
+module _ (answers : Answers) (bytes : List ℕ) (s : State) (x buffer : List ℕ) (r : Called) (out payload : List ℕ) (e : Key) (at n flag : ℕ) (number : e .number ≡ n) (confirm : e .confirm ≡ isSet flag)
+    (w : Said) (says : agreed n (isSet flag) (confirmationOf (answers .confirmation)) ≡ grantOf w) where
   abbrev Confirms : Plan → Type 0
   Confirms plan = Ends buffer r x out (follow (lent (lentOf answers bytes)) (gatewayOf s x) plan)
 
@@ -94,10 +95,10 @@ module _ (answers : Answers) (bytes : List ℕ) (s : State) (x buffer : List ℕ
   asking = ask (confirmation n) λ granted. cond granted onwards (fails (gatewayOf s x))
 
   own : n ≡ e .number
-  own = number ∙ ap numberIn there
+  own = sym number
 
-  said : agreed (some e) (confirmationOf (answers .confirmation)) ≡ grantOf w
-  said = subst (λ (p : Place). agreed p (confirmationOf (answers .confirmation)) ≡ grantOf w) there says
+  said : agreed (e .number) (e .confirm) (confirmationOf (answers .confirmation)) ≡ grantOf w
+  said = rw (number, confirm) says
 
   -- with Confirm the confirmation that counts is what is said
   confirmer-says : (v : Said) → e .confirm ≡ true → w ≡ v → lent (lentOf answers bytes) (confirmation n) ≡ grantOf v
@@ -140,31 +141,49 @@ module _ (answers : Answers) (bytes : List ℕ) (s : State) (x buffer : List ℕ
 
 -- ## The key
 
-module _ (ns cs bs x : List ℕ) (keys : SoundOf (ShowsKeys ns cs bs) x) where
-  -- eight numbers and eight flags are lent
-  pub keys-eight : (length ns ≡ 8) × (length cs ≡ 8)
-  keys-eight =
-      (sym (ap length (keys .shows .numbers-are)) ∙ keys .sound .eight .numbers, sym (ap length (keys .shows .confirm-is)) ∙ keys .sound .eight .confirm)
+module _ (ns cs bs fs ms x : List ℕ) (keys : SoundOf (ShowsKeys ns cs bs fs ms) x) where
+  -- the entries' bytes lie in the store
+  pub keys-housed : Housed ns bs fs ms x
+  keys-housed = state-housed (keys .state) x (keys .sound) ns bs fs ms (keys .shows .parts)
 
-  -- and the blobs of the places lie in the store
-  pub keys-housed : Housed ns bs x
-  keys-housed = rw (← keys .shows .numbers-are, ← keys .shows .blobs-are) (state-housed (keys .state) x (keys .sound))
+  -- number and flag of an entry that was found are lent
+  pub keys-inside : (i : ℕ) → i < countOf (keys .state .columns .numbers) → (i < length ns) × (i < length cs)
+  keys-inside i h =
+      let few = state-few (keys .state) x (keys .sound) in
+      let numbers = sym (ap length (keys .shows .parts .numbers-are)) ∙ keys .sound .long .numbers in
+      let confirm = sym (ap length (keys .shows .confirm-is)) ∙ keys .sound .long .confirm in
+      (omega arith, omega arith)
+
+-- number and Confirm of a key that was found are those of its index
+pub key-told : (ns cs bs fs ms x : List ℕ) (s : State) → ShowsKeys ns cs bs fs ms s → (i : ℕ) (k : Key) → entryAt (gatewayOf s x .entries) i ≡ some k
+    → (k .number ≡ getD ns i 0) × (k .confirm ≡ isSet (getD cs i 0))
+key-told ns cs bs fs ms x s shows i k held =
+    (held-number s x i k held ∙ ap (λ (l : List ℕ). getD l i 0) (shows .parts .numbers-are), held-confirm s x i k held ∙ ap (λ (l : List ℕ). isSet (getD l i 0)) (shows .confirm-is))
 
 -- where the search for a blob ended says which entry the rule goes on with
 module _ (buffer : List ℕ) (r : Called) (store out : List ℕ) (answers : (q : Question) → Option (Answer q)) (g : Gateway) (payload : List ℕ) (at : ℕ) where
   abbrev Keyed : Option Key → Type 0
   Keyed o = Ends buffer r store out (follow answers g (confirming g payload o at))
 
-  pub key-absent : (v : List ℕ) (w : Found) → w ≡ Nothing → w ≡ seek (holds v) 0 (g .places) → Ends buffer r store out (follow answers g (fails g))
-      → Keyed (entryWith v (g .places))
+  pub key-absent : (v : List ℕ) (w : Found) → w ≡ Nothing → w ≡ seek (holds v) 0 (g .entries) → Ends buffer r store out (follow answers g (fails g))
+      → Keyed (entryWith v (g .entries))
   unfolding confirming
-  key-absent v w e f h = rw (entry-absent v (g .places) (sym f ∙ e)) h
+  key-absent v w e f h = rw (entry-absent v (g .entries) (sym f ∙ e)) h
 
-  pub key-found : (v : List ℕ) (w : Found) (i : ℕ) → w ≡ At i → w ≡ seek (holds v) 0 (g .places) → ((k : Key) → getD (g .places) i none ≡ some k → Keyed (some k))
-      → Keyed (entryWith v (g .places))
+  pub key-found : (v : List ℕ) (w : Found) (i : ℕ) → w ≡ At i → w ≡ seek (holds v) 0 (g .entries) → ((k : Key) → entryAt (g .entries) i ≡ some k → Keyed (some k))
+      → Keyed (entryWith v (g .entries))
   key-found v w i e f h =
-      let at-i : seek (holds v) 0 (g .places) ≡ At i = sym f ∙ e in
-      let held = found-entry v (g .places) i at-i in
-      rw (entry-found v (g .places) i at-i, held .there) (h (held .entry) (held .there))
+      let at-i : seek (holds v) 0 (g .entries) ≡ At i = sym f ∙ e in
+      let held = found-entry v (g .entries) i at-i in
+      rw (entry-found v (g .entries) i at-i, held .there) (h (held .entry) (held .there))
 
-pub ruleset signs = (ends, key-absent, key-found, signer-asked, signer-silent, signer-signs, confirmer-asked, confirmer-denies, confirmer-grants)
+-- .. by its number and its flag for Confirm
+pub key-signed : (buffer : List ℕ) (r : Called) (x out : List ℕ) (answers : (q : Question) → Option (Answer q)) (payload : List ℕ) (at : ℕ) (ns cs bs fs ms : List ℕ) (s : State)
+    → ShowsKeys ns cs bs fs ms s → (v : List ℕ) (w : Found) (i : ℕ) → w ≡ At i → w ≡ seek (holds v) 0 (gatewayOf s x .entries)
+    → ((k : Key) → k .number ≡ getD ns i 0 → k .confirm ≡ isSet (getD cs i 0) → Keyed buffer r x out answers (gatewayOf s x) payload at (some k))
+    → Keyed buffer r x out answers (gatewayOf s x) payload at (entryWith v (gatewayOf s x .entries))
+key-signed buffer r x out answers payload at ns cs bs fs ms s shows v w i e f h =
+    key-found buffer r x out answers (gatewayOf s x) payload at v w i e f λ k there.
+    let told = key-told ns cs bs fs ms x s shows i k there in h k (told .0) (told .1)
+
+pub ruleset signs = (ends, key-absent, key-signed, signer-asked, signer-silent, signer-signs, confirmer-asked, confirmer-denies, confirmer-grants)

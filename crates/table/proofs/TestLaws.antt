@@ -118,7 +118,7 @@ unused-says n t =
     (both-say _ _ _ _ (zeros-say (drop n (t .«fields_lens»)))
     (both-say _ _ _ _ (zeros-say (drop n (t .«comment_lens»)))
     (both-say _ _ _ _ (zeros-say (drop n (t .seconds)))
-    (both-say _ _ _ _ (zeros-say (drop n (t .limited))) (zeros-say (drop n (t .confirm)))))))))  in (
+    (both-say _ _ _ _ (zeros-say (drop n (t .limited))) (zeros-say (drop n (t .confirm))))))))) in (
       (λ b.
           let (numbers, (readings, (blobs, (fields, (comments, (seconds, (limited, confirm))))))) = tests .0 b in
           record {

@@ -13,10 +13,10 @@ use Rattle.wire.specs.Limits.{entriesLimit, storeSize, passphraseLimit}
 use Rattle.keys.specs.declared.constraints.Lifetime.{Lifetime}
 use Rattle.keys.specs.declared.constraints.Lifetime.the-variants.{Forever, For}
 use Rattle.rule.specs.declared.Millis.{Millis}
-use Rattle.rule.specs.Gateway.{Entry as Key, Gateway, fresh, lengthsOf, allLengths}
+use Rattle.rule.specs.Gateway.{Entry as Key, Gateway, fresh, lengthsOf, allLengths, withLock}
 use Rattle.rule.specs.Soundness.{EveryEntry, SoundEntry}
 use Rattle.rule.specs.Soundness as rule
-use Rattle.rule.proofs.SoundLaws.{fresh-sound}
+use Rattle.rule.proofs.SoundLaws.{fresh-sound, sound-lock}
 use Rattle.table.specs.declared.Figures.{Figures}
 use Rattle.table.specs.declared.LockRecord.{LockRecord}
 use Rattle.table.specs.declared.State.{State}
@@ -224,8 +224,8 @@ key-back k =
       blob = take-at (k .blob) (k .fields ++ k .comment) (length (k .blob)) refl j;
       fields = (ap (take (length (k .fields))) behind ∙ take-at (k .fields) (k .comment) (length (k .fields)) refl) j;
       comment = (ap (λ (r : List ℕ). take (length (k .comment)) (drop (length (k .fields)) r)) behind
-      ∙ ap (take (length (k .comment))) (drop-at (k .fields) (k .comment) (length (k .fields)) refl)
-      ∙ take-all (length (k .comment)) (k .comment) (omega arith)) j;
+          ∙ ap (take (length (k .comment))) (drop-at (k .fields) (k .comment) (length (k .fields)) refl)
+          ∙ take-all (length (k .comment)) (k .comment) (omega arith)) j;
     }
 
 figures-sound : (clock : Millis) (next : ℕ) (k : Key) → SoundEntry clock next k → SoundFigures clock next (figuresFor k)
@@ -308,6 +308,15 @@ every-gateway g G =
 -- what is written as a sound gateway is means it
 pub means-of : (s : State) (x : List ℕ) (g : Gateway) → rule.Sound g → s ≡ stateOf g → x ≡ layout g → Means s x g
 means-of s x g G a b = rw (a, b) (every-gateway g G)
+
+-- another passphrase, and the rest as it was
+pub relocked : (s : State) (x p : List ℕ) (l : LockRecord) → Sound s x → length p ≤ passphraseLimit → l ≡ lockOf p
+    → Means (record { columns = s .columns; lock = l; clock = s .clock; next = s .next }) x (withLock p (gatewayOf s x))
+unfolding gatewayOf stateOf layout
+relocked s x p l S h lock =
+    let c = sound-canonical s x S in
+    let table = ap (λ (t : State). t .columns) (c .state) in
+    means-of _ x (withLock p (gatewayOf s x)) (sound-lock p (gatewayOf s x) h (sound-meaning s x S)) (λ j. record { columns = table j; lock = lock j; clock = s .clock; next = s .next }) (c .store)
 
 fresh-zeros : replicate storeSize 0 ≡ layout fresh
 unfolding layout laid padded

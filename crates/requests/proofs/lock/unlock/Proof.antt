@@ -7,7 +7,7 @@ use Rattle.requests.proofs.lock.unlock.Tie as tie
 
 returns : tie.Need-returns
 unfolding unlocking
-returns c = λ t cs x S a. search (ends, answering (c .before .before .failure .ensures)) depth 16
+returns c = λ t x S a. search (ends, answering (c .before .before .failure .ensures)) depth 16
 
 returns-2 : tie.Need-returns-2
 unfolding unlocking
@@ -19,8 +19,8 @@ returns-2 c =
     let taken : tie.After-cut = search in
     let part : tie.After-from = search in
     let read : tie.After-string = search in
-    λ t cs x S a.
-    let means = open-means _ _ _ _ _ _ _ (empty .cut2 .ensures .bytes) (locked .set-lock .ensures .1 t cs x S) in
+    λ t x S a.
+    let means = open-means _ _ _ _ _ _ _ (empty .cut2 .ensures .bytes) (locked .set-lock .ensures .1 t x S) in
     search (
       ends,
       answering (locked .set-lock .ensures .0) _ _ _ means,
@@ -33,7 +33,7 @@ returns-2 c =
 
 returns-3 : tie.Need-returns-3
 unfolding unlocking
-returns-3 c = λ t cs x S a. search (ends, answering (c .before .before .failure2 .ensures)) depth 16
+returns-3 c = λ t x S a. search (ends, answering (c .before .before .failure2 .ensures)) depth 16
 
 pub unlock-spec : {M : Type 1} → statement M
 unlock-spec =

@@ -1,8 +1,10 @@
 -- The plan goes by the same steps, up to the place that was found. Assumes nothing.
 use Rattle.rule.specs.Rule.{signing}
 use Rattle.requests.proofs.EndSteps.{answering, closing, place-within}
-use Rattle.requests.proofs.SignSteps.{signs, keys-eight, keys-housed}
+use Rattle.requests.proofs.SignSteps.{signs, keys-inside, keys-housed}
 use borrow.Author.Needs.{needs}
+use Prim.Native.Nat.{_<_}
+use lib.ListN.{length}
 use Rattle.requests.proofs.sign.try_sign.Statement.{statement}
 use Rattle.requests.proofs.sign.try_sign.Tie as tie
 
@@ -15,18 +17,15 @@ unfolding signing
 returns c = λ s shown S. search (signs, closing) depth 16
 
 find-requires : tie.Need-find-requires
-find-requires c κs = let read : tie.At-match-keys1 = search in keys-housed _ _ _ _ (began read .pre .2)
+find-requires c κs = let read : tie.At-match-keys1 = search in keys-housed _ _ _ _ _ _ (began read .pre .2)
 
-inside : tie.Need-sign-with-requires
-inside c κs =
-    let place : tie.After-i = search in
+-- number and flag at the position that was found are there
+inside : (c : tie.After-i) → let read : tie.At-match-keys1 = search in (c .i .given .0 .0 < length (began read .args .numbers .now)) × (c .i .given .0 .0 < length (began read .args .confirm .now))
+inside c =
     let found : tie.After-find = search in
     let read : tie.At-match-keys1 = search in
-    let start = began read in
-    let keys = start .pre .2 in
-    let eight = keys-eight _ _ _ _ keys in
-    let in-it = found .find .ensures (keys .state) (keys .shows .numbers-are) (keys .shows .blobs-are) in
-    (place-within _ _ _ _ _ (place .i .given .1) in-it, eight .0, eight .1, start .pre .0, start .pre .1)
+    let keys = began read .pre .2 in
+    keys-inside _ _ _ _ _ _ keys _ (place-within (keys .state) _ _ _ _ (c .i .given .1) (found .find .ensures (keys .state) (keys .shows .parts)))
 
 returns-2 : tie.Need-returns-2
 unfolding signing
@@ -41,7 +40,7 @@ returns-2 c =
       signs,
       answering (failed .failure .ensures),
       absent .enum-told2 .given .1,
-      found .find .ensures s (shown .numbers-are) (shown .blobs-are),
+      found .find .ensures s (shown .parts),
       at-cut .cut .ensures .bytes,
       read .from .given .1,
       at-string .string .ensures,
@@ -58,9 +57,9 @@ returns-3 c =
     let at-string : tie.After-string = search in
     λ s shown S. search (
       signs,
-      signed .sign-with .ensures s _ (shown .numbers-are) (shown .confirm-is) S,
+      signed .sign-with .ensures s _ S,
       place .i .given .1,
-      found .find .ensures s (shown .numbers-are) (shown .blobs-are),
+      found .find .ensures s (shown .parts),
       at-cut .cut .ensures .bytes,
       read .from .given .1,
       at-string .string .ensures,
@@ -79,7 +78,10 @@ try-sign-spec =
     (λ c. search needs)
     (λ c κs. search needs)
     (λ c. search needs)
-    inside
+    (λ c. let place : tie.After-i = search in let (n, f) = inside place in search needs)
+    (λ c. let place : tie.After-i = search in let (n, f) = inside place in search needs)
+    (λ c. let place : tie.After-i = search in let (n, f) = inside place in search needs)
+    (λ c κs. search needs)
     (λ c. search needs)
     returns-2
     (λ c. search needs)
