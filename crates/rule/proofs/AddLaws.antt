@@ -8,7 +8,7 @@ use mathlib.Core.Option.{Option, none, some}
 use mathlib.Core.List.{List, [], _∷_}
 use borrow.Author.Tests.{lt-ltb, leb-true, leb-false}
 use lib.ListN.{length}
-use lib.Dec.{leb, ltb}
+use lib.Dec.{leb}
 use Rattle.wire.specs.Limits.{lastNumber}
 use Rattle.wire.specs.Numbers.{Bytes}
 use Rattle.wire.proofs.Reading.{same-rule}
@@ -233,12 +233,10 @@ module _ (answer : (q : Question) → Option (Answer q)) (g : Gateway) (e : Entr
       by-answer (some true) is = success-not-failure refl (same-landing (sym (storing-succeeds i s is) ∙ fails))
       by-answer (some false) is = unless is
 
-  storing-fails : placeFor e (g .entries) ≡ Nothing → follow answer g (storing g e to) .outcome ≡ lands FAILURE
+  storing-fails : fit (e .blob) (e .fields) (e .comment) ≡ true → g .next < lastNumber → placeFor e (g .entries) ≡ Nothing
+      → follow answer g (storing g e to) .outcome ≡ lands FAILURE
   unfolding storing found follow
-  storing-fails nowhere =
-      cond-cases (λ plan. follow answer g plan .outcome ≡ lands FAILURE) (fit (e .blob) (e .fields) (e .comment))
-      (λ _. cond-cases (λ plan. follow answer g plan .outcome ≡ lands FAILURE) (ltb (g .next) lastNumber) (λ _. rw nowhere) (λ _. refl))
-      (λ _. refl)
+  storing-fails fits left nowhere = rw (fits, lt-ltb _ _ left, nowhere)
 
 pub added-always : AddedAlways
 unfolding lent
@@ -258,7 +256,9 @@ room-rule g c k os bytes past state request limits unless beside =
       (λ fails. no-room-full os k λ room.
           let (i, storable) = storable-made g c k os request limits beside room in
           storing-goes-on (lent (c .answers)) (atCall g c) e to i storable unless (rw comes at fails)),
-      (λ full. rw comes (storing-fails (lent (c .answers)) (atCall g c) e to (no-place e (atCall g c .entries) (says-not _ says (full-no-room full))))),
+      (λ full.
+          let nowhere = no-place e (atCall g c .entries) (says-not _ says (full-no-room full)) in
+          rw comes (storing-fails (lent (c .answers)) (atCall g c) e to (fits-within request limits) (limits .numbers-left) nowhere)),
     )
 
 -- ## What the key check sees

@@ -51,6 +51,12 @@ behind-none [] i h = refl
 behind-none (x ∷ es) zero h = absurd (omega arith)
 behind-none (x ∷ es) (suc i) h = behind-none es i (omega arith)
 
+-- what stands before it, and behind it
+pub holds-parts : (es : List Entry) (i : ℕ) (e : Entry) → Holds es i e → es ≡ take i es ++ (e ∷ drop (suc i) es)
+holds-parts [] i e h = absurd (some-not-none (sym h))
+holds-parts (x ∷ es) zero e h = ap (λ x. x ∷ es) (same-entry h)
+holds-parts (x ∷ es) (suc i) e h = ap (λ l. x ∷ l) (holds-parts es i e h)
+
 -- ## Every entry
 
 module _ (P : Entry → Type 0) where
@@ -79,7 +85,7 @@ distinct-at (y ∷ es) d zero (suc j) e x n h k = rw (same-entry h) at (every-at
 distinct-at (y ∷ es) d (suc i) zero e x n h k = apart-sym (rw (same-entry k) at (every-at (Apart y) es (d .0) i e h))
 distinct-at (y ∷ es) d (suc i) (suc j) e x n h k = distinct-at es (d .1) i j e x (λ p. n (ap suc p)) h k
 
-pub distinct-of : (es : List Entry) → ((i j : ℕ) (e x : Entry) → i ≢ j → Holds es i e → Holds es j x → Apart e x) → Distinct es
+distinct-of : (es : List Entry) → ((i j : ℕ) (e x : Entry) → i ≢ j → Holds es i e → Holds es j x → Apart e x) → Distinct es
 distinct-of [] f = tt
 distinct-of (y ∷ es) f = (
   every-of (Apart y) es (λ j x k. f 0 (suc j) y x (λ p. omega arith) refl k),
@@ -341,7 +347,7 @@ module _ (test : Entry → Bool) where
       let there : suc k + i ≡ k + suc i = omega arith in
       rw (f .earlier 0 x (omega arith) refl) (first-from (suc k) es i (first-rest x es i f) ∙ ap At there)
 
-  pub first-seek : (es : List Entry) (i : ℕ) → First test es i → seek test 0 es ≡ At i
+  first-seek : (es : List Entry) (i : ℕ) → First test es i → seek test 0 es ≡ At i
   first-seek es i f = let from0 : 0 + i ≡ i = omega arith in first-from 0 es i f ∙ ap At from0
 
   pub seek-none : (k : ℕ) (es : List Entry) → seek test k es ≡ Nothing → NonePasses test es
