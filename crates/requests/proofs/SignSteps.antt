@@ -6,6 +6,7 @@ use mathlib.Core.Option.{Option, none, some}
 use mathlib.Core.List.{List, [], _∷_, _++_}
 use native.Mathlib.Omega.{arith}
 use lib.ListN.{length, getD}
+use Rattle.wire.specs.Limits.{entriesLimit}
 use Rattle.wire.specs.Numbers.{be32}
 use Rattle.wire.specs.Write.{string, write}
 use Rattle.wire.proofs.Writing.{write-behind}
@@ -141,18 +142,24 @@ module _ (answers : Answers) (bytes : List ℕ) (s : State) (x buffer : List ℕ
 
 -- ## The key
 
+-- position i has a number and a flag
+pub record Inside (ns cs : List ℕ) (i : ℕ) : Type 0 where
+  pub few : i < entriesLimit
+  pub number : i < length ns
+  pub flag : i < length cs
+
 module _ (ns cs bs fs ms x : List ℕ) (keys : SoundOf (ShowsKeys ns cs bs fs ms) x) where
   -- the entries' bytes lie in the store
   pub keys-housed : Housed ns bs fs ms x
   keys-housed = state-housed (keys .state) x (keys .sound) ns bs fs ms (keys .shows .parts)
 
   -- number and flag of an entry that was found are lent
-  pub keys-inside : (i : ℕ) → i < countOf (keys .state .columns .numbers) → (i < length ns) × (i < length cs)
+  pub keys-inside : (i : ℕ) → i < countOf (keys .state .columns .numbers) → Inside ns cs i
   keys-inside i h =
       let few = state-few (keys .state) x (keys .sound) in
       let numbers = sym (ap length (keys .shows .parts .numbers-are)) ∙ keys .sound .long .numbers in
       let confirm = sym (ap length (keys .shows .confirm-is)) ∙ keys .sound .long .confirm in
-      (omega arith, omega arith)
+      record { few = omega arith; number = omega arith; flag = omega arith }
 
 -- number and Confirm of a key that was found are those of its index
 pub key-told : (ns cs bs fs ms x : List ℕ) (s : State) → ShowsKeys ns cs bs fs ms s → (i : ℕ) (k : Key) → entryAt (gatewayOf s x .entries) i ≡ some k

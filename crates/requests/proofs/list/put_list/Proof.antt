@@ -1,8 +1,9 @@
 -- Length, 12 and count stand in front of the items, which begin at 9. Assumes nothing.
-use Rattle.requests.proofs.ListSteps.{shown-count, list-written}
+use Rattle.requests.proofs.ListSteps.{list-fits, shown-count, list-written}
 use native.Mathlib.Omega.{arith}
 use mathlib.Core.Path.{sym, _∙_}
 use borrow.Author.Needs.{needs}
+use Rattle.table.proofs.EntryLaws.{count-within}
 use Rattle.requests.proofs.list.put_list.Statement.{statement}
 use Rattle.requests.proofs.list.put_list.Tie as tie
 
@@ -31,6 +32,17 @@ returns c =
     list-written _ _ _ _ _ _ _ _ _ _ (k .0) (k .1) (number .put-number .ensures .1) (number .put-number .ensures .0) (kind .put-byte .ensures .1)
     (kind .put-byte .ensures .0) (count .put-number2 .ensures .1) (counted .count .ensures ∙ sym (shown-count s _ shows)) (start .pre .1) (items .put-items .ensures .0)
 
+-- at most 24 are counted
+few : tie.Need-cast-put-number-2
+few c =
+    let counted : tie.After-count = search in
+    let items : tie.After-put-items = search in
+    let start = began items in
+    let n = counted .count .ensures in
+    let within = count-within (start .args .numbers .now) in
+    let long = list-fits (start .pre .0) .housed .long-numbers in
+    record { fits = omega arith }
+
 pub put-list-spec : {M : Type 1} → statement M
 put-list-spec =
     tie.close
@@ -41,7 +53,7 @@ put-list-spec =
     (λ c. search needs)
     (λ c κs. search needs)
     (λ c κs. search needs)
-    (λ c. search needs)
+    few
     (λ c κs. search needs)
     (λ c. search needs)
     returns)

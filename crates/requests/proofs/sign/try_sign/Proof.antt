@@ -1,10 +1,9 @@
 -- The plan goes by the same steps, up to the place that was found. Assumes nothing.
 use Rattle.rule.specs.Rule.{signing}
 use Rattle.requests.proofs.EndSteps.{answering, closing, place-within}
-use Rattle.requests.proofs.SignSteps.{signs, keys-inside, keys-housed}
+use Rattle.requests.proofs.SignSteps.{signs, Inside, keys-inside, keys-housed}
+use native.Mathlib.Omega.{arith}
 use borrow.Author.Needs.{needs}
-use Prim.Native.Nat.{_<_}
-use lib.ListN.{length}
 use Rattle.requests.proofs.sign.try_sign.Statement.{statement}
 use Rattle.requests.proofs.sign.try_sign.Tie as tie
 
@@ -20,7 +19,7 @@ find-requires : tie.Need-find-requires
 find-requires c κs = let read : tie.At-match-keys1 = search in keys-housed _ _ _ _ _ _ (began read .pre .2)
 
 -- number and flag at the position that was found are there
-inside : (c : tie.After-i) → let read : tie.At-match-keys1 = search in (c .i .given .0 .0 < length (began read .args .numbers .now)) × (c .i .given .0 .0 < length (began read .args .confirm .now))
+inside : (c : tie.After-i) → let read : tie.At-match-keys1 = search in Inside (began read .args .numbers .now) (began read .args .confirm .now) (c .i .given .0 .0)
 inside c =
     let found : tie.After-find = search in
     let read : tie.At-match-keys1 = search in
@@ -78,9 +77,9 @@ try-sign-spec =
     (λ c. search needs)
     (λ c κs. search needs)
     (λ c. search needs)
-    (λ c. let place : tie.After-i = search in let (n, f) = inside place in search needs)
-    (λ c. let place : tie.After-i = search in let (n, f) = inside place in search needs)
-    (λ c. let place : tie.After-i = search in let (n, f) = inside place in search needs)
+    (λ c. let place : tie.After-i = search in let h = inside place in record { fits = omega arith })
+    (λ c. let place : tie.After-i = search in let h = inside place in omega arith)
+    (λ c. let place : tie.After-i = search in let h = inside place in omega arith)
     (λ c κs. search needs)
     (λ c. search needs)
     returns-2
