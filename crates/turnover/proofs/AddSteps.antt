@@ -9,7 +9,7 @@ use borrow.Author.Tests.{lt-leb, leb-true, leb-false}
 use lib.Dec.{leb, ltb}
 use lib.ListN.{length, take, drop}
 use lib.Seq.{take-at}
-use Rattle.wire.specs.Limits.{blobLimit, lastNumber}
+use Rattle.wire.specs.Limits.{storeSize, blobLimit, lastNumber}
 use Rattle.wire.specs.Read.{cutOf}
 use Rattle.wire.specs.Write.{write}
 use Rattle.wire.proofs.Reading.{le-or-lt}
@@ -24,9 +24,8 @@ use Rattle.keys.specs.Additions.{additionAt}
 use Rattle.keys.specs.Kinds.{blobOf, blobAnswer, blobLeft}
 use Rattle.rule.specs.declared.Found.{Found}
 use Rattle.rule.specs.declared.Found.the-variants.{At, Nothing}
-use Rattle.rule.specs.Gateway.{Gateway, placeFor, NewKey, withEntry}
+use Rattle.rule.specs.Gateway.{Entry as Key, Gateway, lengthsOf, placeFor, NewKey, withEntry}
 use Rattle.rule.specs.Soundness.{fit}
-use Rattle.rule.specs.Searches.{foundPlace}
 use Rattle.rule.specs.Rule.{Plan, SUCCESS, land, fails, ask, check, brought, entryOf, storing, adding}
 use Rattle.rule.specs.Calls as rule
 use Rattle.rule.specs.Calls.{lent, follow}
@@ -35,11 +34,9 @@ use Rattle.table.specs.declared.Columns.{Columns}
 use Rattle.table.specs.declared.Kept.{Kept}
 use Rattle.table.specs.declared.State.{State}
 use Rattle.table.specs.Meaning.{gatewayOf, held}
-use Rattle.table.specs.Soundness.{Sound, Means, Housed}
-use Rattle.table.specs.Changes.{MayPut, MayPutWith}
-use Rattle.table.specs.Shown.{SoundWith}
-use Rattle.table.proofs.ChangeLaws.{place-for-put}
-use Rattle.table.proofs.ReadLaws.{state-housed}
+use Rattle.table.specs.Soundness.{Sound, Means}
+use Rattle.table.specs.Changes.{made, MayPut, MayPutWith}
+use Rattle.table.specs.Shown.{SoundOf, ShowsParts, SoundWith}
 use Rattle.requests.specs.declared.Said.{Said}
 use Rattle.requests.specs.declared.Said.the-variants.{Missing, No, Yes}
 use Rattle.requests.specs.declared.Called.{Called}
@@ -73,9 +70,23 @@ module _ (s : State) (x : List ℕ) where
   numbers-gone e = ltb-no (s .next) lastNumber (omega arith)
 
   -- the place for a key within the limits may take it
-  pub may-put : (i : ℕ) (k : NewKey) (w : Found) → Sound s x → w ≡ At i → w ≡ placeFor (k .blob) (gatewayOf s x .places) → true ≡ fit (k .blob) (k .fields) (k .comment)
+  pub may-put : (i : ℕ) (k : NewKey) (w : Found) → Sound s x → w ≡ At i → w ≡ placeFor (made s k) (gatewayOf s x .entries) → true ≡ fit (k .blob) (k .fields) (k .comment)
       → (s .next ≡ lastNumber → ⊥) → MayPut s x i k
-  may-put i k w S e f fits h = place-for-put s x i k S (ap foundPlace (sym f ∙ e)) (fit-says (k .blob) (k .fields) (k .comment) .0 (sym fits)) (last-or-less S h)
+  unfolding gatewayOf
+  may-put i k w S e f fits h = record {
+    sound = S;
+    numbers-left = last-or-less S h;
+    lengths = fit-says (k .blob) (k .fields) (k .comment) .0 (sym fits);
+    place = sym f ∙ e;
+  }
+
+-- what a new key takes of the store
+abbrev pub lengthsNew : NewKey → ℕ
+lengthsNew k = length (k .blob) + (length (k .fields) + length (k .comment))
+
+-- within the limits it is less than the store has
+pub new-short : (k : NewKey) (size : ℕ) → lengthsNew k ≡ size → true ≡ fit (k .blob) (k .fields) (k .comment) → size ≤ storeSize
+new-short k size sized fits = let f = fit-says (k .blob) (k .fields) (k .comment) .0 (sym fits) in omega arith
 
 -- ## The key check
 
@@ -137,29 +148,35 @@ module _ (s : List ℕ) (at : ℕ) (p : Places) (room : List ℕ) (w : Blob) (an
 
 -- ## How an addition ends
 
-module _ (t : Columns) (cs x : List ℕ) (kept : Kept) where
-  -- of every state that has these columns: the place for the blob is f
-  abbrev pub PlaceFor : Found → List ℕ → Type 0
-  PlaceFor f blob = (s : State) → s .columns .numbers ≡ t .numbers → s .columns .«blob_lens» ≡ t .«blob_lens» → f ≡ placeFor blob (gatewayOf s x .places)
+module _ (t : Columns) (x : List ℕ) (kept : Kept) where
+  -- of every state that has these columns: the place for a key with this blob and of this size is f
+  abbrev pub PlaceFor : Found → List ℕ → ℕ → Type 0
+  PlaceFor f blob size = (s : State) (e : Key) → ShowsParts (t .numbers) (t .«blob_lens») (t .«fields_lens») (t .«comment_lens») s → Sound s x → e .blob ≡ blob → lengthsOf e ≡ size
+      → f ≡ placeFor e (gatewayOf s x .entries)
 
-  pub with-housed : SoundWith t cs kept x → Housed (t .numbers) (t .«blob_lens») x
-  with-housed h = state-housed (held t cs (h .bytes) kept) x (h .sound)
+  its-own : (b : List ℕ) → ShowsParts (t .numbers) (t .«blob_lens») (t .«fields_lens») (t .«comment_lens») (held t b kept)
+  its-own b = record { numbers-are = refl; blobs-are = refl; fields-are = refl; comments-are = refl }
+
+  -- what `place_for` asks for
+  pub with-parts : SoundWith t kept x → SoundOf (ShowsParts (t .numbers) (t .«blob_lens») (t .«fields_lens») (t .«comment_lens»)) x
+  with-parts h = record { state = held t (h .bytes) kept; shows = its-own (h .bytes); sound = h .sound }
 
   -- what `put` asks for
-  pub with-place : SoundWith t cs kept x → (i : ℕ) (k : NewKey) (f : Found) → f ≡ At i → PlaceFor f (k .blob) → true ≡ fit (k .blob) (k .fields) (k .comment)
-      → (kept .next ≡ lastNumber → ⊥) → MayPutWith t cs kept x i k
-  with-place h i k f at is fits left =
-      let s = held t cs (h .bytes) kept in
-      record { bytes = h .bytes; may = may-put s x i k f (h .sound) at (is s refl refl) fits left }
+  pub with-place : SoundWith t kept x → (i : ℕ) (k : NewKey) (f : Found) (size : ℕ) → lengthsNew k ≡ size → f ≡ At i → PlaceFor f (k .blob) size → true ≡ fit (k .blob) (k .fields) (k .comment)
+      → (kept .next ≡ lastNumber → ⊥) → MayPutWith t kept x i k
+  unfolding lengthsOf
+  with-place h i k f size sized at is fits left =
+      let s = held t (h .bytes) kept in
+      record { bytes = h .bytes; may = may-put s x i k f (h .sound) at (is s (made s k) (its-own (h .bytes)) (h .sound) refl sized) fits left }
 
   module _ (w : Said) (buffer : List ℕ) where
-    -- columns, comments, store and kept values have become u, ds, y and `after`: of every sound state that has them, the plan ended so
-    abbrev pub AddEnds : (Gateway → Plan) → (o : Outcome) (out : List ℕ) (u : Columns) (ds y : List ℕ) (after : Kept) → Type 0
-    AddEnds plan o out u ds y after = (b : List ℕ) → Sound (held t cs b kept) x → (a : rule.Answers) → a .check ≡ grantOf w
-        → let g = gatewayOf (held t cs b kept) x in Ends buffer (record { outcome = o; state = held u ds b after }) y out (follow (lent a) g (plan g))
+    -- columns, store and kept values have become u, y and `after`: of every sound state that has them, the plan ended so
+    abbrev pub AddEnds : (Gateway → Plan) → (o : Outcome) (out : List ℕ) (u : Columns) (y : List ℕ) (after : Kept) → Type 0
+    AddEnds plan o out u y after = (b : List ℕ) → Sound (held t b kept) x → (a : rule.Answers) → a .check ≡ grantOf w
+        → let g = gatewayOf (held t b kept) x in Ends buffer (record { outcome = o; state = held u b after }) y out (follow (lent a) g (plan g))
 
     -- FAILURE alters nothing
-    failing : (o : Outcome) (out : List ℕ) → Answered 5 buffer o out → AddEnds fails o out t cs x kept
+    failing : (o : Outcome) (out : List ℕ) → Answered 5 buffer o out → AddEnds fails o out t x kept
     failing o out done b S a e = landed _ _ _ _ _ _ _ _ (answering done _ _ _ (means-itself _ _ S))
 
     module _ (payload : List ℕ) where
@@ -170,64 +187,68 @@ module _ (t : Columns) (cs x : List ℕ) (kept : Kept) where
         abbrev fitting : Bool
         fitting = fit blob (cutOf payload 1 (c .places .end)) (cutOf payload (c .comment .from) (c .comment .to))
 
-        pub unfit-ends : false ≡ fitting → Answered 5 buffer o out → AddEnds (stores c blob) o out t cs x kept
+        pub unfit-ends : false ≡ fitting → Answered 5 buffer o out → AddEnds (stores c blob) o out t x kept
         unfolding storing
         unfit-ends over done b S a e = cond-no _ _ _ _ _ _ _ _ _ over (failing o out done b S a e)
 
         module _ (fits : true ≡ fitting) where
-          pub last-ends : kept .next ≡ lastNumber → Answered 5 buffer o out → AddEnds (stores c blob) o out t cs x kept
+          pub last-ends : kept .next ≡ lastNumber → Answered 5 buffer o out → AddEnds (stores c blob) o out t x kept
           unfolding storing
           last-ends last done b S a e =
-              cond-yes _ _ _ _ _ _ _ _ _ fits (cond-no _ _ _ _ _ _ _ _ _ (numbers-gone (held t cs b kept) x last) (failing o out done b S a e))
+              cond-yes _ _ _ _ _ _ _ _ _ fits (cond-no _ _ _ _ _ _ _ _ _ (numbers-gone (held t b kept) x last) (failing o out done b S a e))
 
-          module _ (left : kept .next ≡ lastNumber → ⊥) (f : Found) (is : PlaceFor f blob) where
-            pub full-ends : f ≡ Nothing → Answered 5 buffer o out → AddEnds (stores c blob) o out t cs x kept
-            unfolding storing
+          module _ (left : kept .next ≡ lastNumber → ⊥) (size : ℕ) (sized : lengthsNew (brought payload c blob) ≡ size) (f : Found) (is : PlaceFor f blob size) where
+            goes : (b : List ℕ) → Sound (held t b kept) x → f ≡ placeFor (made (held t b kept) (brought payload c blob)) (gatewayOf (held t b kept) x .entries)
+            unfolding lengthsOf
+            goes b S = is (held t b kept) (made (held t b kept) (brought payload c blob)) (its-own b) S refl sized
+
+            pub full-ends : f ≡ Nothing → Answered 5 buffer o out → AddEnds (stores c blob) o out t x kept
+            unfolding storing gatewayOf
             full-ends none-free done b S a e =
                 cond-yes _ _ _ _ _ _ _ _ _ fits
-                (cond-yes _ _ _ _ _ _ _ _ _ (numbers-left (held t cs b kept) x S left)
-                (found-nothing _ _ _ _ _ _ _ _ f _ none-free (is (held t cs b kept) refl refl) (failing o out done b S a e)))
+                (cond-yes _ _ _ _ _ _ _ _ _ (numbers-left (held t b kept) x S left)
+                (found-nothing _ _ _ _ _ _ _ _ f _ none-free (goes b S) (failing o out done b S a e)))
 
             module _ (i : ℕ) (at : f ≡ At i) where
               -- the check decides
-              module _ (b : List ℕ) (S : Sound (held t cs b kept) x) (a : rule.Answers) (r : Called) (y : List ℕ) where
+              module _ (b : List ℕ) (S : Sound (held t b kept) x) (a : rule.Answers) (r : Called) (y : List ℕ) where
                 abbrev g : Gateway
-                g = gatewayOf (held t cs b kept) x
+                g = gatewayOf (held t b kept) x
 
                 to-check : Ends buffer r y out (follow (lent a) g (ask (check 1 (c .places .end)) λ granted. cond granted (land SUCCESS (withEntry i (entryOf g payload c blob) g)) (fails g)))
                     → Ends buffer r y out (follow (lent a) g (stores c blob g))
-                unfolding storing
+                unfolding storing gatewayOf
                 to-check h =
                     cond-yes _ _ _ _ _ _ _ _ _ fits
-                    (cond-yes _ _ _ _ _ _ _ _ _ (numbers-left (held t cs b kept) x S left)
-                    (found-at _ _ _ _ _ _ _ _ f _ i at (is (held t cs b kept) refl refl) h))
+                    (cond-yes _ _ _ _ _ _ _ _ _ (numbers-left (held t b kept) x S left)
+                    (found-at _ _ _ _ _ _ _ _ f _ i at (goes b S) h))
 
-              pub check-asked : w ≡ Missing → o ≡ Check 1 (c .places .end) → out ≡ buffer → AddEnds (stores c blob) o out t cs x kept
+              pub check-asked : w ≡ Missing → o ≡ Check 1 (c .places .end) → out ≡ buffer → AddEnds (stores c blob) o out t x kept
               check-asked says asks same b S a e = to-check b S a _ _
-                  (checker-asked a w e _ _ _ _ _ _ _ (held t cs b kept) says (ap (λ (q : Outcome). record { outcome = q; state = held t cs b kept }) asks) same S)
+                  (checker-asked a w e _ _ _ _ _ _ _ (held t b kept) says (ap (λ (q : Outcome). record { outcome = q; state = held t b kept }) asks) same S)
 
-              pub check-denied : w ≡ No → Answered 5 buffer o out → AddEnds (stores c blob) o out t cs x kept
+              pub check-denied : w ≡ No → Answered 5 buffer o out → AddEnds (stores c blob) o out t x kept
               check-denied says done b S a e = to-check b S a _ _ (checker-denies a w e _ _ _ _ _ _ _ _ says (failing o out done b S a e))
 
-              pub key-stored : w ≡ Yes → (u : Columns) (ds y : List ℕ) (after : Kept)
-                  → ((b : List ℕ) → let s = held t cs b kept in let g = gatewayOf s x in MayPut s x i (brought payload c blob) → Means (held u ds b after) y (withEntry i (entryOf g payload c blob) g))
-                  → Answered 6 buffer o out → AddEnds (stores c blob) o out u ds y after
-              key-stored says u ds y after put done b S a e =
-                  let s = held t cs b kept in
-                  let may = may-put s x i (brought payload c blob) f S at (is s refl refl) fits left in
+              pub key-stored : w ≡ Yes → (u : Columns) (y : List ℕ) (after : Kept)
+                  → ((b : List ℕ) → let s = held t b kept in let g = gatewayOf s x in MayPut s x i (brought payload c blob) → Means (held u b after) y (withEntry i (entryOf g payload c blob) g))
+                  → Answered 6 buffer o out → AddEnds (stores c blob) o out u y after
+              key-stored says u y after put done b S a e =
+                  let s = held t b kept in
+                  let may = may-put s x i (brought payload c blob) f S at (goes b S) fits left in
                   to-check b S a _ _ (checker-grants a w e _ _ _ _ _ _ _ _ says (landed _ _ _ _ _ _ _ _ (answering done _ _ _ (put b may))))
 
       -- the entry of a blob that a call gave is the entry of what it is
-      pub stored-as : (c : Carried) (blob other : List ℕ) (o : Outcome) (out : List ℕ) (u : Columns) (ds y : List ℕ) (after : Kept) → blob ≡ other → AddEnds (stores c blob) o out u ds y after
-          → AddEnds (stores c other) o out u ds y after
-      stored-as c blob other o out u ds y after e = subst (λ (z : List ℕ). AddEnds (stores c z) o out u ds y after) e
+      pub stored-as : (c : Carried) (blob other : List ℕ) (o : Outcome) (out : List ℕ) (u : Columns) (y : List ℕ) (after : Kept) → blob ≡ other → AddEnds (stores c blob) o out u y after
+          → AddEnds (stores c other) o out u y after
+      stored-as c blob other o out u y after e = subst (λ (z : List ℕ). AddEnds (stores c z) o out u y after) e
 
       module _ (constrained : Bool) (v : Addition) (read : v ≡ additionAt payload 1 constrained) (o : Outcome) (out : List ℕ) where
-        pub fault-ends : (at : ℕ) → v ≡ Addition.Fault at → Answered 5 buffer o out → AddEnds (λ g. adding constrained g payload) o out t cs x kept
+        pub fault-ends : (at : ℕ) → v ≡ Addition.Fault at → Answered 5 buffer o out → AddEnds (λ g. adding constrained g payload) o out t x kept
         unfolding adding
         fault-ends at fault done b S a e = added-fault _ _ _ _ _ _ _ _ v _ at fault read (failing o out done b S a e)
 
-        pub whole-ends : (u : Columns) (ds y : List ℕ) (after : Kept) (c : Carried) → v ≡ Addition.Whole c → AddEnds (stores c (blobOf payload 1 (c .places))) o out u ds y after
-            → AddEnds (λ g. adding constrained g payload) o out u ds y after
+        pub whole-ends : (u : Columns) (y : List ℕ) (after : Kept) (c : Carried) → v ≡ Addition.Whole c → AddEnds (stores c (blobOf payload 1 (c .places))) o out u y after
+            → AddEnds (λ g. adding constrained g payload) o out u y after
         unfolding adding
-        whole-ends u ds y after c whole h b S a e = added-whole _ _ _ _ _ _ _ _ v _ c whole read (h b S a e)
+        whole-ends u y after c whole h b S a e = added-whole _ _ _ _ _ _ _ _ v _ c whole read (h b S a e)

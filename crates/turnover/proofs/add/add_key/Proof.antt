@@ -17,7 +17,7 @@ returns c =
     let read : tie.After-addition-at = search in
     let a = begun read .args in
     let t = columns (a .numbers .now) (a .readings .now) (a .blob-lens .now) (a .fields-lens .now) (a .comment-lens .now) (a .seconds .now) (a .limited .now) (a .confirm .now) in
-    fault-ends t (a .comments .now) (a .store .now) (a .kept) (a .check) (a .reply .now) (a .payload .now)
+    fault-ends t (a .store .now) (a .kept) (a .check) (a .reply .now) (a .payload .now)
     (a .constrained) _ (read .addition-at .ensures) _ _ _ (told .enum-told .given .1) (failed .failure .ensures)
 
 returns-2 : tie.Need-returns-2
@@ -31,8 +31,8 @@ returns-2 c =
     let w = stored .store-fields .last in
     let u = columns (w .0) (w .1 .0) (w .1 .1 .0) (w .1 .1 .1 .0) (w .1 .1 .1 .1 .0) (w .1 .1 .1 .1 .1 .0) (w .1 .1 .1 .1 .1 .1 .0) (w .1 .1 .1 .1 .1 .1 .1 .0) in
     let rest = w .1 .1 .1 .1 .1 .1 .1 .1 in
-    whole-ends t (a .comments .now) (a .store .now) (a .kept) (a .check) (a .reply .now) (a .payload .now)
-    (a .constrained) _ (read .addition-at .ensures) _ (rest .1 .1 .1 .1 .1 .1 .0) u (rest .0) (rest .1 .1 .0) _ _ (told .carried .given .1) (stored .store-fields .ensures)
+    whole-ends t (a .store .now) (a .kept) (a .check) (a .reply .now) (a .payload .now)
+    (a .constrained) _ (read .addition-at .ensures) _ (rest .1 .1 .1 .1 .1 .0) u (rest .1 .0) _ _ (told .carried .given .1) (stored .store-fields .ensures)
 
 pub add-key-spec : {M : Type 1} → statement M
 add-key-spec =

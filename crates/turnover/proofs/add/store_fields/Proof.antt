@@ -33,7 +33,7 @@ returns c =
     let over = blob-over _ _ _ _ _ (blob .put-blob .ensures .0) blobLimit (length-replicate {A = ℕ} blobLimit 0) (told .enum-told .given .1) in
     let a = begun blob .args in
     let t = columns (a .numbers .now) (a .readings .now) (a .blob-lens .now) (a .fields-lens .now) (a .comment-lens .now) (a .seconds .now) (a .limited .now) (a .confirm .now) in
-    unfit-ends t (a .comments .now) (a .store .now) (a .kept) (a .check) (a .reply .now) (a .payload .now) (a .carried) _ _ _ (blob-unfit _ _ _ over) (failed .failure .ensures)
+    unfit-ends t (a .store .now) (a .kept) (a .check) (a .reply .now) (a .payload .now) (a .carried) _ _ _ (blob-unfit _ _ _ over) (failed .failure .ensures)
 
 returns-2 : tie.Need-returns-2
 unfolding begun
@@ -47,8 +47,8 @@ returns-2 c =
     let w = stored .store-key .last in
     let u = columns (w .0) (w .1 .0) (w .1 .1 .0) (w .1 .1 .1 .0) (w .1 .1 .1 .1 .0) (w .1 .1 .1 .1 .1 .0) (w .1 .1 .1 .1 .1 .1 .0) (w .1 .1 .1 .1 .1 .1 .1 .0) in
     let rest = w .1 .1 .1 .1 .1 .1 .1 .1 in
-    stored-as t (a .comments .now) (a .store .now) (a .kept) (a .check) (a .reply .now) (a .payload .now) (a .carried)
-    _ _ _ (rest .1 .1 .1 .1 .1 .1 .1 .0) u (rest .0) (rest .1 .1 .0) _ (stands .blob) (stored .store-key .ensures)
+    stored-as t (a .store .now) (a .kept) (a .check) (a .reply .now) (a .payload .now) (a .carried)
+    _ _ _ (rest .1 .1 .1 .1 .1 .1 .0) u (rest .1 .0) _ (stands .blob) (stored .store-key .ensures)
 
 pub store-fields-spec : {M : Type 1} → statement M
 store-fields-spec =

@@ -1,5 +1,7 @@
 -- The plan goes by the same tests; the place for the blob may take it. Assumes nothing.
 use native.Mathlib.Omega.{arith}
+use Prim.Native.Nat.{_+_}
+use lib.ListN.{length}
 use mathlib.Core.Path.{_≡_, refl, sym, _∙_}
 use borrow.Author.Needs.{needs}
 use borrow.Author.Tests.{not-true, not-false}
@@ -8,7 +10,7 @@ use Rattle.rule.specs.Soundness.{fit}
 use Rattle.rule.specs.Rule.{brought}
 use Rattle.table.specs.declared.Columns.{Columns}
 use Rattle.table.specs.Entries.{columns}
-use Rattle.turnover.proofs.AddSteps.{fits-as, with-housed, with-place, unfit-ends, last-ends, full-ends, check-asked, check-denied, key-stored}
+use Rattle.turnover.proofs.AddSteps.{fits-as, lengthsNew, new-short, with-parts, with-place, unfit-ends, last-ends, full-ends, check-asked, check-denied, key-stored}
 use Rattle.turnover.proofs.add.store_key.Statement.{statement}
 use Rattle.turnover.proofs.add.store_key.Tie as tie
 
@@ -42,7 +44,7 @@ returns c =
     let start = begun at-fits in
     let a = start .args in
     let fits = sym (not-true _ (over .if1 .taken)) ∙ fits-told at-fits in
-    unfit-ends (given start) (a .comments .now) (a .store .now) (a .kept) (a .check) (a .reply .now) (a .payload .now) (a .carried) (a .blob .now) _ _
+    unfit-ends (given start) (a .store .now) (a .kept) (a .check) (a .reply .now) (a .payload .now) (a .carried) (a .blob .now) _ _
     fits (failed .failure .ensures)
 
 returns-2 : tie.Need-returns-2
@@ -55,14 +57,29 @@ returns-2 c =
     let start = begun at-fits in
     let a = start .args in
     let fits = sym (not-false _ (within .if1 .left)) ∙ fits-told at-fits in
-    last-ends (given start) (a .comments .now) (a .store .now) (a .kept) (a .check) (a .reply .now) (a .payload .now) (a .carried) (a .blob .now) _ _
+    last-ends (given start) (a .store .now) (a .kept) (a .check) (a .reply .now) (a .payload .now) (a .carried) (a .blob .now) _ _
     fits (last .if2 .taken) (failed .failure2 .ensures)
 
-housed : tie.Need-place-for-requires
+-- the size that the code adds up is the key's
+sized-told : (c : tie.After-fits2) → let k = key (begun c) in let comment : tie.After-cut2 = search in let fields : tie.After-cut = search in
+    lengthsNew k ≡ length (k .blob) + (length (fields .cut .result .now) + length (comment .cut2 .result .now))
 unfolding begun
-housed c κs =
+sized-told c =
+    let k = key (begun c) in
+    let comment : tie.After-cut2 = search in
+    let fields : tie.After-cut = search in
+    let same-fields = fields .cut .ensures .bytes in
+    let same-comment = comment .cut2 .ensures .bytes in
+    λ j. length (k .blob) + (length (sym same-fields j) + length (sym same-comment j))
+
+shown : tie.Need-place-for-requires
+unfolding begun
+shown c κs =
     let at-fits : tie.After-fits2 = search in
-    with-housed _ _ _ _ (begun at-fits .pre .1)
+    let within : tie.Else1 = search in
+    let start = begun at-fits in
+    let fits = sym (not-false _ (within .if1 .left)) ∙ fits-told at-fits in
+    (with-parts (given start) (start .args .store .now) (start .args .kept) (start .pre .1), new-short (key start) _ (sized-told at-fits) fits)
 
 may : tie.Need-put-requires
 unfolding begun
@@ -75,7 +92,7 @@ may c κs =
     let start = begun at-fits in
     let a = start .args in
     let fits = sym (not-false _ (within .if1 .left)) ∙ fits-told at-fits in
-    with-place (given start) (a .comments .now) (a .store .now) (a .kept) (start .pre .1) _ (key start) _ (place .i .given .1) (found .place-for .ensures) fits (left .if2 .left)
+    with-place (given start) (a .store .now) (a .kept) (start .pre .1) _ (key start) _ _ (sized-told at-fits) (place .i .given .1) (found .place-for .ensures) fits (left .if2 .left)
 
 room : tie.Need-success-requires
 unfolding begun
@@ -97,8 +114,8 @@ returns-3 c =
     let start = begun at-fits in
     let a = start .args in
     let fits = sym (not-false _ (within .if1 .left)) ∙ fits-told at-fits in
-    full-ends (given start) (a .comments .now) (a .store .now) (a .kept) (a .check) (a .reply .now) (a .payload .now) (a .carried) (a .blob .now) _ _
-    fits (left .if2 .left) _ (found .place-for .ensures) (none-free .enum-told .given .1) (failed .failure3 .ensures)
+    full-ends (given start) (a .store .now) (a .kept) (a .check) (a .reply .now) (a .payload .now) (a .carried) (a .blob .now) _ _
+    fits (left .if2 .left) _ (sized-told at-fits) _ (found .place-for .ensures) (none-free .enum-told .given .1) (failed .failure3 .ensures)
 
 returns-4 : tie.Need-returns-4
 unfolding begun
@@ -112,8 +129,8 @@ returns-4 c =
     let start = begun at-fits in
     let a = start .args in
     let fits = sym (not-false _ (within .if1 .left)) ∙ fits-told at-fits in
-    check-asked (given start) (a .comments .now) (a .store .now) (a .kept) (a .check) (a .reply .now) (a .payload .now) (a .carried) (a .blob .now) _ _
-    fits (left .if2 .left) _ (found .place-for .ensures) _ (place .i .given .1) (said .enum-told2 .given .1) refl refl
+    check-asked (given start) (a .store .now) (a .kept) (a .check) (a .reply .now) (a .payload .now) (a .carried) (a .blob .now) _ _
+    fits (left .if2 .left) _ (sized-told at-fits) _ (found .place-for .ensures) _ (place .i .given .1) (said .enum-told2 .given .1) refl refl
 
 returns-5 : tie.Need-returns-5
 unfolding begun
@@ -128,8 +145,8 @@ returns-5 c =
     let start = begun at-fits in
     let a = start .args in
     let fits = sym (not-false _ (within .if1 .left)) ∙ fits-told at-fits in
-    check-denied (given start) (a .comments .now) (a .store .now) (a .kept) (a .check) (a .reply .now) (a .payload .now) (a .carried) (a .blob .now) _ _
-    fits (left .if2 .left) _ (found .place-for .ensures) _ (place .i .given .1) (said .enum-told3 .given .1) (failed .failure4 .ensures)
+    check-denied (given start) (a .store .now) (a .kept) (a .check) (a .reply .now) (a .payload .now) (a .carried) (a .blob .now) _ _
+    fits (left .if2 .left) _ (sized-told at-fits) _ (found .place-for .ensures) _ (place .i .given .1) (said .enum-told3 .given .1) (failed .failure4 .ensures)
 
 returns-6 : tie.Need-returns-6
 unfolding begun
@@ -148,9 +165,9 @@ returns-6 c =
     let v = stored .put .last in
     let u = columns (v .0) (v .1 .0) (v .1 .1 .0) (v .1 .1 .1 .0) (v .1 .1 .1 .1 .0) (v .1 .1 .1 .1 .1 .0) (v .1 .1 .1 .1 .1 .1 .0) (v .1 .1 .1 .1 .1 .1 .1 .0) in
     let rest = v .1 .1 .1 .1 .1 .1 .1 .1 in
-    key-stored (given start) (a .comments .now) (a .store .now) (a .kept) (a .check) (a .reply .now) (a .payload .now) (a .carried) (a .blob .now) _ _
-    fits (left .if2 .left) _ (found .place-for .ensures) _ (place .i .given .1) (said .enum-told4 .given .1)
-    u (rest .0) (rest .1 .1 .0) (stored .put .result) (stored .put .ensures) (done .success .ensures)
+    key-stored (given start) (a .store .now) (a .kept) (a .check) (a .reply .now) (a .payload .now) (a .carried) (a .blob .now) _ _
+    fits (left .if2 .left) _ (sized-told at-fits) _ (found .place-for .ensures) _ (place .i .given .1) (said .enum-told4 .given .1)
+    u (rest .1 .0) (stored .put .result) (stored .put .ensures) (done .success .ensures)
 
 pub store-key-spec : {M : Type 1} → statement M
 store-key-spec =
@@ -165,7 +182,7 @@ store-key-spec =
     (λ c κs. search needs)
     (λ c. search needs)
     returns-2
-    housed
+    shown
     (λ c. search needs)
     (λ c κs. search needs)
     (λ c. search needs)

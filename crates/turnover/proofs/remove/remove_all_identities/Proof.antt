@@ -18,7 +18,7 @@ returns c =
     let t = columns (a .numbers .now) (a .readings .now) (a .blob-lens .now) (a .fields-lens .now) (a .comment-lens .now) (a .seconds .now) (a .limited .now) (a .confirm .now) in
     let w = emptied .remove-all .last in
     let u = columns (w .0) (w .1 .0) (w .1 .1 .0) (w .1 .1 .1 .0) (w .1 .1 .1 .1 .0) (w .1 .1 .1 .1 .1 .0) (w .1 .1 .1 .1 .1 .1 .0) (w .1 .1 .1 .1 .1 .1 .1 .0) in
-    all-removed t _ _ _ _ _ u _ _ (emptied .remove-all .ensures) (answered .success .ensures)
+    all-removed t _ _ _ _ u _ (emptied .remove-all .ensures) (answered .success .ensures)
 
 pub remove-all-identities-spec : {M : Type 1} → statement M
 remove-all-identities-spec =

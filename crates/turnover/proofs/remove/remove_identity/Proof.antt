@@ -1,4 +1,4 @@
--- The plan goes by the same steps; the search ends at one of eight places. Assumes nothing.
+-- The plan goes by the same steps; the search ends at one of 24. Assumes nothing.
 use native.Mathlib.Omega.{arith}
 use borrow.Author.Needs.{needs}
 use Rattle.table.specs.Entries.{columns}
@@ -15,13 +15,13 @@ returns c =
     let failed : tie.After-failure = search in
     let told : tie.After-enum-told = search in
     let at-string : tie.After-string = search in
-    unread _ _ _ _ _ _ _ _ (at-string .string .ensures) _ (told .enum-told .given .1) (failed .failure .ensures)
+    unread _ _ _ _ _ _ _ (at-string .string .ensures) _ (told .enum-told .given .1) (failed .failure .ensures)
 
 housed : tie.Need-find-requires
 unfolding begun
 housed c κs =
     let at-cut : tie.After-cut = search in
-    shown-housed _ _ _ (begun at-cut .pre .1)
+    shown-housed _ _ (begun at-cut .pre .1)
 
 shown : tie.Need-remove-requires
 unfolding begun
@@ -30,7 +30,7 @@ shown c κs =
     let found : tie.After-find = search in
     let at-cut : tie.After-cut = search in
     let start = begun at-cut in
-    (shown-within _ _ _ (start .pre .1) _ _ _ (found .find .ensures) (place .i .given .1), start .pre .1)
+    (shown-within _ _ (start .pre .1) _ _ _ (found .find .ensures) (place .i .given .1), start .pre .1)
 
 room : tie.Need-success-requires
 unfolding begun
@@ -54,8 +54,8 @@ returns-2 c =
     let t = columns (a .numbers .now) (a .readings .now) (a .blob-lens .now) (a .fields-lens .now) (a .comment-lens .now) (a .seconds .now) (a .limited .now) (a .confirm .now) in
     let w = removed .remove .last in
     let u = columns (w .0) (w .1 .0) (w .1 .1 .0) (w .1 .1 .1 .0) (w .1 .1 .1 .1 .0) (w .1 .1 .1 .1 .1 .0) (w .1 .1 .1 .1 .1 .1 .0) (w .1 .1 .1 .1 .1 .1 .1 .0) in
-    one-removed t _ _ _ _ _ _ _ (at-string .string .ensures) _ _ _ (part .from .given .1) _ _ (at-cut .cut .ensures .bytes) (found .find .ensures)
-    u _ _ _ (place .i .given .1) (removed .remove .ensures) (answered .success .ensures)
+    one-removed t _ _ _ _ _ _ (at-string .string .ensures) _ _ _ (part .from .given .1) _ _ (at-cut .cut .ensures .bytes) (found .find .ensures)
+    u _ _ (place .i .given .1) (removed .remove .ensures) (answered .success .ensures)
 
 returns-3 : tie.Need-returns-3
 unfolding begun
@@ -66,7 +66,7 @@ returns-3 c =
     let at-cut : tie.After-cut = search in
     let part : tie.After-from = search in
     let at-string : tie.After-string = search in
-    none-held _ _ _ _ _ _ _ _ (at-string .string .ensures) _ _ _ (part .from .given .1) _ _ (at-cut .cut .ensures .bytes) (found .find .ensures)
+    none-held _ _ _ _ _ _ _ (at-string .string .ensures) _ _ _ (part .from .given .1) _ _ (at-cut .cut .ensures .bytes) (found .find .ensures)
     (told .enum-told2 .given .1) (failed .failure2 .ensures)
 
 pub remove-identity-spec : {M : Type 1} → statement M
