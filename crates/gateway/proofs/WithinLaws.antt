@@ -23,7 +23,7 @@ use Rattle.rule.specs.Calls as rule
 use Rattle.rule.specs.Calls.{lent, lentLength, Call, refused, asks, lands, follow, served, refusalOf, refusal, call}
 use Rattle.rule.proofs.Cases.{cond-cases, part-cases, number-cases, found-cases, added-cases, given-cases}
 use Rattle.rule.proofs.Plans.{asks-not-lands}
-use Rattle.rule.proofs.PlaceLaws.{some-not-none}
+use Rattle.rule.proofs.PositionLaws.{some-not-none}
 use Rattle.rule.proofs.SoundLaws.{fit-says, sound-rule}
 use Rattle.rule.proofs.ReplyLaws.{replies-fit}
 use Rattle.table.specs.declared.State.{State}
@@ -98,7 +98,7 @@ module _ (payload : List ℕ) where
     unfolding signing confirming
     signing-inside =
         part-cases Inside (stringAt payload 1) (λ _ _. land-inside _ g) λ f t k _.
-        by-key (entryWith (cutOf payload f t) (g .places)) (k .at)
+        by-key (entryWith (cutOf payload f t) (g .entries)) (k .at)
       where
         by-key : (o : Option Entry) (at : ℕ) → Inside (confirming g payload o at)
         by-key none at = land-inside _ g
@@ -116,7 +116,7 @@ module _ (payload : List ℕ) where
         (λ fits.
         let lengths = fit-says (e .blob) (e .fields) (e .comment) .0 fits in
         cond-inside (ltb (g .next) lastNumber) _
-        (found-cases Inside (placeFor (e .blob) (g .places)) (λ _. land-inside _ g) λ i _.
+        (found-cases Inside (placeFor e (g .entries)) (λ _. land-inside _ g) λ i _.
         ask-inside (check 1 end) _ (fields-within payload end (lengths .fields-some)) (λ granted. cond-inside granted _ (land-inside SUCCESS (withEntry i e g)))))
         (λ _. land-inside _ g)
 
@@ -124,7 +124,7 @@ module _ (payload : List ℕ) where
     unfolding removing
     removing-inside =
         part-cases Inside (stringAt payload 1) (λ _ _. land-inside _ g) λ f t k _.
-        found-cases Inside (seek (holds (cutOf payload f t)) 0 (g .places)) (λ _. land-inside _ g) (λ i _. land-inside _ _)
+        found-cases Inside (seek (holds (cutOf payload f t)) 0 (g .entries)) (λ _. land-inside _ g) (λ i _. land-inside _ _)
 
     locking-inside : Inside (locking g payload)
     unfolding locking

@@ -105,9 +105,9 @@ module _ (s : State) (x p : List ℕ) (t : Millis) (answers : Answers) (bytes bu
           }
 
 -- a refusal of the core, as the state that its columns and what it keeps are
-pub refused-as : (t : Columns) (cs b : List ℕ) (k : Kept) (r : Landed) (n : ℕ) → r ≡ record { outcome = Refused n; kept = k }
-    → _≡_ {A = Called} (record { outcome = r .outcome; state = held t cs b (r .kept) }) (record { outcome = Refused n; state = held t cs b k })
-refused-as t cs b k r n e = ap (λ (l : Landed). record { outcome = l .outcome; state = held t cs b (l .kept) }) e
+pub refused-as : (t : Columns) (b : List ℕ) (k : Kept) (r : Landed) (n : ℕ) → r ≡ record { outcome = Refused n; kept = k }
+    → _≡_ {A = Called} (record { outcome = r .outcome; state = held t b (r .kept) }) (record { outcome = Refused n; state = held t b k })
+refused-as t b k r n e = ap (λ (l : Landed). record { outcome = l .outcome; state = held t b (l .kept) }) e
 
 -- a lent signature that the test lets through is short
 pub lent-short : (answers : Answers) (bytes : List ℕ) (n : ℕ) → n ≡ lentLength (signatureOf (answers .signature) bytes) → n ≤ signatureLimit → lentLength (lentOf answers bytes .signature) ≤ signatureLimit

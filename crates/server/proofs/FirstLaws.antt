@@ -23,7 +23,7 @@ use Rattle.rule.specs.Rule.{gate, FAILURE}
 use Rattle.rule.specs.Calls as rule
 use Rattle.rule.specs.Calls.{given, lentLength, refusalOf, refused, asks, lands, Result, served, call}
 use Rattle.rule.proofs.Cases.{cond-cases, true-not-false}
-use Rattle.rule.proofs.PlaceLaws.{some-not-none}
+use Rattle.rule.proofs.PositionLaws.{some-not-none}
 use Rattle.rule.proofs.RowLaws.{rows-cases}
 use Rattle.table.specs.declared.State.{State}
 use Rattle.table.specs.Meaning.{gatewayOf}

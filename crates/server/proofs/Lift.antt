@@ -22,7 +22,7 @@ use Rattle.rule.specs.Order.{EveryAccepted, Keeps, AsOneAtATime, ownFrame, ownA
 use Rattle.rule.specs.Words.{Begins}
 use Rattle.rule.specs.Comments.{TextComments, BytesIn}
 use Rattle.rule.proofs.Cases.{cond-cases, true-not-false}
-use Rattle.rule.proofs.PlaceLaws.{some-not-none}
+use Rattle.rule.proofs.PositionLaws.{some-not-none}
 use Rattle.rule.proofs.RefusalLaws.{refused-by}
 use Rattle.rule.proofs.Demands as demands
 use Rattle.rule.proofs.LockLaws.{lock-holds}

@@ -17,7 +17,7 @@ use Rattle.rule.specs.Runs.{Event, RunsTo, Every, isAccepted, acceptedIn, turns
 use Rattle.rule.specs.Order.{EveryAccepted, Keeps, AsOneAtATime, ownFrame, ownAnswers, NoUnlocking, OnlyExpiry}
 use Rattle.rule.specs.Words.{Begins, Carries}
 use Rattle.rule.specs.Rows.{Row}
-use Rattle.rule.specs.Listing.{Lists, itemForms}
+use Rattle.rule.specs.Listing.{itemForms}
 use Rattle.rule.specs.Signing.{SignRequest}
 use Rattle.rule.specs.Comments.{TextComments}
 use Rattle.table.specs.declared.State.{State}
@@ -249,11 +249,11 @@ module _ (Met : State → List ℕ → Step → Type 0) where
       → EndedWith (4 ∷ n ∷ from ∷ to ∷ bits ∷ []) k
       → (blob bytes : List ℕ) × (flags : ℕ) × SignRequest (k .payload) blob bytes flags × BitsTable flags bits
 
-  -- 11 answers the live entries' count, and of each, in place order, the blob and its own comment
+  -- 11 answers the live entries' count, and of each, in list order, the blob and its own comment
   abbrev pub CodeLists : Type 0
   CodeLists =
       (state : State) (store : List ℕ) (k : Step) (es : List Entry) → Sound state store → Met state store k → Accepted k → Begins 11 (k .payload)
-      → locked (gatewayOf state store) ≡ false → k .answers .gate ≡ Yes → Lists (advance (k .reading) (gatewayOf state store) .places) es
+      → locked (gatewayOf state store) ≡ false → k .answers .gate ≡ Yes → advance (k .reading) (gatewayOf state store) .entries ≡ es
       → Fronted (string (12 ∷ (be32 (length es) ++ itemForms es))) k
 
   -- "Questions and closing alter nothing but clock and expiry"
