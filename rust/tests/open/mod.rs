@@ -51,9 +51,8 @@ impl Open {
         let mut reply = vec![7; REPLY_LEN];
         let (p, s, r) = (payload.as_ptr(), self.store.as_mut_ptr(), reply.as_mut_ptr());
         // SAFETY: pointers and lengths of vectors that do not overlap.
-        let o = unsafe {
-            raw::key_agent_call(&mut self.state, s, self.store.len(), p, payload.len(), reading, answers, [0].as_ptr(), 0, r, reply.len())
-        };
+        let o =
+            unsafe { raw::key_agent_call(&mut self.state, s, self.store.len(), p, payload.len(), reading, answers, [0].as_ptr(), 0, r, reply.len()) };
         let written = if o.kind == 5 { o.to } else { 0 };
         assert!(reply[written..].iter().all(|b| *b == 7));
         (o.kind, o.number, reply[..written].to_vec())
