@@ -322,7 +322,8 @@ fn what_stands_behind_the_held_ones_is_zero() {
             o.unsound(&format!("byte {at} behind {count} keys"));
         }
         for i in count..MAX_KEYS {
-            let columns: [fn(&mut raw::Columns, usize); 7] = [
+            let columns: [fn(&mut raw::Columns, usize); 8] = [
+                |c, i| c.numbers[i] = 50,
                 |c, i| c.readings[i] = 1,
                 |c, i| c.blob_lens[i] = 1,
                 |c, i| c.fields_lens[i] = 1,
