@@ -287,7 +287,7 @@ fn one_walk() {
         firsts[first.kind as usize] += 1;
     }
     println!(
-        "{made} calls: kinds 1 to 6 {:?}, refusals 1 to 5 {:?}; sound no, yes {sound:?}; first calls 0 to 3 {firsts:?}; up to {most} keys, {fullest} bytes; {:#x}",
+        "{made} calls: kinds 1 to 6 {:?}, refusals 1 to 5 {:?}; sound no, yes {sound:?}; first calls 0 to 3 {firsts:?}; {most} keys, {fullest} bytes; {:#x}",
         &kinds[1..7],
         &kinds[7..],
         f.0
