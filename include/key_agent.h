@@ -28,8 +28,9 @@ extern "C" {
 #endif
 
 enum {
+    KEY_AGENT_KEYS = 24,               /* the most keys that are held */
     KEY_AGENT_STORE_BYTES = 32768,     /* the key store's exact length */
-    KEY_AGENT_REPLY_BYTES = 10305,     /* the reply buffer's least length */
+    KEY_AGENT_REPLY_BYTES = 30897,     /* the reply buffer's least length: the longest list */
     KEY_AGENT_PAYLOAD_BYTES = 262144,  /* the longest payload */
     KEY_AGENT_SIGNATURE_BYTES = 2048,  /* the longest signature */
     KEY_AGENT_COMMENT_BYTES = 255      /* the longest comment */
@@ -42,17 +43,18 @@ typedef struct {
     uint64_t count;
 } key_agent_millis;
 
-/* Of each of the eight places: insertion number, 0 where it is free; reading at insertion, in milliseconds; lengths of blob, key fields and comment;
- * lifetime in seconds; limited (has it a lifetime?) and confirm, 0 or 1, any other value is unsound. */
+/* Of each held key, in the order of the list: insertion number; reading at insertion, in milliseconds; lengths of blob, key fields and comment;
+ * lifetime in seconds; limited (has it a lifetime?) and confirm, 0 or 1, any other value is unsound. The first number that is 0 ends the list, and
+ * all entries from there on are zero. */
 typedef struct {
-    uint64_t numbers[8];
-    uint64_t readings[8];
-    size_t blob_lens[8];
-    size_t fields_lens[8];
-    size_t comment_lens[8];
-    uint32_t seconds[8];
-    uint8_t limited[8];
-    uint8_t confirm[8];
+    uint64_t numbers[KEY_AGENT_KEYS];
+    uint64_t readings[KEY_AGENT_KEYS];
+    size_t blob_lens[KEY_AGENT_KEYS];
+    size_t fields_lens[KEY_AGENT_KEYS];
+    size_t comment_lens[KEY_AGENT_KEYS];
+    uint32_t seconds[KEY_AGENT_KEYS];
+    uint8_t limited[KEY_AGENT_KEYS];
+    uint8_t confirm[KEY_AGENT_KEYS];
 } key_agent_columns;
 
 typedef struct {
@@ -60,10 +62,11 @@ typedef struct {
     size_t len;
 } key_agent_lock;
 
-/* The comment of place i begins at comments[255 * i], its blob at store[4096 * i], its key fields 1,024 bytes behind that. */
+/* The store has of each held key blob, key fields and comment behind each other, the keys in the order of the list and without gaps, from store[0]
+ * on; the rest of its KEY_AGENT_STORE_BYTES bytes is zero. A call that adds, replaces or removes a key, or lets one go on time, moves what stands
+ * behind it: a place in the store holds until the next call. */
 typedef struct {
     key_agent_columns columns;
-    uint8_t comments[8 * KEY_AGENT_COMMENT_BYTES];
     key_agent_lock lock;
     key_agent_millis clock;
     uint64_t next;
@@ -156,7 +159,7 @@ typedef struct {
 /* number is its insertion number; where it is 0 nothing is told, and every field is 0. confirm and limited (has it a lifetime?) are 0 or 1; left
  * is what is left of the lifetime at the kept clock, in milliseconds, 0 without one and where none is left. The public blob is
  * store[blob_from .. blob_to), the key fields, private ones too, as the add request had them, are store[fields_from .. fields_to): never out of
- * range, from <= to <= store_len. */
+ * range, from <= to <= store_len. The next call may move them. */
 typedef struct {
     uint64_t number;
     uint8_t confirm;
@@ -237,8 +240,8 @@ uint64_t key_agent_next(key_agent_state state, const uint8_t *store, size_t stor
 #ifdef __STDC_VERSION__
 #if __STDC_VERSION__ >= 201112L
 _Static_assert(sizeof(key_agent_comment) == 264 && offsetof(key_agent_comment, len) == 256, "layout of a comment");
-_Static_assert(sizeof(key_agent_columns) == 368 && offsetof(key_agent_columns, blob_lens) == 128 && offsetof(key_agent_columns, seconds) == 320 && offsetof(key_agent_columns, confirm) == 360, "layout of the columns");
-_Static_assert(sizeof(key_agent_state) == 3456 && offsetof(key_agent_state, comments) == 368 && offsetof(key_agent_state, lock) == 2408 && offsetof(key_agent_state, clock) == 3440 && offsetof(key_agent_state, next) == 3448, "layout of a state");
+_Static_assert(sizeof(key_agent_columns) == 1104 && offsetof(key_agent_columns, blob_lens) == 384 && offsetof(key_agent_columns, seconds) == 960 && offsetof(key_agent_columns, confirm) == 1080, "layout of the columns");
+_Static_assert(sizeof(key_agent_state) == 2152 && offsetof(key_agent_state, lock) == 1104 && offsetof(key_agent_state, clock) == 2136 && offsetof(key_agent_state, next) == 2144, "layout of a state");
 _Static_assert(sizeof(key_agent_answers) == 24 && offsetof(key_agent_answers, confirmation_number) == 8, "layout of answers");
 _Static_assert(sizeof(key_agent_outcome) == 32 && offsetof(key_agent_outcome, hash) == 2 && offsetof(key_agent_outcome, number) == 8, "layout of an outcome");
 _Static_assert(sizeof(key_agent_split_result) == 24 && offsetof(key_agent_split_result, from) == 8, "layout of a split");

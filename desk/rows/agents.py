@@ -74,6 +74,19 @@ class Panel:
             if text and re.search(text, open_text):
                 self.answer(number, True)
 
+    def blocks(self):
+        """The whole blocks that it was sent, of lock and keys: each a list of lines without `end`."""
+        found, block = [], None
+        for line in list(self.lines):
+            if line.startswith('lock '):
+                block = [line]
+            elif line == 'end' and block:
+                found.append(block)
+                block = None
+            elif line.startswith('key ') and block:
+                block.append(line)
+        return found
+
     def said(self, text, seconds=10):
         """The first line with this text, once it is there."""
         def line():

@@ -6,7 +6,7 @@ import time
 from .agents import Desk
 from .base import must, row
 from .frames import ADD, ADD_CONSTRAINED, FAILURE, LIST, LOCK, SUCCESS, UNLOCK, Raw, receive, string, strings
-from .keys import FIVE, KINDS, blob_of, fields_of, make, private, sign_request, stored
+from .keys import FIVE, KINDS, blob_of, fields_of, make, many, private, sign_request, stored, wide
 from .scan import holds, holds_once, is_clean
 from .tools import WORD, ended, fails, started, works
 
@@ -88,6 +88,35 @@ def _():
     return '280 signatures; nothing of any private half'
 
 
+def all_of(kinds, what):
+    """These secrets of these keys, by name."""
+    return {f'{kind} {name}': secret for kind in kinds for name, secret in what(kind).items()}
+
+
+@row('memory: keys that move within the store, as others are removed, go on time, and are added again with a longer or shorter comment (raw)')
+def _():
+    with Desk() as a:
+        def hold(kinds, gone, when):
+            is_clean(a, all_of(gone, private), when)
+            if kinds:
+                holds_once(a, all_of(kinds, stored), when)
+        short = ['ecdsa-384', 'rsa-2048']
+        for kind in KINDS:
+            works(a, 'ssh-add', *(['-t', '5'] if kind in short else []), kind)
+        hold(KINDS, [], 'added')
+        held = [kind for kind in KINDS if kind not in short]
+        time.sleep(6)
+        hold(held, short, 'two went on time')
+        for text in (b'x' * 255, b'', b'a word'):
+            must(Raw(a).ask(ADD + fields_of(held[0]) + string(text)) == SUCCESS, 'not added again')
+            hold(held, [], f'a comment of {len(text)} bytes')
+        while held:
+            gone = held.pop(0)
+            works(a, 'ssh-add', '-d', gone)
+            hold(held, [gone], f'{gone} is removed')
+    return 'those held are found at one place each, wherever they stand now; nothing of the others'
+
+
 @row('memory: signatures and key checks are under way when `-D` and the LOCK land')
 def _():
     kinds = ['rsa-4096', 'rsa-2048', 'ecdsa-521', 'ed25519']
@@ -156,7 +185,7 @@ def wrong_halves():
     yield b''.join(map(string, (name, strings(blob_of('other-rsa'))[2], *rest))), private('rsa-2048')
 
 
-@row('memory: adds that were refused: by the key check, for a comment, a constraint or a cut, for want of a place, by the gate, '
+@row('memory: adds that were refused: by the key check, for a comment, a constraint or a cut, as 24 are held, for want of room, by the gate, '
      'while locked (raw)')
 def _():
     with Desk() as a:
@@ -168,11 +197,11 @@ def _():
                                   ('constraint', ADD_CONSTRAINED + fields_of(kind) + string(b'') + b'\x77')):
                 must(Raw(a).ask(payload) == FAILURE, 'taken')
                 is_clean(a, private(kind), f'{kind}, {what}')
-        for kind in KINDS + ['plant-0']:
-            works(a, 'ssh-add', kind)
-        fails(a, 'ssh-add', 'plant-1')
-        is_clean(a, private('plant-1'), 'no place')
-        works(a, 'ssh-add', '-D')
+        for held, refused in ((many()[:24], 'plant-1'), (wide()[:8] + ['rsa-4096'], 'rsa-3072')):
+            works(a, 'ssh-add', *held)
+            fails(a, 'ssh-add', refused)
+            is_clean(a, private(refused), f'{len(held)} are held')
+            works(a, 'ssh-add', '-D')
         works(a, 'ssh-add', '-x', word=WORD)
         for kind in FIVE:
             fails(a, 'ssh-add', kind)

@@ -95,26 +95,12 @@ def _():
     return 'is closed: it sees the end after what was sent; the others go on'
 
 
-def blocks(panel):
-    """The whole blocks that it was sent: each a list of lines without `end`."""
-    found, block = [], None
-    for line in list(panel.lines):
-        if line.startswith('lock '):
-            block = [line]
-        elif line == 'end' and block:
-            found.append(block)
-            block = None
-        elif line.startswith('key ') and block:
-            block.append(line)
-    return found
-
-
 def shown(panel, *want):
     """The last block is this, once it is."""
     def there():
-        last = blocks(panel)[-1:]
+        last = panel.blocks()[-1:]
         return last and len(last[0]) == len(want) and all(re.fullmatch(w, line) for w, line in zip(want, last[0]))
-    until(there, f'the last block is not {want}: {blocks(panel)[-1:]}', 5)
+    until(there, f'the last block is not {want}: {panel.blocks()[-1:]}', 5)
 
 
 @row('`show` and `watch`: lock and keys, told after each change; while locked no key')
@@ -145,10 +131,10 @@ def _():
         shown(watcher, 'lock open', ec)
         works(a, 'ssh-add', '-D')
         shown(watcher, 'lock open')
-        must(len(blocks(other)) == 2, f'one that did not watch was told: {blocks(other)}')
-        must(not blocks(a.panel), 'one that did not ask was told')
-        count = len(blocks(watcher))
+        must(len(other.blocks()) == 2, f'one that did not watch was told: {other.blocks()}')
+        must(not a.panel.blocks(), 'one that did not ask was told')
+        count = len(watcher.blocks())
         run(a, 'ssh-add', '-l')
         time.sleep(0.3)
-        must(len(blocks(watcher)) == count, 'a list is no change')
+        must(len(watcher.blocks()) == count, 'a list is no change')
     return 'fingerprint, time left, Confirm and comment; adds, removals, a key gone on time, lock and unlock'

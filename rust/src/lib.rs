@@ -1,5 +1,5 @@
-//! The proved key agent core for Rust programs: the rules of an SSH agent with eight places for keys, a lock, lifetimes and confirmations, and
-//! none of the rest. Sockets, signing, key mathematics and the clock stay with the caller.
+//! The proved key agent core for Rust programs: the rules of an SSH agent with room for 24 keys, a lock, lifetimes and confirmations, and none
+//! of the rest. Sockets, signing, key mathematics and the clock stay with the caller.
 //!
 //! A request is one frame of a connection's bytes. [`Gateway::first`] finds it at their front; that call, and [`Gateway::call`] on its
 //! [`Payload`], work on the present state and either land ([`Outcome::Reply`], [`Outcome::Close`]) or ask a [`Question`]. The caller finds the
@@ -47,10 +47,12 @@ use std::fmt;
 use std::ops::{Deref, Range};
 use std::sync::Once;
 
-/// The length of the key store: eight places of 4,096 bytes.
+/// The most keys that are held.
+pub const MAX_KEYS: usize = raw::KEYS;
+/// The length of the key store, in which blobs, key fields and comments stand without gaps: what they take in all is at most this.
 pub const STORE_LEN: usize = 32_768;
-/// The length of a reply buffer: the longest list of eight keys is 10,305 bytes.
-pub const REPLY_LEN: usize = 10_305;
+/// The length of a reply buffer: the longest list of 24 keys is 30,897 bytes.
+pub const REPLY_LEN: usize = 30_897;
 /// The longest comment that is taken.
 pub const MAX_COMMENT: usize = 255;
 /// The longest payload that is taken.
@@ -424,7 +426,7 @@ impl fmt::Debug for Key<'_> {
 }
 
 /// The gateway: its state and its key store, owned. Both are only ever altered by the core, so a call from here is never refused for them.
-/// Two are equal if they have the same keys in the same places, the same passphrase, clock and next number.
+/// Two are equal if they have the same keys in the same order, the same passphrase, clock and next number.
 #[derive(Clone, PartialEq, Eq)]
 pub struct Gateway {
     state: Box<raw::State>,
@@ -525,7 +527,8 @@ impl Gateway {
         (n != 0).then_some(n)
     }
 
-    /// The held keys in order of insertion. Keys whose time is over stay until the next call.
+    /// The held keys in order of insertion; the list of a reply has a key that was added again where it was. Keys whose time is over stay until the
+    /// next call.
     pub fn keys(&self) -> impl Iterator<Item = Key<'_>> {
         std::iter::successors(self.next_held(0), |n| self.next_held(*n)).filter_map(|n| self.key(n))
     }
@@ -577,8 +580,7 @@ impl fmt::Debug for Gateway {
 impl Drop for Gateway {
     // Keys, comments and passphrase do not stay in memory that is handed back.
     fn drop(&mut self) {
-        let raw::State { comments, lock, .. } = &mut *self.state;
-        for b in self.store.iter_mut().chain(comments).chain(&mut lock.bytes) {
+        for b in self.store.iter_mut().chain(&mut self.state.lock.bytes) {
             // SAFETY: a reference to one byte. Volatile, so that the write is not left out.
             unsafe { std::ptr::write_volatile(b, 0) };
         }
@@ -646,17 +648,17 @@ fn self_test() {
     };
     let fresh = *g.state;
     let columns = raw::Columns {
-        numbers: [0; 8],
-        readings: [0; 8],
-        blob_lens: [0; 8],
-        fields_lens: [0; 8],
-        comment_lens: [0; 8],
-        seconds: [0; 8],
-        limited: [0; 8],
-        confirm: [0; 8],
+        numbers: [0; MAX_KEYS],
+        readings: [0; MAX_KEYS],
+        blob_lens: [0; MAX_KEYS],
+        fields_lens: [0; MAX_KEYS],
+        comment_lens: [0; MAX_KEYS],
+        seconds: [0; MAX_KEYS],
+        limited: [0; MAX_KEYS],
+        confirm: [0; MAX_KEYS],
     };
     let lock = raw::LockRecord { bytes: [0; 1024], len: 0 };
-    assert_eq!(fresh, raw::State { columns, comments: [0; 2040], lock, clock: 0, next: 1 }, "layout of State: fresh");
+    assert_eq!(fresh, raw::State { columns, lock, clock: 0, next: 1 }, "layout of State: fresh");
     // a P-256 key with every field of its entry set: 25, lifetime 0x01020304, Confirm
     let blob = [string(b"ecdsa-sha2-nistp256"), string(b"nistp256"), string(&[4; 65])].concat();
     let fields = [blob.clone(), string(&[5; 32])].concat();
@@ -686,7 +688,6 @@ fn self_test() {
     want.columns.seconds[0] = 0x0102_0304;
     want.columns.limited[0] = 1;
     want.columns.confirm[0] = 1;
-    want.comments[..4].copy_from_slice(b"shed");
     want.clock = 78;
     want.next = 2;
     assert_eq!(*g.state, want, "layout of State: an entry");

@@ -8,19 +8,22 @@ pub struct Comment {
     pub len: usize,
 }
 
-/// What is kept of the eight places beside their bytes and comments; a free place is all zero. `limited` and `confirm` are 0 or 1; any other value is
-/// unsound.
+/// The most keys that are held.
+pub const KEYS: usize = 24;
+
+/// What is kept of the held keys, in the order of the list, beside their bytes in the store; what stands behind them is all zero. `limited` and
+/// `confirm` are 0 or 1; any other value is unsound.
 #[repr(C)]
 #[derive(Clone, Copy, Debug, PartialEq, Eq)]
 pub struct Columns {
-    pub numbers: [u64; 8],
-    pub readings: [u64; 8],
-    pub blob_lens: [usize; 8],
-    pub fields_lens: [usize; 8],
-    pub comment_lens: [usize; 8],
-    pub seconds: [u32; 8],
-    pub limited: [u8; 8],
-    pub confirm: [u8; 8],
+    pub numbers: [u64; KEYS],
+    pub readings: [u64; KEYS],
+    pub blob_lens: [usize; KEYS],
+    pub fields_lens: [usize; KEYS],
+    pub comment_lens: [usize; KEYS],
+    pub seconds: [u32; KEYS],
+    pub limited: [u8; KEYS],
+    pub confirm: [u8; KEYS],
 }
 
 #[repr(C)]
@@ -34,8 +37,6 @@ pub struct LockRecord {
 #[derive(Clone, Copy, Debug, PartialEq, Eq)]
 pub struct State {
     pub columns: Columns,
-    /// 255 bytes for each place.
-    pub comments: [u8; 2040],
     pub lock: LockRecord,
     pub clock: u64,
     pub next: u64,
@@ -152,13 +153,13 @@ const _: () = {
     use std::mem::{align_of, size_of};
     assert!(size_of::<usize>() == 8);
     assert!(size_of::<Comment>() == 264 && offset_of!(Comment, len) == 256);
-    assert!(size_of::<Columns>() == 368 && align_of::<Columns>() == 8);
-    assert!(offset_of!(Columns, numbers[0]) == 0 && offset_of!(Columns, readings[0]) == 64 && offset_of!(Columns, blob_lens[0]) == 128);
-    assert!(offset_of!(Columns, fields_lens[0]) == 192 && offset_of!(Columns, comment_lens[0]) == 256 && offset_of!(Columns, seconds[0]) == 320);
-    assert!(offset_of!(Columns, limited[0]) == 352 && offset_of!(Columns, confirm[0]) == 360);
+    assert!(size_of::<Columns>() == 1104 && align_of::<Columns>() == 8);
+    assert!(offset_of!(Columns, numbers[0]) == 0 && offset_of!(Columns, readings[0]) == 192 && offset_of!(Columns, blob_lens[0]) == 384);
+    assert!(offset_of!(Columns, fields_lens[0]) == 576 && offset_of!(Columns, comment_lens[0]) == 768 && offset_of!(Columns, seconds[0]) == 960);
+    assert!(offset_of!(Columns, limited[0]) == 1056 && offset_of!(Columns, confirm[0]) == 1080);
     assert!(size_of::<LockRecord>() == 1032 && offset_of!(LockRecord, len) == 1024);
-    assert!(size_of::<State>() == 3456 && align_of::<State>() == 8 && offset_of!(State, comments[0]) == 368);
-    assert!(offset_of!(State, lock.bytes[0]) == 2408 && offset_of!(State, clock) == 3440 && offset_of!(State, next) == 3448);
+    assert!(size_of::<State>() == 2152 && align_of::<State>() == 8 && offset_of!(State, lock.bytes[0]) == 1104);
+    assert!(offset_of!(State, clock) == 2136 && offset_of!(State, next) == 2144);
     assert!(size_of::<FlatAnswers>() == 24 && offset_of!(FlatAnswers, confirmation_number) == 8);
     assert!(size_of::<FlatOutcome>() == 32 && offset_of!(FlatOutcome, hash) == 2 && offset_of!(FlatOutcome, number) == 8);
     assert!(offset_of!(FlatOutcome, from) == 16 && offset_of!(FlatOutcome, to) == 24);

@@ -1,23 +1,11 @@
 //! The comment of each key: kept, listed, replaced, and gone with the key; and comments in a state handed in, which the safe interface cannot make.
 mod framed;
+mod open;
 
 use framed::{call, string};
-use key_agent::*;
+use key_agent::{Answers, Gateway, Outcome, Question, Reply, MAX_COMMENT, MAX_KEYS};
+use open::{ed25519, Held, Key, Open, FAILURE, SUCCESS};
 
-#[allow(dead_code)]
-#[path = "../src/raw.rs"]
-mod raw;
-
-const FAILURE: [u8; 5] = [0, 0, 0, 1, 5];
-const SUCCESS: [u8; 5] = [0, 0, 0, 1, 6];
-const NONE: raw::Comment = raw::Comment { bytes: [0; 255], len: 0 };
-
-/// Key fields and public blob.
-type Key = (Vec<u8>, Vec<u8>);
-fn ed25519(i: u8) -> Key {
-    let blob = [string(b"ssh-ed25519"), string(&[i; 32])].concat();
-    ([blob.clone(), string(&[i; 64])].concat(), blob)
-}
 fn ecdsa(curve: &str, size: usize) -> Key {
     let kind = format!("ecdsa-sha2-{curve}");
     let blob = [string(kind.as_bytes()), string(curve.as_bytes()), string(&[&[4][..], &vec![7; 2 * size]].concat())].concat();
@@ -50,7 +38,7 @@ fn list<'a>(g: &mut Gateway, items: impl IntoIterator<Item = (&'a Key, &'a str)>
     let items: Vec<_> = items.into_iter().collect();
     let body: Vec<u8> = items.iter().flat_map(|(k, c)| [string(&k.1), string(c.as_bytes())].concat()).collect();
     assert_eq!(reply(g, &[11]), string(&[&[12][..], &(items.len() as u32).to_be_bytes(), &body].concat()));
-    // `keys` goes by insertion, the list by place
+    // `keys` goes by insertion; in the list a key that was added again is where it was
     let mut held: Vec<_> = g.keys().map(|k| (k.blob.to_vec(), k.comment.to_string())).collect();
     let mut want: Vec<_> = items.iter().map(|(k, c)| (k.1.clone(), c.to_string())).collect();
     held.sort();
@@ -143,141 +131,86 @@ fn nothing_but_utf_8() {
     }
 }
 
-/// A gateway of which every byte can be seen and set.
-#[derive(Clone)]
-struct Open {
-    state: raw::State,
-    store: Vec<u8>,
+/// Some keys, held, and what is known of them; their comments have this many bytes.
+fn held(comment: usize, lifetime: Option<u32>) -> (Open, Vec<Held>) {
+    let (mut o, mut keys) = (Open::fresh(), vec![]);
+    for i in 0..MAX_KEYS as u8 {
+        let constraints = lifetime.map_or(vec![], |l| [&[1][..], &l.to_be_bytes()].concat());
+        o.does(&add(&ed25519(i + 1), &vec![b'x'; comment], Some(&constraints)), 0);
+        let (number, key, comment) = (u64::from(i) + 1, ed25519(i + 1), vec![b'x'; comment]);
+        keys.push(Held { number, reading: 0, key, comment, lifetime, confirm: false });
+    }
+    (o, keys)
 }
-impl Open {
-    /// Eight keys with comments of this many bytes.
-    fn full(comment: usize, constraints: &[u8]) -> Open {
-        let mut o = Open { state: unsafe { raw::key_agent_fresh() }, store: vec![0; STORE_LEN] };
-        for i in 1..=8 {
-            assert_eq!(o.call(&add(&ed25519(i), &vec![b'x'; comment], Some(constraints)), 0), (5, 0, SUCCESS.to_vec()));
-        }
-        o
-    }
-    /// Kind and number of the outcome, and the reply; a buffer that is touched by another outcome fails.
-    fn call(&mut self, payload: &[u8], reading: u64) -> (u8, u64, Vec<u8>) {
-        let (mut reply, yes) = (vec![7; REPLY_LEN], raw::FlatAnswers { gate: 2, check: 2, ..Default::default() });
-        let (p, s, r) = (payload.as_ptr(), self.store.as_mut_ptr(), reply.as_mut_ptr());
-        // SAFETY: pointers and lengths of vectors that do not overlap.
-        let o = unsafe { raw::key_agent_call(&mut self.state, s, STORE_LEN, p, payload.len(), reading, yes, [0].as_ptr(), 0, r, REPLY_LEN) };
-        assert!(reply[o.to..].iter().all(|b| *b == 7));
-        (o.kind, o.number, reply[..o.to].to_vec())
-    }
-    fn is_sound(&self) -> bool {
-        // SAFETY: a vector's pointer and length; nothing is written.
-        unsafe { raw::key_agent_is_sound(self.state, self.store.as_ptr(), self.store.len()) }
-    }
-    fn comment(&self, place: usize) -> raw::Comment {
-        let bytes = self.state.comments[255 * place..255 * (place + 1)].try_into().expect("255 bytes");
-        raw::Comment { bytes, len: self.state.columns.comment_lens[place] }
-    }
-    fn set_comment(&mut self, place: usize, c: raw::Comment) {
-        self.state.comments[255 * place..255 * (place + 1)].copy_from_slice(&c.bytes);
-        self.state.columns.comment_lens[place] = c.len;
-    }
-    fn comments(&self) -> [raw::Comment; 8] {
-        std::array::from_fn(|i| self.comment(i))
-    }
-    /// Refused with 3, and nothing is altered.
-    fn unsound(mut self, what: &str, place: usize) {
-        let before = self.clone();
-        assert!(!self.is_sound(), "place {place}: {what}");
-        for payload in [&[11][..], &[19], &[]] {
-            assert_eq!(self.call(payload, 9), (0, 3, vec![]), "place {place}: {what}");
-            assert!(self.state == before.state && self.store == before.store, "place {place}: {what}");
-        }
-    }
-    fn sound(mut self, what: &str, place: usize) {
-        assert!(self.is_sound(), "place {place}: {what}");
-        assert_eq!(self.call(&[11], 0).0, 5, "place {place}: {what}");
-    }
+fn agree(o: &Open, keys: &[Held], what: &str) {
+    assert_eq!(o.state.columns, open::columns(keys), "{what}");
+    assert!(o.store == open::store(keys), "{what}");
 }
 
 #[test]
 fn gone_with_the_key() {
-    let whole = raw::Comment { bytes: [b'x'; 255], len: 255 };
-    let remove = |i: usize| [&[18][..], &string(&ed25519(i as u8 + 1).1)].concat();
-    let full = Open::full(255, &[1, 0, 0, 0, 2]);
-    assert_eq!(full.comments(), [whole; 8]);
-    for place in 0..8 {
-        let (mut o, mut want) = (full.clone(), [whole; 8]);
-        assert_eq!(o.call(&remove(place), 0).2, SUCCESS);
-        want[place] = NONE;
-        assert_eq!(o.comments(), want, "removed");
+    let (full, keys) = held(MAX_COMMENT, Some(2));
+    agree(&full, &keys, "held");
+    for i in 0..MAX_KEYS {
+        let (mut o, mut want) = (full.clone(), keys.clone());
+        o.does(&open::remove(&keys[i].key), 0);
+        want.remove(i);
+        agree(&o, &want, "removed");
         // a re-add with a shorter one leaves nothing of the longer
-        let (mut o, mut short) = (full.clone(), NONE);
-        assert_eq!(o.call(&add(&ed25519(place as u8 + 1), b"ab", None), 0).2, SUCCESS);
-        short.bytes[..2].copy_from_slice(b"ab");
-        short.len = 2;
-        want[place] = short;
-        assert_eq!(o.comments(), want, "replaced");
+        let (mut o, mut want) = (full.clone(), keys.clone());
+        o.does(&add(&keys[i].key, b"ab", None), 0);
+        want[i] = Held { number: o.state.next - 1, comment: b"ab".to_vec(), lifetime: None, ..keys[i].clone() };
+        agree(&o, &want, "replaced");
         // it has no lifetime, and stays where the others go, at a question too
         o.call(&[], 1_999);
-        assert_eq!(o.comments(), want, "not yet");
+        agree(&o, &want, "not yet");
         o.call(&[], 2_000);
-        want = [NONE; 8];
-        want[place] = short;
-        assert_eq!(o.comments(), want, "expired");
+        agree(&o, &want[i..=i], "expired");
     }
     let mut o = full.clone();
-    assert_eq!(o.call(&[19], 0).2, SUCCESS);
-    assert_eq!(o.comments(), [NONE; 8], "all removed");
+    o.does(&[19], 0);
+    agree(&o, &[], "all removed");
     // a FAILURE alters nothing
-    let mut o = full.clone();
-    assert_eq!(o.call(&add(&ed25519(1), &[b'y'; 256], None), 0).2, FAILURE);
-    assert_eq!(o.call(&add(&ed25519(9), b"a ninth", None), 0).2, FAILURE);
-    assert!(o.state == full.state && o.store == full.store);
+    full.clone().fails(&add(&keys[0].key, &[b'y'; 256], None));
+    full.clone().fails(&add(&ed25519(99), b"a 25th", None));
 }
 
 #[test]
 fn a_state_handed_in() {
-    let held = Open::full(3, &[]);
-    for place in 0..8 {
-        let with = |change: fn(&mut raw::Comment, usize, u8), n: usize, value: u8| {
-            let (mut o, mut c) = (held.clone(), held.comment(place));
-            change(&mut c, n, value);
-            o.set_comment(place, c);
-            o
+    let (held, keys) = held(3, None);
+    let end: usize = keys.iter().map(Held::len).sum();
+    held.clone().sound("as it is");
+    for i in 0..MAX_KEYS {
+        let with = |len: usize| {
+            let mut o = held.clone();
+            o.state.columns.comment_lens[i] = len;
+            (o, format!("entry {i}, comment of {len} bytes"))
         };
-        with(|_, _, _| (), 0, 0).sound("as it is", place);
-        // the length: the three bytes of the comment stand in front of zeros
+        // a longer one: what stands behind it is read further on, and the last comment ends with zeros
         for len in [3, 4, 254, 255] {
-            with(|c, len, _| c.len = len, len, 0).sound(&format!("length {len}"), place);
+            let (o, what) = with(len);
+            o.sound(&what);
         }
         for len in [0, 1, 2, 256, 257, 264, 512, 1 << 32, 3 + (1 << 32), 1 << 63, usize::MAX] {
-            with(|c, len, _| c.len = len, len, 0).unsound(&format!("length {len}"), place);
+            let (o, what) = with(len);
+            o.unsound(&what);
         }
-        for n in 0..255 {
-            for value in [1, 128, 255] {
-                let o = with(|c, n, value| c.bytes[n] = value, n, value);
-                let what = format!("byte {n} is {value}");
-                if n < 3 {
-                    o.sound(&what, place); // UTF-8 is not asked of a state
-                } else {
-                    o.unsound(&what, place);
-                }
-            }
+        // UTF-8 is not asked of a state
+        let at: usize = keys[..=i].iter().map(Held::len).sum();
+        for (n, value) in [(1, 1), (1, 128), (2, 255), (3, 0), (3, 255)] {
+            let mut o = held.clone();
+            o.store[at - n] = value;
+            o.sound(&format!("entry {i}, byte {n} from its end is {value}"));
         }
-        // a comment in a free place
-        let mut free = held.clone();
-        assert_eq!(free.call(&[&[18][..], &string(&ed25519(place as u8 + 1).1)].concat(), 0).2, SUCCESS);
-        free.clone().sound("free", place);
-        for len in [1, 3, 255, 256, usize::MAX] {
-            let mut o = free.clone();
-            o.state.columns.comment_lens[place] = len;
-            o.unsound(&format!("free, length {len}"), place);
-        }
-        for n in [0, 1, 2, 3, 7, 8, 63, 64, 127, 128, 191, 247, 253, 254] {
-            for len in [0, n + 1] {
-                let mut o = free.clone();
-                o.state.comments[255 * place + n] = 1;
-                o.state.columns.comment_lens[place] = len;
-                o.unsound(&format!("free, byte {n} set, length {len}"), place);
-            }
-        }
+    }
+    // a longer one by as many bytes as stand behind the end
+    for n in [1, 2, 251, 252] {
+        let mut o = held.clone();
+        o.store[end + n - 1] = 255;
+        o.clone().unsound("a byte behind the last comment");
+        o.state.columns.comment_lens[MAX_KEYS - 1] += n;
+        o.clone().sound("the last comment has it");
+        o.state.columns.comment_lens[MAX_KEYS - 1] -= 1;
+        o.unsound("one too short");
     }
 }

@@ -81,16 +81,21 @@ fn payloads() -> Vec<Vec<u8>> {
 }
 const YES: raw::FlatAnswers = raw::FlatAnswers { gate: 2, check: 2, confirmation: 0, signature: 0, confirmation_number: 0, signature_number: 0 };
 
-/// A fresh one, one with two keys, one of which is due at 9,000, and one that is locked.
-fn worlds() -> [World; 3] {
-    let mut held = World::fresh();
-    for i in [5, 6] {
+/// One with so many keys, every second of which is due at 9,000.
+fn holding(count: u8) -> World {
+    let mut w = World::fresh();
+    for i in 5..5 + count {
         let fields = [string(b"ssh-ed25519"), string(&[i; 32]), string(&[i; 64])].concat();
-        assert_eq!(held.call(&[&[25][..], &fields, &string(b""), &[1, 0, 0, 0, 10 * (i - 5) + 9]].concat(), 0, YES).kind, 5);
+        let payload = [&[25][..], &fields, &string(&vec![b'c'; i as usize]), &[1, 0, 0, 0, 10 * ((i - 5) % 2) + 9]].concat();
+        assert_eq!((w.call(&payload, 0, YES).kind, w.reply[4]), (5, 6));
     }
-    let mut locked = held.clone();
+    w
+}
+/// A fresh one, one with two keys, one with 24, and one that is locked.
+fn worlds() -> [World; 4] {
+    let mut locked = holding(2);
     assert_eq!(locked.call(&[&[22][..], &string(b"ab")].concat(), 0, YES).kind, 5);
-    [World::fresh(), held, locked]
+    [World::fresh(), holding(2), holding(24), locked]
 }
 
 #[test]
@@ -133,7 +138,10 @@ fn refusals_once_a_frame_is_whole() {
         all.state.next = 0;
         let mut two = store.clone();
         two.state.next = 0;
-        for (number, damaged) in [(1, short), (2, store), (3, unsound), (1, all), (2, two)] {
+        let (mut behind, mut gap) = (world.clone(), world.clone());
+        behind.store[STORE_LEN - 1] = 1;
+        (gap.state.columns.numbers[0], gap.state.columns.numbers[1], gap.state.next) = (0, 1, 99);
+        for (number, damaged) in [(1, short), (2, store), (3, unsound), (1, all), (2, two), (3, behind), (3, gap)] {
             for (bytes, want) in [(&[0, 0, 0, 1, 11, 0][..], 2), (&[0, 0, 0, 1], 0), (&[], 0), (&[0, 4, 0, 1], 1)] {
                 let mut w = damaged.clone();
                 let f = w.alike(bytes, 9_000);

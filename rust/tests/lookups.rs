@@ -28,14 +28,14 @@ fn numbers(g: &Gateway) -> Vec<u64> {
 #[test]
 fn each_of_its_own() {
     let mut g = Gateway::new();
-    for i in 1..9 {
-        let constraints: &[u8] = [&[][..], &[2], &[1, 0, 0, 0, 9], &[1, 0, 0, 1, 0, 2]][i as usize % 4];
+    for i in 1..=24 {
+        let constraints: &[u8] = [&[][..], &[2], &[1, 0, 0, 0, 25], &[1, 0, 0, 1, 0, 2]][i as usize % 4];
         add(&mut g, i, &format!("key {i}"), constraints, 1_000 * u64::from(i));
     }
-    for i in 1..9 {
+    for i in 1..=24 {
         let k = g.key(u64::from(i)).unwrap();
-        let lifetime = [None, None, Some(9_000), Some(256_000)][i as usize % 4];
-        let left = lifetime.map(|l| l - (8_000 - 1_000 * u64::from(i)));
+        let lifetime = [None, None, Some(25_000), Some(256_000)][i as usize % 4];
+        let left = lifetime.map(|l| l - (24_000 - 1_000 * u64::from(i)));
         assert_eq!((k.number, k.left, k.confirm), (i.into(), left, i % 2 == 1));
         assert_eq!((&*k.comment, k.blob, k.fields), (&format!("key {i}")[..], &key(i).1[..], &key(i).0[..]));
     }
@@ -77,25 +77,26 @@ fn none_is_left_of_lifetime_0() {
 fn in_order_of_insertion() {
     let mut g = Gateway::new();
     assert_eq!((numbers(&g), g.next_held(0)), (vec![], None));
-    for i in 1..9 {
+    for i in 1..=24 {
         add(&mut g, i, "", &[], 0);
     }
-    // replaced in its place: a new number; a free place is taken again: a new number too
-    add(&mut g, 3, "", &[], 0);
+    // replaced where it is: a new number; removed and added again, behind the others: a new number too
+    add(&mut g, 3, "another", &[], 0);
     remove(&mut g, 1);
     remove(&mut g, 6);
-    add(&mut g, 9, "", &[], 0);
-    let want = [2, 4, 5, 7, 8, 9, 10];
-    assert_eq!(numbers(&g), want);
-    for after in 0..20 {
+    add(&mut g, 6, "", &[], 0);
+    let want: Vec<u64> = (2..=26).filter(|n| ![3, 6].contains(n)).collect();
+    assert_eq!((numbers(&g), want.len()), (want.clone(), 23));
+    assert_eq!((g.key(25).unwrap().blob, g.key(26).unwrap().blob), (&key(3).1[..], &key(6).1[..]));
+    for after in 0..40 {
         assert_eq!(g.next_held(after), want.iter().copied().find(|n| *n > after), "after {after}");
     }
-    for n in (0..20).chain([u64::MAX - 1, u64::MAX]) {
+    for n in (0..40).chain([u64::MAX - 1, u64::MAX]) {
         assert_eq!(g.key(n).map(|k| k.number), want.iter().copied().find(|m| *m == n), "number {n}");
     }
     assert_eq!(g.next_held(u64::MAX), None);
     assert_eq!(yes(&mut g, &[19], 0), Outcome::Reply);
-    assert_eq!((numbers(&g), g.key(10)), (vec![], None));
+    assert_eq!((numbers(&g), g.key(26)), (vec![], None));
 }
 
 #[test]

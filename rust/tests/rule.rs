@@ -122,22 +122,27 @@ fn constraints() {
 }
 
 #[test]
-fn nine_keys() {
+fn twenty_five_keys() {
     let mut g = Gateway::new();
-    for i in 1..9 {
+    for i in 1..=24 {
         assert_eq!(reply(&mut g, &added(i, &[]), 0), SUCCESS);
     }
-    assert_eq!(reply(&mut g, &added(9, &[]), 0), FAILURE);
-    // a held one is replaced in its place
+    assert_eq!(call(&mut g, &added(25, &[]), 0, &Answers { check: None, ..yes() }, &mut Reply::new()), Outcome::Reply, "no key check");
+    assert_eq!(reply(&mut g, &added(25, &[]), 0), FAILURE);
+    // a held one keeps its position
     assert_eq!(reply(&mut g, &added(3, &[2]), 0), SUCCESS);
-    assert_eq!(g.keys().map(|k| k.number).collect::<Vec<_>>(), [1, 2, 4, 5, 6, 7, 8, 9]);
-    let listed = |keys: [u8; 8]| keys.iter().flat_map(|i| [string(&key(*i).1), string(b"c")].concat()).collect::<Vec<_>>();
+    assert_eq!(g.keys().map(|k| k.number).collect::<Vec<_>>(), (1..=25).filter(|n| *n != 3).collect::<Vec<_>>());
+    let listed = |keys: &[u8]| keys.iter().flat_map(|i| [string(&key(*i).1), string(b"c")].concat()).collect::<Vec<_>>();
+    let mut keys: Vec<u8> = (1..=24).collect();
     let list = reply(&mut g, &[11], 0);
-    assert_eq!((&list[4..9], &list[9..]), (&[12, 0, 0, 0, 8][..], &listed([1, 2, 3, 4, 5, 6, 7, 8])[..]));
+    assert_eq!((&list[4..9], &list[9..]), (&[12, 0, 0, 0, 24][..], &listed(&keys)[..]));
+    // the others move up, and a new one goes last
     assert_eq!(reply(&mut g, &[&[18][..], &string(&key(2).1)].concat(), 0), SUCCESS);
-    assert_eq!(reply(&mut g, &added(9, &[]), 0), SUCCESS);
-    assert_eq!(g.keys().last().unwrap().blob, key(9).1);
-    assert_eq!(reply(&mut g, &[11], 0)[9..], listed([1, 9, 3, 4, 5, 6, 7, 8]));
+    assert_eq!(reply(&mut g, &added(25, &[]), 0), SUCCESS);
+    assert_eq!(g.keys().last().unwrap().blob, key(25).1);
+    keys.remove(1);
+    keys.push(25);
+    assert_eq!(reply(&mut g, &[11], 0)[9..], listed(&keys));
     assert_eq!(reply(&mut g, &[19], 0), SUCCESS);
     assert_eq!(g.keys().count(), 0);
 }
@@ -160,10 +165,10 @@ fn refusals_change_nothing() {
 }
 
 #[test]
-fn the_longest_reply_and_what_stands_behind_a_shorter_one() {
+fn a_long_reply_and_what_stands_behind_a_shorter_one() {
     let mut g = Gateway::new();
-    // RSA: type, e, n with n so long that the blob has 1,024 bytes
-    for i in 1..=8u8 {
+    // RSA: type, e, n with n so long that the blob has 1,024 bytes; the store holds 14 such keys
+    for i in 1..=14u8 {
         let n = vec![i; 1024 - 4 - 7 - 4 - 3 - 4];
         let number = string(&[1, 0, 1]);
         let fields = [string(b"ssh-rsa"), string(&n), number.clone(), number.clone(), number.clone(), number.clone(), number.clone()].concat();
@@ -171,7 +176,7 @@ fn the_longest_reply_and_what_stands_behind_a_shorter_one() {
     }
     let mut r = Reply::new();
     assert_eq!(call(&mut g, &[11], 0, &yes(), &mut r), Outcome::Reply);
-    assert_eq!(r.bytes().len(), REPLY_LEN);
+    assert_eq!(r.bytes().len(), 9 + 14 * (4 + 1_024 + 4 + MAX_COMMENT));
     let before = *r.buffer();
     assert_eq!(call(&mut g, &[99], 0, &yes(), &mut r), Outcome::Reply);
     assert_eq!(r.bytes(), FAILURE);

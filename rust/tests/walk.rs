@@ -8,7 +8,7 @@ mod raw;
 
 const CALLS: usize = 100_000;
 /// What the walk comes to on x86-64.
-const FOLDED: u64 = 0x1b8c_971c_15d9_a5cc;
+const FOLDED: u64 = 0x322a_4a3c_1a0f_7a36;
 
 struct Random(u64); // SplitMix64
 impl Random {
@@ -52,10 +52,9 @@ impl Fold {
     }
     fn state(&mut self, s: &raw::State) {
         let c = &s.columns;
-        for i in 0..8 {
+        for i in 0..raw::KEYS {
             let small = u64::from(c.limited[i]) << 40 | u64::from(c.confirm[i]) << 32 | u64::from(c.seconds[i]);
             self.words([c.numbers[i], c.readings[i], small, c.blob_lens[i] as u64, c.fields_lens[i] as u64, c.comment_lens[i] as u64]);
-            self.bytes(&s.comments[255 * i..255 * (i + 1)]);
         }
         self.bytes(&s.lock.bytes);
         self.words([s.lock.len as u64, s.clock, s.next]);
@@ -77,22 +76,32 @@ const UNTOLD: raw::HeldKey = raw::HeldKey {
     comment: raw::Comment { bytes: [0; 255], len: 0 },
 };
 
+/// Where the entries from 0 on begin, and behind them where the last ends; for a sound state.
+fn starts(c: &raw::Columns) -> Vec<usize> {
+    let sizes = (0..raw::KEYS).take_while(|i| c.numbers[*i] != 0).map(|i| c.blob_lens[i] + c.fields_lens[i] + c.comment_lens[i]);
+    sizes.fold(vec![0], |mut at, size| {
+        at.push(at[at.len() - 1] + size);
+        at
+    })
+}
+
 /// What is told of each number of a state and a store, sound or not, held to the layout of both.
 fn lookups(s: &raw::State, b: &[u8], sound: bool) {
     // SAFETY: a slice's pointer and length; nothing is written.
     let told = |number| unsafe { raw::key_agent_key(*s, b.as_ptr(), b.len(), number) };
     let next = |after| unsafe { raw::key_agent_next(*s, b.as_ptr(), b.len(), after) };
     let c = &s.columns;
-    let mut held: Vec<_> = (0..8).filter(|i| sound && c.numbers[*i] != 0).collect();
+    let starts = if sound { starts(c) } else { vec![0] };
+    let mut held: Vec<_> = (0..starts.len() - 1).collect();
     held.sort_by_key(|i| c.numbers[*i]);
     let mut after = 0;
-    for place in held.iter().copied() {
-        let (number, confirm, limited) = (c.numbers[place], c.confirm[place], c.limited[place]);
-        let left = if limited == 1 { (1_000 * u64::from(c.seconds[place])).saturating_sub(s.clock - c.readings[place]) } else { 0 };
-        let (blob_from, fields_from) = (4_096 * place, 4_096 * place + 1_024);
-        let (blob_to, fields_to) = (blob_from + c.blob_lens[place], fields_from + c.fields_lens[place]);
-        let bytes = s.comments[255 * place..255 * (place + 1)].try_into().expect("255 bytes");
-        let comment = raw::Comment { bytes, len: c.comment_lens[place] };
+    for i in held.iter().copied() {
+        let (number, confirm, limited, blob_from) = (c.numbers[i], c.confirm[i], c.limited[i], starts[i]);
+        let left = if limited == 1 { (1_000 * u64::from(c.seconds[i])).saturating_sub(s.clock - c.readings[i]) } else { 0 };
+        let blob_to = blob_from + c.blob_lens[i];
+        let (fields_from, fields_to) = (blob_to, blob_to + c.fields_lens[i]);
+        let mut comment = raw::Comment { bytes: [0; 255], len: c.comment_lens[i] };
+        comment.bytes[..comment.len].copy_from_slice(&b[fields_to..starts[i + 1]]);
         let want = raw::HeldKey { number, confirm, limited, left, blob_from, blob_to, fields_from, fields_to, comment };
         assert_eq!(told(number), want);
         assert_eq!(next(after), number);
@@ -107,21 +116,25 @@ fn lookups(s: &raw::State, b: &[u8], sound: bool) {
 fn string(b: &[u8]) -> Vec<u8> {
     [&(b.len() as u32).to_be_bytes()[..], b].concat()
 }
-/// Twelve keys of three types, their numbers made up: fields, blob.
+/// Of an RSA key n and d, in bytes: blob and fields go up to their limits, and in the last two past them.
+const SIZES: [(usize, usize); 7] = [(64, 64), (600, 1_200), (1_004, 1_900), (1_000, 2_033), (1_000, 2_000), (1_005, 100), (1_000, 2_034)];
+
+/// Forty keys of three types, their numbers made up: fields, blob.
 fn key(i: u8) -> (Vec<u8>, Vec<u8>) {
-    let (a, n, number) = (string(&[i; 32]), string(&vec![i; 80 * i as usize]), string(&[i]));
-    let (fields, blob) = match i % 3 {
+    let (n, d) = SIZES[i as usize / 2 % SIZES.len()];
+    let (a, n, d, number) = (string(&[i; 32]), string(&vec![i; n]), string(&vec![i; d]), string(&[i]));
+    let (fields, blob) = match i % 4 {
         0 => ([string(b"ssh-ed25519"), a.clone(), string(&[i; 64])], [string(b"ssh-ed25519"), a, vec![]]),
         1 => {
             let blob = [string(b"ecdsa-sha2-nistp256"), string(b"nistp256"), string(&[vec![4], vec![i; 64]].concat())];
             ([blob.concat(), a, vec![]], blob)
         }
-        _ => ([string(b"ssh-rsa"), [n.clone(), number.clone()].concat(), number.repeat(4)], [string(b"ssh-rsa"), number, n]),
+        _ => ([string(b"ssh-rsa"), [n.clone(), number.clone()].concat(), [d, number.repeat(3)].concat()], [string(b"ssh-rsa"), number, n]),
     };
     (fields.concat(), blob.concat())
 }
 fn request(r: &mut Random) -> Vec<u8> {
-    let (fields, blob) = key(1 + r.below(12) as u8);
+    let (fields, blob) = key(1 + r.below(40) as u8);
     let constraints: &[u8] = [&[][..], &[2], &[1, 0, 0, 0, 9], &[1, 0, 1, 0, 0, 2], &[2, 1, 0, 0, 0, 0], &[3]][r.below(6)];
     let comment = string([&b""[..], b"c", "温室".as_bytes(), b"\xff", &[b'x'; 255], &[b'x'; 256]][r.mostly(1, &[0, 2, 3, 4, 5])]);
     let data = vec![7; r.below(300)];
@@ -131,7 +144,7 @@ fn request(r: &mut Random) -> Vec<u8> {
         2..=5 => [vec![17], fields, comment].concat(),
         6..=8 => [vec![25], fields, comment, constraints.to_vec()].concat(),
         9 | 10 => [vec![18], string(&blob)].concat(),
-        11 if r.percent(20) => vec![19],
+        11 if r.percent(5) => vec![19],
         11..=15 => [vec![13], string(&blob), string(&data), vec![0, 0, 0, r.below(8) as u8]].concat(),
         16 if r.percent(30) => [vec![22], string(&pass)].concat(),
         16..=18 => [vec![23], string(&pass)].concat(),
@@ -150,17 +163,18 @@ fn request(r: &mut Random) -> Vec<u8> {
 
 /// Of store and reply buffer.
 fn lengths(r: &mut Random) -> (usize, usize) {
-    (r.mostly(32_768, &[32_768, 32_768, 32_767, 0]), r.mostly(10_305, &[11_000, 11_000, 10_304, 0]))
+    (r.mostly(32_768, &[32_768, 32_768, 32_767, 0]), r.mostly(30_897, &[31_000, 31_000, 30_896, 0]))
 }
 
 #[test]
 fn one_walk() {
     let (mut r, mut f, mut kinds, mut sound, mut firsts, mut made) = (Random(1), Fold(0), [0; 12], [0; 2], [0; 4], 0);
     let (mut state, mut store) = (unsafe { raw::key_agent_fresh() }, vec![0; 32_768]);
-    let mut reply = vec![0; 11_000];
+    let mut reply = vec![0; 31_000];
     let (long, mut reading) = (vec![11; 262_145], 0u64);
+    let (mut most, mut fullest) = (0, 0);
     while made < CALLS {
-        if r.percent(1) {
+        if r.below(300) == 0 {
             (state, reading) = (unsafe { raw::key_agent_fresh() }, r.next() >> r.below(64));
             store.fill(0);
         }
@@ -220,9 +234,12 @@ fn one_walk() {
         // a state and a store with one value changed: sound or not, and a call on them
         if r.percent(20) {
             let (mut s, mut b) = (state, store.clone());
-            let (e, n) = (r.below(8), r.below(1_024));
+            let starts = starts(&s.columns);
+            let (held, end) = (starts.len() - 1, starts[starts.len() - 1]);
+            (most, fullest) = (most.max(held), fullest.max(end));
+            let (e, n) = (r.below(raw::KEYS.min(held + 2)), r.below(1_024));
             let value = [r.next() >> r.below(64), r.below(5) as u64, u64::MAX][r.below(3)];
-            match r.below(12) {
+            match r.below(13) {
                 0 => s.columns.numbers[e] = value,
                 1 => s.columns.readings[e] = value,
                 2 => s.columns.limited[e] ^= 1,
@@ -233,8 +250,9 @@ fn one_walk() {
                 7 => s.next = value,
                 8 => s.lock.bytes[n] = value as u8,
                 9 => s.columns.comment_lens[e] = value as usize,
-                10 => s.comments[255 * e + n % 255] = value as u8,
-                _ => b[4_096 * e + 4 * n] ^= value as u8,
+                10 => b[(end + n % 9).min(32_767)] ^= value as u8,
+                11 => (s.columns.blob_lens[e], s.columns.fields_lens[e]) = (s.columns.fields_lens[e], s.columns.blob_lens[e]),
+                _ => b[32 * n] ^= value as u8,
             }
             // SAFETY: as above.
             let is = unsafe { raw::key_agent_is_sound(s, b.as_ptr(), b.len()) };
@@ -242,7 +260,7 @@ fn one_walk() {
             lookups(&s, &b[1..], false);
             // SAFETY: as above.
             let (is, o) = unsafe {
-                (is, raw::key_agent_call(&mut s, b.as_mut_ptr(), b.len(), [11].as_ptr(), 1, 0, a, [0].as_ptr(), 0, reply.as_mut_ptr(), 10_305))
+                (is, raw::key_agent_call(&mut s, b.as_mut_ptr(), b.len(), [11].as_ptr(), 1, 0, a, [0].as_ptr(), 0, reply.as_mut_ptr(), 30_897))
             };
             sound[is as usize] += 1;
             kinds[9] += !is as usize;
@@ -250,7 +268,7 @@ fn one_walk() {
             f.words([is.into()]);
             f.outcome(&o);
             f.state(&s);
-            f.bytes(&b[4_096 * e..][..4_096]);
+            f.bytes(&b[1_024 * e..][..1_024]);
         }
         let front = [&[0, r.mostly(0, &[4, 5, 255]), 0, r.below(40) as u8][..], &payload].concat();
         // SAFETY: a vector's own length.
@@ -269,11 +287,12 @@ fn one_walk() {
         firsts[first.kind as usize] += 1;
     }
     println!(
-        "{made} calls: kinds 1 to 6 {:?}, refusals 1 to 5 {:?}; sound no, yes {sound:?}; first calls 0 to 3 {firsts:?}; {:#x}",
+        "{made} calls: kinds 1 to 6 {:?}, refusals 1 to 5 {:?}; sound no, yes {sound:?}; first calls 0 to 3 {firsts:?}; {most} keys, {fullest} bytes; {:#x}",
         &kinds[1..7],
         &kinds[7..],
         f.0
     );
     assert!(kinds[1..].iter().chain(&sound).chain(&firsts).all(|n| *n > 100), "each outcome occurs");
+    assert!(most == raw::KEYS && fullest > 32_700, "as many keys and as many bytes as are held");
     assert_eq!(f.0, FOLDED);
 }

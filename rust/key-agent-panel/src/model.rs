@@ -7,7 +7,7 @@ use std::time::Duration;
 
 /// More questions are counted and not kept.
 pub const MOST_QUESTIONS: usize = 4096;
-/// More keys are not kept; the agent has eight places.
+/// More keys are not kept; the agent holds up to 24.
 pub const MOST_KEYS: usize = 64;
 const MOST_NOTES: usize = 3;
 const NOTE: Duration = Duration::from_secs(5);

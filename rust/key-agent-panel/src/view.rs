@@ -158,9 +158,12 @@ fn of_key<'a>(m: &Model, q: &'a Question) -> Option<(&'a str, &'a str)> {
     Some((fingerprint, q.comment.as_deref().unwrap_or("(not held)")))
 }
 
+/// The keys that fit: in two rows each where all do, else in one, with as much of the fingerprint as goes into it.
 fn keys_part(m: &Model, now: Duration, room: usize) -> Vec<Row> {
-    let keys: Vec<Vec<Row>> = m.keys.iter().map(|k| key_rows(k, left(m, k, now))).collect();
-    let shown = fitting(keys.iter(), room.saturating_sub(1));
+    let room = room.saturating_sub(1);
+    let is_short = 2 * m.keys.len() > room;
+    let keys: Vec<Vec<Row>> = m.keys.iter().map(|k| key_rows(k, left(m, k, now), is_short)).collect();
+    let shown = fitting(keys.iter(), room);
     let mut text = match (m.hides(), keys.len()) {
         (true, _) => " Keys are not shown".to_string(),
         (false, 0) => " No key is held".to_string(),
@@ -174,10 +177,14 @@ fn keys_part(m: &Model, now: Duration, room: usize) -> Vec<Row> {
     rows
 }
 
-fn key_rows(key: &Key, left: Option<u64>) -> Vec<Row> {
+fn key_rows(key: &Key, left: Option<u64>, is_short: bool) -> Vec<Row> {
     let left = left.map_or("stays".to_string(), |s| format!("{} left", span(s)));
     let confirm = if key.confirm { "confirm" } else { "" };
-    vec![row(format!(" {:>4}  {left:<16} {confirm:<8} {}", key.number, key.comment)), row(format!("{INDENT}{}", key.fingerprint))]
+    let text = format!(" {:>4}  {left:<16} {confirm:<8} {}", key.number, key.comment);
+    if is_short {
+        return vec![row(format!("{text}  {}", key.fingerprint))];
+    }
+    vec![row(text), row(format!("{INDENT}{}", key.fingerprint))]
 }
 
 /// The seconds that a key has left now.
@@ -317,6 +324,24 @@ mod tests {
 
  y yes   n no   up, down or its number selects   q ends";
         assert_eq!(texts(&m, NOW + Duration::from_secs(12), 17, 80).join("\n"), want);
+    }
+
+    #[test]
+    fn as_many_keys_as_fit() {
+        let key = |n| format!("key {n} SHA256:f{n} left - confirm no comment c{n}");
+        let keys = |count| {
+            let lines: Vec<String> = ["lock open".to_string()].into_iter().chain((1..=count).map(key)).chain(["end".to_string()]).collect();
+            hearing(&lines.iter().map(|l| &l[..]).collect::<Vec<_>>())
+        };
+        // 24 rows have room for eight keys in two rows each, and for 17 in one
+        let rows = texts(&keys(8), NOW, 24, 80);
+        assert_eq!(rows[4..7], [" Keys: 8", "    1  stays                     c1", "       SHA256:f1"]);
+        assert_eq!(rows[20], "       SHA256:f8");
+        let rows = texts(&keys(24), NOW, 24, 80);
+        assert_eq!(rows[4..6], [" Keys: 24, 17 shown", "    1  stays                     c1  SHA256:f1"]);
+        assert_eq!(rows[21], "   17  stays                     c17  SHA256:f17");
+        let rows = texts(&keys(24), NOW, 60, 80);
+        assert_eq!((&rows[4][..], &rows[52][..]), (" Keys: 24", "       SHA256:f24"));
     }
 
     #[test]

@@ -51,7 +51,8 @@ pub struct Core {
 const SUCCESS: [u8; 5] = [0, 0, 0, 1, 6];
 
 /// May a call on it leave key fields or a passphrase on the stack? An add, LOCK or UNLOCK, which have them in the payload. The state is lent and
-/// not copied; while locked the stack is zeroed after every call all the same.
+/// not copied; while locked the stack is zeroed after every call all the same. So it is by `settle` after a call that moved keys within the store, as
+/// one went or was replaced.
 fn has_secrets(payload: Payload<'_>) -> bool {
     matches!(payload.bytes().first(), Some(17 | 22 | 23 | 25))
 }
@@ -117,9 +118,12 @@ impl Core {
 
     /// Asks the core which keys it holds: what was derived from another goes, and the time of the next to go is noted.
     fn settle(&mut self) {
-        let clock = self.gateway.clock();
-        let held: BTreeMap<u64, String> = self.gateway.keys().map(|k| (k.number, fingerprint(k.blob))).collect();
-        self.due = self.gateway.keys().filter_map(|k| k.left).min().map(|left| clock.saturating_add(left));
+        let (mut held, mut left) = (BTreeMap::new(), None);
+        for k in self.gateway.keys() {
+            held.insert(k.number, fingerprint(k.blob));
+            left = left.into_iter().chain(k.left).min();
+        }
+        self.due = left.map(|left: u64| self.gateway.clock().saturating_add(left));
         self.derived.retain(|number, _| held.contains_key(number));
         let told = std::mem::replace(&mut self.told, held);
         self.gone.extend(told.into_iter().filter(|(number, _)| !self.told.contains_key(number)));
