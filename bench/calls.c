@@ -1,11 +1,11 @@
-/* calls SET REQUEST CALLS: a gateway holds the keys of SET, with comments of ten bytes, and REQUEST lands CALLS times, each by one call with all answers
- * lent, each on the same state but for lock, which is a LOCK and an UNLOCK in turn. Prints how many bytes of other entries one call moves.
+/* calls SET REQUEST CALLS: a gateway holds the keys of SET, with comments of ten bytes, and REQUEST lands CALLS times, each by one call with all
+ * answers lent, each on the same state but for lock, which is a LOCK and an UNLOCK in turn. Prints how many bytes of other entries one call moves.
  * Without words: the sets; with one: the requests. Status 0 where every reply was the one that the request asks for. */
 #include "keys.h"
 #include <stdio.h>
 #include <stdlib.h>
 
-enum { FAILURE = 5, SUCCESS = 6, LIST = 11, LISTED = 12, SIGN = 13, SIGNED = 14, ADD = 17, REMOVE = 18, LOCK = 22, UNLOCK = 23, ADD_CONSTRAINED = 25 };
+enum { FAILURE = 5, SUCCESS = 6, LIST = 11, LISTED = 12, SIGN = 13, SIGNED = 14, ADD = 17, REMOVE = 18, LOCK = 22, UNLOCK = 23, CONSTRAINED = 25 };
 
 static key_agent_state state, kept;
 uint8_t store[KEY_AGENT_STORE_BYTES];
@@ -59,7 +59,7 @@ static int hold(int limited) {
     state = key_agent_fresh();
     for (size_t i = 0; i < held; i++) {
         int with = limited && i % 2 == 0;
-        add(with ? ADD_CONSTRAINED : ADD, &keys[i], COMMENT);
+        add(with ? CONSTRAINED : ADD, &keys[i], COMMENT);
         if (with) {
             const uint8_t lifetime[5] = {1, 0, 0, 0, 1};
             memcpy(payload + size, lifetime, 5);

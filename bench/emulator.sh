@@ -1,10 +1,13 @@
-# Sourced by run, calls and sound, with `root`, `here` and `b` (where things are built) set: counts instructions in an emulator (qemu-user with within.c).
+# Sourced by run, calls and sound, with `root`, `here` and `b` (where things are built) set: counts instructions in an emulator, qemu-user with
+# within.c.
 . "$root/desk/ready.sh"
 
 machines() { # machines WORDS..: both, where none is named
     local machine
     [ $# -gt 0 ] || set -- x86_64 aarch64
-    for machine; do case $machine in x86_64 | aarch64) ;; *) echo "the core is compiled for x86_64 and aarch64, not for $machine" >&2; return 2 ;; esac; done
+    for machine; do
+        case $machine in x86_64 | aarch64) ;; *) echo "the core is compiled for x86_64 and aarch64, not for $machine" >&2; return 2 ;; esac
+    done
     [ $# = 1 ] || [ -z "${KEY_AGENT_LIB:-}" ] || { echo 'KEY_AGENT_LIB goes with one machine' >&2; return 2; }
     echo "$@"
 }
@@ -37,8 +40,8 @@ at() { # at PROGRAM FUNCTION: its address, where it is a function of its own
     echo "$address"
 }
 
-# within MACHINE PROGRAM NAME=ADDRESS,.. WORDS..: the plugin's lines go to standard error. A plain processor is named, since libc copies by what it finds
-# there; and there is no environment and a short name, since it copies by how the stack lies.
+# within MACHINE PROGRAM NAME=ADDRESS,.. WORDS..: the plugin's lines go to standard error. A plain processor is named, since libc copies by what it
+# finds there; and there is no environment and a short name, since it copies by how the stack lies.
 within() (
     machine=$1 program=$2 what=$3 cpu=qemu64
     [ "$1" = x86_64 ] || cpu=cortex-a53

@@ -1,6 +1,6 @@
 /* sound STATE CALLS: key_agent_is_sound on STATE, CALLS times; it must be sound. Prints the bytes held. Without words: the states.
- * Beside the sets of keys.h: fresh; full, to the store's last byte; and 24 blobs of 1,024 bytes that differ in one byte alone, the last one (late) or the
- * first behind their type (early), with fields of one byte. */
+ * Beside the sets of keys.h: fresh; full, to the store's last byte; and 24 blobs of 1,024 bytes that differ in one byte alone, the last one (late)
+ * or the first behind their type (early), with fields of one byte. */
 #include "keys.h"
 #include <stdio.h>
 #include <stdlib.h>

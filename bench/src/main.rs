@@ -1,8 +1,8 @@
-//! bench agree: do all sides give the same replies? bench times ROUNDS: nanoseconds per request of the sides, alternating. bench count SET WORK SIDE: one
-//! side alone, for counting from outside what is inside `measured`, behind `began`. Without words: each SET WORK SIDE.
-//! Sides: core (the proved library), table (the same table in Rust), russh (the unchanged `respond`). `core` and `table`: one call on the payload with all
-//! answers lent. `..-asked`: the calls of the loop, each question answered as it comes; the core's first one is from the frame. `signer`: the signer that
-//! russh has here, alone.
+//! bench agree: do all sides give the same replies? bench times ROUNDS: nanoseconds per request of the sides, alternating. bench count SET WORK SIDE:
+//! one side alone, for counting from outside what is inside `measured`, behind `began`. Without words: each SET WORK SIDE.
+//! Sides: core (the proved library), table (the same table in Rust), russh (the unchanged `respond`). `core` and `table`: one call on the payload with
+//! all answers lent. `..-asked`: the calls of the loop, each question answered as it comes; the core's first one is from the frame. `signer`: the
+//! signer that russh has here, alone.
 mod keys;
 mod table;
 use agent_oracle::keys::agent::server::probe::Probe;
@@ -28,8 +28,8 @@ fn sides(work: &str) -> Vec<&'static str> {
 fn add(key: &Key, comment: &[u8]) -> Vec<u8> {
     [&[17][..], &key.fields, &s(comment)].concat()
 }
-/// The frames of a work, behind which the state is as before: `add` replaces the last key by itself, `remove+add` removes and adds each key in turn, always
-/// the first, `longer+shorter` replaces the first by itself with a comment of another length.
+/// The frames of a work, behind which the state is as before: `add` replaces the last key by itself, `remove+add` removes and adds each key in turn,
+/// always the first, `longer+shorter` replaces the first by itself with a comment of another length.
 fn work(name: &str, keys: &[Key]) -> Vec<Vec<u8>> {
     let (first, last) = (&keys[0], &keys[keys.len() - 1]);
     let payloads = match name {

@@ -164,6 +164,7 @@ impl Table {
     fn comment(&self, i: usize, place: &Range<usize>) -> &[u8] {
         &self.store[place.end - self.comment_lens[i]..place.end]
     }
+    // a function of its own, so that it can be counted
     #[inline(never)]
     pub fn is_sound(&self) -> bool {
         // over all bytes with no early exit, as the core does it: this is compiled to vector code, `all` is not (eleven times as long)
