@@ -1,5 +1,6 @@
 /* A plugin of qemu-user 7.2: of each function named, how often it was entered, the instructions from its entry to its return, with all that it calls,
- * and the bytes that were meanwhile written to a part of memory. At the end one line for each to standard error:
+ * and the bytes that were meanwhile written to a part of memory (by instructions for the cache, as Arm's memset has them, not seen). At the end one
+ * line for each to standard error:
  *
  *   NAME TIMES INSTRUCTIONS WRITTEN
  *
