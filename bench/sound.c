@@ -1,72 +1,81 @@
-/* sound NAME CALLS: key_agent_is_sound on the state NAME, CALLS times; it must be sound. Without words: the names.
- * A blob begins as that of a true key does, up to its own number; its other bytes, and the fields, are the key's place in the table. */
-#include "key_agent.h"
+/* sound STATE CALLS: key_agent_is_sound on STATE, CALLS times; it must be sound. Prints the bytes held. Without words: the states.
+ * Beside the sets of keys.h: fresh; full, to the store's last byte; and 24 blobs of 1,024 bytes that differ in one byte alone, the last one (late)
+ * or the first behind their type (early), with fields of one byte. */
+#include "keys.h"
 #include <stdio.h>
 #include <stdlib.h>
-#include <string.h>
-
-typedef struct {
-    const char *type;
-    size_t blob, fields, comment;
-} kind;
-
-static const kind ED = {"ssh-ed25519", 51, 119, 10}, P256 = {"ecdsa-sha2-nistp256", 104, 141, 10}, P384 = {"ecdsa-sha2-nistp384", 136, 189, 10},
-                  P521 = {"ecdsa-sha2-nistp521", 172, 242, 10}, R2 = {"ssh-rsa", 279, 929, 10}, R3 = {"ssh-rsa", 407, 1381, 10},
-                  R4 = {"ssh-rsa", 535, 1833, 10}, FULL = {"ssh-rsa", 1024, 3072, 255}, LATE = {"ssh-rsa", 1023, 1, 0};
 
 static key_agent_state state;
 static uint8_t store[KEY_AGENT_STORE_BYTES];
+static size_t used;
 
-/* where the blobs differ: behind their type, in the last byte alone, or in the first byte behind the type alone */
-enum { ALL, LAST, FIRST };
-static void hold(size_t i, kind k, int where) {
-    uint8_t *blob = store + i * 4096, mark = (uint8_t)(i + 1);
-    size_t n = strlen(k.type);
-    memset(blob, where == ALL ? mark : 1, k.blob);
-    memset(blob, 0, 4);
-    blob[3] = (uint8_t)n;
-    memcpy(blob + 4, k.type, n);
-    blob[where == FIRST ? 4 + n : k.blob - 1] = mark;
-    memset(blob + 1024, mark, k.fields);
+__attribute__((noinline)) void began(void) { __asm__ volatile(""); }
+/* The exported function, and the copy of the state that it is handed. */
+__attribute__((noinline)) bool is_sound(void) { return key_agent_is_sound(state, store, sizeof store); }
+
+static void keep(const void *bytes, size_t n) {
+    memcpy(store + used, bytes, n);
+    used += n;
+}
+
+static void hold(size_t i, const key *k, size_t comment) {
+    uint8_t text[255];
+    memset(text, 'c', sizeof text);
+    keep(k->blob, k->blob_len);
+    keep(k->fields, k->fields_len);
+    keep(text, comment);
     state.columns.numbers[i] = i + 1;
-    state.columns.blob_lens[i] = k.blob;
-    state.columns.fields_lens[i] = k.fields;
-    state.columns.comment_lens[i] = k.comment;
-    memset(state.comments + i * KEY_AGENT_COMMENT_BYTES, mark, k.comment);
+    state.columns.blob_lens[i] = k->blob_len;
+    state.columns.fields_lens[i] = k->fields_len;
+    state.columns.comment_lens[i] = comment;
     state.next = i + 2;
 }
 
-static void hold_all(kind k, int where) {
-    for (size_t i = 0; i < 8; i++) hold(i, k, where);
+static void hold_set(const char *set) {
+    static key keys[MOST_KEYS];
+    size_t n = make_set(keys, set);
+    for (size_t i = 0; i < n; i++) hold(i, &keys[i], COMMENT);
 }
 
-static int make(const char *name) {
+/* 24 RSA keys of 2,048 bits, and comments that take what is left. */
+static void fill(void) {
+    static key k;
+    size_t n = MOST_KEYS;
+    for (size_t i = 0; i < n; i++) {
+        make_key(&k, "rsa-2048");
+        size_t keys_left = (n - i) * (k.blob_len + k.fields_len), left = KEY_AGENT_STORE_BYTES - used - keys_left;
+        hold(i, &k, left / (n - i));
+    }
+}
+
+static void alike(size_t differs) {
+    static key k = {.fields_len = 1, .blob_len = 1024};
+    memset(k.blob, 1, sizeof k.blob);
+    put(k.blob, 0, "ssh-rsa", 7);
+    for (uint8_t i = 0; i < MOST_KEYS; i++) {
+        k.blob[differs] = (uint8_t)(i + 1);
+        hold(i, &k, 0);
+    }
+}
+
+static void make(const char *name) {
     state = key_agent_fresh();
-    if (!strcmp(name, "fresh")) return 1;
-    if (!strcmp(name, "all-kinds")) {
-        const kind kinds[8] = {ED, ED, P256, P384, P521, R2, R3, R4};
-        for (size_t i = 0; i < 8; i++) hold(i, kinds[i], ALL);
-    } else if (!strcmp(name, "ed25519")) hold_all(ED, ALL);
-    else if (!strcmp(name, "p521")) hold_all(P521, ALL);
-    else if (!strcmp(name, "rsa-4096")) hold_all(R4, ALL);
-    else if (!strcmp(name, "full")) hold_all(FULL, ALL);
-    else if (!strcmp(name, "full-late")) hold_all(FULL, LAST);
-    else if (!strcmp(name, "full-early")) hold_all(FULL, FIRST);
-    else if (!strcmp(name, "late")) {
-        hold_all(LATE, LAST);
-        state.lock.bytes[0] = 97;
-        state.lock.len = 1;
-    } else return 0;
-    return 1;
+    if (!strcmp(name, "full")) fill();
+    else if (!strcmp(name, "late")) alike(1023);
+    else if (!strcmp(name, "early")) alike(11);
+    else if (strcmp(name, "fresh")) hold_set(name);
 }
 
 int main(int words, char **word) {
     if (words != 3) {
-        puts("fresh all-kinds ed25519 p521 rsa-4096 full full-late full-early late");
+        for (const char *const *set = SETS; *set; set++) puts(*set);
+        puts("fresh full late early");
         return words != 1;
     }
-    if (!make(word[1])) return 2;
+    make(word[1]);
+    began();
     for (long n = atol(word[2]); n > 0; n--)
-        if (!key_agent_is_sound(state, store, sizeof store)) return 3;
+        if (!is_sound()) return 3;
+    printf("%zu\n", used);
     return 0;
 }

@@ -20,7 +20,7 @@ enum {
 
 enum {
     LONGEST = 262144,   /* bytes of a payload that both agents take */
-    REPLY_ROOM = 16384, /* bytes of a reply that we take */
+    REPLY_ROOM = 32768, /* bytes of a reply that we take */
     DATA = 200          /* bytes that are signed */
 };
 

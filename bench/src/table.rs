@@ -1,31 +1,27 @@
-//! The same fixed table as the core's in plain safe Rust, for comparing speed: eight places, a store of 32,768 bytes, the soundness test at each
-//! call. Written straightforwardly from 01, with slices' own comparisons and iterators; nothing is proved of it, and it is no part of the agent.
+//! The same table as the core's in plain safe Rust, for comparing speed: up to 24 entries as columns, a store of 32,768 bytes in which blob, key
+//! fields and comment of each stand packed in list order, the soundness test at each call. Written straightforwardly from 01 and #112, with slices'
+//! own comparisons and moves; nothing is proved of it, and it is no part of the agent.
+use std::ops::Range;
 
 pub const STORE: usize = 32_768;
-const PLACE: usize = 4_096;
-const FIELDS: usize = 1_024;
+pub const ENTRIES: usize = 24;
+const REPLY: usize = 30_897;
 
-#[derive(Clone, Copy)]
-pub struct Entry {
-    number: u64,
-    reading: u64,
-    limited: bool,
-    seconds: u32,
-    confirm: bool,
-    blob_len: usize,
-    fields_len: usize,
-    comment: [u8; 255],
-    comment_len: usize,
-}
-const FREE: Entry =
-    Entry { number: 0, reading: 0, limited: false, seconds: 0, confirm: false, blob_len: 0, fields_len: 0, comment: [0; 255], comment_len: 0 };
+/// An entry is used where its number is not 0; the used ones stand in front.
 pub struct Table {
-    entries: [Entry; 8],
+    numbers: [u64; ENTRIES],
+    readings: [u64; ENTRIES],
+    blob_lens: [usize; ENTRIES],
+    fields_lens: [usize; ENTRIES],
+    comment_lens: [usize; ENTRIES],
+    seconds: [u32; ENTRIES],
+    limited: [bool; ENTRIES],
+    confirm: [bool; ENTRIES],
     lock: [u8; 1024],
     lock_len: usize,
     clock: u64,
     next: u64,
-    pub store: Box<[u8; STORE]>,
+    store: Box<[u8; STORE]>,
 }
 #[derive(Clone, Copy, Default)]
 pub struct Answers<'a> {
@@ -129,67 +125,128 @@ fn key(c: &mut Cursor<'_>) -> Option<[(usize, usize); 3]> {
 
 impl Table {
     pub fn new() -> Table {
-        Table { entries: [FREE; 8], lock: [0; 1024], lock_len: 0, clock: 0, next: 1, store: Box::new([0; STORE]) }
+        Table {
+            numbers: [0; ENTRIES],
+            readings: [0; ENTRIES],
+            blob_lens: [0; ENTRIES],
+            fields_lens: [0; ENTRIES],
+            comment_lens: [0; ENTRIES],
+            seconds: [0; ENTRIES],
+            limited: [false; ENTRIES],
+            confirm: [false; ENTRIES],
+            lock: [0; 1024],
+            lock_len: 0,
+            clock: 0,
+            next: 1,
+            store: Box::new([0; STORE]),
+        }
     }
-    fn place(&self, i: usize) -> &[u8] {
-        &self.store[i * PLACE..(i + 1) * PLACE]
+    fn held(&self) -> usize {
+        self.numbers.iter().position(|n| *n == 0).unwrap_or(ENTRIES)
     }
-    fn blob(&self, i: usize) -> &[u8] {
-        &self.place(i)[..self.entries[i].blob_len]
+    fn len(&self, i: usize) -> usize {
+        self.blob_lens[i] + self.fields_lens[i] + self.comment_lens[i]
     }
-    fn comment(&self, i: usize) -> &[u8] {
-        &self.entries[i].comment[..self.entries[i].comment_len]
+    fn end(&self) -> usize {
+        (0..self.held()).map(|i| self.len(i)).sum()
     }
+    /// The held entries, each with the place of its bytes.
+    fn entries(&self) -> impl Iterator<Item = (usize, Range<usize>)> + '_ {
+        (0..self.held()).scan(0, |at, i| {
+            let from = *at;
+            *at += self.len(i);
+            Some((i, from..*at))
+        })
+    }
+    fn blob(&self, i: usize, place: &Range<usize>) -> &[u8] {
+        &self.store[place.start..][..self.blob_lens[i]]
+    }
+    fn comment(&self, i: usize, place: &Range<usize>) -> &[u8] {
+        &self.store[place.end - self.comment_lens[i]..place.end]
+    }
+    // a function of its own, so that it can be counted
+    #[inline(never)]
     pub fn is_sound(&self) -> bool {
         // over all bytes with no early exit, as the core does it: this is compiled to vector code, `all` is not (eleven times as long)
         let zero = |b: &[u8]| b.iter().fold(0, |a, x| a | x) == 0;
         if self.next < 1 || self.lock_len > 1024 || !zero(&self.lock[self.lock_len..]) {
             return false;
         }
-        for (i, e) in self.entries.iter().enumerate() {
-            let p = self.place(i);
-            if e.comment_len > 255 || !zero(&e.comment[e.comment_len..]) {
+        let held = self.held();
+        let mut blobs = [&[][..]; ENTRIES];
+        let mut end = 0;
+        for i in 0..held {
+            let (blob, fields, comment) = (self.blob_lens[i], self.fields_lens[i], self.comment_lens[i]);
+            let ok = self.numbers[i] < self.next && self.readings[i] <= self.clock && (self.limited[i] || self.seconds[i] == 0);
+            let ok = ok && (1..=1024).contains(&blob) && (1..=3072).contains(&fields) && comment <= 255;
+            if !ok || end + blob + fields + comment > STORE {
                 return false;
             }
-            if e.number == 0 {
-                let sizes = e.seconds as usize | e.blob_len | e.fields_len | e.comment_len;
-                if e.reading != 0 || e.limited || e.confirm || sizes != 0 || !zero(p) {
-                    return false;
-                }
-                continue;
-            }
-            let ok = e.number < self.next && e.reading <= self.clock && (e.limited || e.seconds == 0);
-            let ok = ok && (1..=1024).contains(&e.blob_len) && (1..=3072).contains(&e.fields_len);
-            if !ok || !zero(&p[e.blob_len..FIELDS]) || !zero(&p[FIELDS + e.fields_len..]) {
-                return false;
-            }
+            blobs[i] = &self.store[end..end + blob];
+            end += blob + fields + comment;
         }
-        (0..8).all(|i| {
-            (i + 1..8).all(|j| {
-                let (e, f) = (&self.entries[i], &self.entries[j]);
-                e.number == 0 || f.number == 0 || e.number != f.number && self.blob(i) != self.blob(j)
-            })
-        })
+        let unused = (held..ENTRIES).all(|i| {
+            let sizes = self.seconds[i] as usize | self.len(i);
+            self.numbers[i] == 0 && self.readings[i] == 0 && sizes == 0 && !self.limited[i] && !self.confirm[i]
+        });
+        let distinct = || (0..held).all(|i| (i + 1..held).all(|j| self.numbers[i] != self.numbers[j] && blobs[i] != blobs[j]));
+        unused && zero(&self.store[end..]) && distinct()
     }
-    fn free(&mut self, i: usize) {
-        self.entries[i] = FREE;
-        self.store[i * PLACE..(i + 1) * PLACE].fill(0);
+    /// Entry `from` becomes entry `to`, in the columns.
+    fn shift(&mut self, from: usize, to: usize) {
+        self.numbers[to] = self.numbers[from];
+        self.readings[to] = self.readings[from];
+        self.blob_lens[to] = self.blob_lens[from];
+        self.fields_lens[to] = self.fields_lens[from];
+        self.comment_lens[to] = self.comment_lens[from];
+        self.seconds[to] = self.seconds[from];
+        self.limited[to] = self.limited[from];
+        self.confirm[to] = self.confirm[from];
+    }
+    fn clear(&mut self, unused: Range<usize>) {
+        self.numbers[unused.clone()].fill(0);
+        self.readings[unused.clone()].fill(0);
+        self.blob_lens[unused.clone()].fill(0);
+        self.fields_lens[unused.clone()].fill(0);
+        self.comment_lens[unused.clone()].fill(0);
+        self.seconds[unused.clone()].fill(0);
+        self.limited[unused.clone()].fill(false);
+        self.confirm[unused].fill(false);
+    }
+    /// Keeps these entries: each that stays moves once, and the freed end is zeroed.
+    fn retain(&mut self, keep: impl Fn(&Table, usize) -> bool) {
+        let held = self.held();
+        let (mut kept, mut from, mut to) = (0, 0, 0);
+        for i in 0..held {
+            let len = self.len(i);
+            if keep(self, i) {
+                if from != to {
+                    self.store.copy_within(from..from + len, to);
+                    self.shift(i, kept);
+                }
+                kept += 1;
+                to += len;
+            }
+            from += len;
+        }
+        self.clear(kept..held);
+        self.store[to..from].fill(0);
+    }
+    fn expired(&self, i: usize) -> bool {
+        self.limited[i] && self.clock - self.readings[i] >= 1000 * self.seconds[i] as u64
     }
     fn advance(&mut self, reading: u64) {
         self.clock = self.clock.max(reading);
-        for i in 0..8 {
-            let e = self.entries[i];
-            if e.number != 0 && e.limited && self.clock - e.reading >= 1000 * e.seconds as u64 {
-                self.free(i);
-            }
+        if (0..self.held()).any(|i| self.expired(i)) {
+            self.retain(|t, i| !t.expired(i));
         }
     }
-    fn find(&self, blob: &[u8]) -> Option<usize> {
-        (0..8).find(|i| self.entries[*i].number != 0 && self.blob(*i) == blob)
+    fn find(&self, blob: &[u8]) -> Option<(usize, Range<usize>)> {
+        self.entries().find(|(i, place)| self.blob(*i, place) == blob)
     }
 
     pub fn call(&mut self, payload: &[u8], reading: u64, a: Answers<'_>, out: &mut [u8]) -> Outcome {
-        if out.len() < 10_305 {
+        if out.len() < REPLY {
             return Refused(1);
         }
         if !self.is_sound() {
@@ -225,25 +282,23 @@ impl Table {
         let mut c = Cursor { all: payload, at: 1 };
         match first {
             11 => {
-                let mut at = put(out, 4, &[12, 0, 0, 0, self.entries.iter().filter(|e| e.number != 0).count() as u8]);
-                for i in 0..8 {
-                    if self.entries[i].number != 0 {
-                        at = put_string(out, at, self.blob(i));
-                        at = put_string(out, at, self.comment(i));
-                    }
+                let mut at = put(out, 4, &[12, 0, 0, 0, self.held() as u8]);
+                for (i, place) in self.entries() {
+                    at = put_string(out, at, self.blob(i, &place));
+                    at = put_string(out, at, self.comment(i, &place));
                 }
                 put(out, 0, &(at as u32 - 4).to_be_bytes());
                 Reply(at)
             }
             18 => match c.string().and_then(|b| self.find(b)) {
-                Some(i) => {
-                    self.free(i);
+                Some((gone, _)) => {
+                    self.retain(|_, i| i != gone);
                     said(out, true)
                 }
                 None => said(out, false),
             },
             19 => {
-                (0..8).for_each(|i| self.free(i));
+                self.retain(|_, _| false);
                 said(out, true)
             }
             22 => match c.string() {
@@ -268,16 +323,16 @@ impl Table {
     }
     fn sign(&mut self, mut c: Cursor<'_>, a: Answers<'_>, out: &mut [u8]) -> Outcome {
         let Some(blob) = c.string() else { return Close };
-        let Some(i) = self.find(blob) else { return said(out, false) };
-        let e = self.entries[i];
-        if e.confirm {
+        let Some((i, _)) = self.find(blob) else { return said(out, false) };
+        let number = self.numbers[i];
+        if self.confirm[i] {
             match a.confirmation {
-                Some((n, yes)) if n == e.number => {
+                Some((n, yes)) if n == number => {
                     if !yes {
                         return said(out, false);
                     }
                 }
-                _ => return Confirm(e.number),
+                _ => return Confirm(number),
             }
         }
         let (Some(data), Some(flags)) = (c.string(), c.number()) else { return Close };
@@ -289,7 +344,7 @@ impl Table {
             0
         };
         match a.signature {
-            Some((n, given)) if n == e.number => match given {
+            Some((n, given)) if n == number => match given {
                 None => Close,
                 Some(s) => {
                     let at = put(out, 4, &[14]);
@@ -298,7 +353,7 @@ impl Table {
                     Reply(at)
                 }
             },
-            _ => Sign(e.number, c.at - 4 - data.len(), c.at - 4, hash),
+            _ => Sign(number, c.at - 4 - data.len(), c.at - 4, hash),
         }
     }
     fn add(&mut self, mut c: Cursor<'_>, constrained: bool, a: Answers<'_>, out: &mut [u8]) -> Option<Outcome> {
@@ -327,20 +382,27 @@ impl Table {
         for p in parts {
             n = put(&mut blob, n, &c.all[p.0..p.1]);
         }
-        let i = self.find(&blob[..n]).or_else(|| (0..8).find(|i| self.entries[*i].number == 0))?;
+        let end = self.end();
+        let (i, place) = self.find(&blob[..n]).unwrap_or((self.held(), end..end));
+        let len = n + fields_len + text.len();
+        if i == ENTRIES || end - place.len() + len > STORE {
+            return None;
+        }
         match a.check {
             None => return Some(Check(fields.0, fields.1)),
             Some(false) => return None,
             Some(true) => {}
         }
-        self.free(i);
-        let p = &mut self.store[i * PLACE..(i + 1) * PLACE];
-        p[..n].copy_from_slice(&blob[..n]);
-        p[FIELDS..FIELDS + fields_len].copy_from_slice(&c.all[fields.0..fields.1]);
-        let mut comment = [0; 255];
-        put(&mut comment, 0, text);
-        let comment_len = text.len();
-        self.entries[i] = Entry { number: self.next, reading: self.clock, limited, seconds, confirm, blob_len: n, fields_len, comment, comment_len };
+        self.store.copy_within(place.end..end, place.start + len);
+        if len < place.len() {
+            self.store[end - place.len() + len..end].fill(0);
+        }
+        let at = put(&mut self.store[..], place.start, &blob[..n]);
+        let at = put(&mut self.store[..], at, &c.all[fields.0..fields.1]);
+        put(&mut self.store[..], at, text);
+        (self.numbers[i], self.readings[i]) = (self.next, self.clock);
+        (self.blob_lens[i], self.fields_lens[i], self.comment_lens[i]) = (n, fields_len, text.len());
+        (self.limited[i], self.seconds[i], self.confirm[i]) = (limited, seconds, confirm);
         self.next += 1;
         Some(said(out, true))
     }

@@ -1,5 +1,6 @@
 //! The core behind the oracle's script language, and what the comparison needs beside it.
 pub mod ed25519;
+pub mod held;
 pub mod requests;
 pub mod stale;
 pub mod world;

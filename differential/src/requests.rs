@@ -46,7 +46,7 @@ pub fn rsa_key(r: &mut Random, n: usize) -> Key {
     Key { fields: join(&[b"ssh-rsa", &n, &e, &d, &i, &p, &q]), blob: join(&[b"ssh-rsa", &e, &n]) }
 }
 /// An RSA key whose blob or fields have exactly this length.
-fn rsa_exact(r: &mut Random, blob: Option<usize>, fields: usize) -> Key {
+pub fn rsa_exact(r: &mut Random, blob: Option<usize>, fields: usize) -> Key {
     let small = |r: &mut Random, n: usize| {
         let mut b = r.bytes(n);
         b[0] = 1 + b[0] % 127;
@@ -78,6 +78,10 @@ pub fn any_key(r: &mut Random) -> Key {
 /// A comment that is kept: UTF-8 of at most 255 bytes.
 pub fn comment(r: &mut Random) -> Vec<u8> {
     string(text(r).as_bytes())
+}
+/// A comment of this length.
+pub fn text_of(n: usize) -> Vec<u8> {
+    string(&vec![b'x'; n])
 }
 fn text(r: &mut Random) -> String {
     match r.below(10) {

@@ -1,6 +1,7 @@
 //! The Rust's rule for requests that cross, in a few lines: lock and table are looked at before a question, and not again behind it. It
 //! predicts every answer of the unchanged Rust on the crossing scripts, so that each difference there is the rule's and none is left over.
 //! For whole requests and lifetimes of a second or more alone.
+use crate::held::Addition;
 use crate::{hex, sorted, string, strings, unhex};
 use std::collections::HashMap;
 
@@ -26,15 +27,6 @@ pub struct Stale {
 fn reply(body: Vec<u8>) -> String {
     format!("reply {}", hex(&sorted(&string(&body))))
 }
-/// The blob and the comment of a whole add request, and what is behind them.
-pub fn addition(payload: &[u8]) -> (Vec<u8>, &[u8], &[u8]) {
-    let kind = strings(&payload[1..], 1).0[0];
-    let n = if kind == b"ssh-ed25519" { 3 } else if kind == b"ssh-rsa" { 7 } else { 4 };
-    let (s, rest) = strings(&payload[1..], n + 1);
-    let parts = if n == 7 { vec![s[0], s[2], s[1]] } else { s[..n - 1].to_vec() };
-    (parts.iter().flat_map(|p| string(p)).collect(), s[n], rest)
-}
-
 impl Stale {
     pub fn line(&mut self, line: &str) -> Option<String> {
         let ws: Vec<&str> = line.split_whitespace().collect();
@@ -96,17 +88,11 @@ impl Stale {
                 reply(b)
             }
             17 | 25 => {
-                let (blob, _, mut rest) = addition(&p);
-                let (mut confirm, mut due) = (false, None);
-                while p[0] == 25 && !rest.is_empty() {
-                    if rest[0] == 2 {
-                        confirm = true;
-                        rest = &rest[1..];
-                    } else {
-                        due = Some(self.clock + 1000 * u32::from_be_bytes(rest[1..5].try_into().unwrap()) as u64);
-                        rest = &rest[5..];
-                    }
-                }
+                let a = Addition::of(&p).expect("whole");
+                let constrained = p[0] == 25;
+                let due = constrained.then(|| a.lifetime()).flatten().map(|life| self.clock + life);
+                let confirm = constrained && (a.rest.first() == Some(&2) || a.rest.get(5) == Some(&2));
+                let blob = a.blob;
                 self.keys.retain(|k| k.blob != blob);
                 self.keys.push(Key { blob, confirm, due });
                 said(true)

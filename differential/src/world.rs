@@ -1,6 +1,6 @@
 //! The core as a program that answers scripts: the host of a gateway, with connections, questions left open, a clock that is moved, the key
 //! check that ssh-key makes and the signer that the oracle `scripted` has.
-use crate::stale::addition;
+use crate::held::{Addition, Held};
 use crate::{ed25519, hex, items, sorted, string, strings, unhex};
 use key_agent::{split, Answers, First, Gateway, Hash, Numbered, Outcome, Payload, Question, Reply};
 use std::collections::{HashMap, VecDeque};
@@ -67,21 +67,10 @@ pub struct Landing {
     pub request: Request,
     pub clock: u64,
     pub was_locked: bool,
-    /// The blobs that were held, if all eight places were taken.
-    pub full: Option<Vec<Vec<u8>>>,
+    /// An add past the gate that finds no room.
+    pub no_room: Option<&'static str>,
     pub outcome: Outcome,
     pub reply: Vec<u8>,
-}
-
-/// What a call finds.
-struct Found {
-    was_locked: bool,
-    full: Option<Vec<Vec<u8>>>,
-}
-impl Found {
-    fn of(g: &Gateway) -> Found {
-        Found { was_locked: g.is_locked(), full: (g.keys().count() == 8).then(|| g.keys().map(|k| k.blob.to_vec()).collect()) }
-    }
 }
 
 #[derive(Default)]
@@ -102,10 +91,15 @@ pub struct World {
     pub standin: bool,
     /// Listed comments that were compared: all, empty ones, those with bytes beyond ASCII, those of 255 bytes.
     pub listed: [u64; 4],
-    /// Each listed comment that is not the one of the last add of its blob that was answered with SUCCESS.
+    /// Where the core has not followed the rule by which keys are held: lists in another order or with other comments, a key taken or about to be
+    /// taken for which there is no room, other bytes of a held key.
     pub wrong: Vec<String>,
-    /// By blob, that comment.
-    comments: HashMap<Vec<u8>, Vec<u8>>,
+    held: Held,
+    /// Held keys whose bytes were compared with what their adds carried.
+    pub told: u64,
+    /// The most keys held at once, and the most that were gone on time when a request landed.
+    pub most_held: usize,
+    pub most_expired: usize,
     known: HashMap<[u8; 32], [u8; 32]>,
     conns: HashMap<String, Conn>,
     gate: VecDeque<char>,
@@ -134,7 +128,10 @@ impl World {
             standin: false,
             listed: [0; 4],
             wrong: Vec::new(),
-            comments: HashMap::new(),
+            held: Held::default(),
+            told: 0,
+            most_held: 0,
+            most_expired: 0,
             known: HashMap::new(),
             conns: HashMap::new(),
             gate: VecDeque::new(),
@@ -192,7 +189,7 @@ impl World {
         if c.request.is_some() {
             return "wait".into();
         }
-        let found = Found::of(&self.gateway);
+        let was_locked = self.gateway.is_locked();
         match self.gateway.first(&c.bytes, self.clock, &mut self.reply) {
             First::MoreNeeded => "wait".into(),
             First::TooLong => {
@@ -201,7 +198,7 @@ impl World {
             }
             First::Began { used, outcome, .. } => {
                 let frame = c.bytes.drain(..used).collect();
-                self.step(name, Request { frame, ..Request::default() }, Some((found, outcome)))
+                self.step(name, Request { frame, ..Request::default() }, Some((was_locked, outcome)))
             }
         }
     }
@@ -228,29 +225,58 @@ impl World {
         s.filter(|s| s.len() <= key_agent::MAX_SIGNATURE)
     }
 
-    /// The comments of a list beside those that the add requests had.
-    fn compare_comments(&mut self, payload: &[u8], reply: &[u8]) {
-        if matches!(payload.first(), Some(17 | 25)) && reply == [0, 0, 0, 1, 6] {
-            let (blob, comment, _) = addition(payload);
-            self.comments.insert(blob, comment.to_vec());
+    /// A landed request by the rule: why there is no room for a key, and what a list shows.
+    fn follow(&mut self, r: &Request, reply: &[u8], was_locked: bool) -> Option<&'static str> {
+        let payload = r.payload().bytes();
+        let no_room = self.no_room(payload).filter(|_| r.gate == Some(true) && !was_locked);
+        if reply == [0, 0, 0, 1, 6] {
+            if let Some(why) = no_room {
+                self.wrong.push(format!("taken: {why}"));
+            }
+            self.held.land(payload, self.clock);
         }
-        for (blob, comment) in items(reply) {
+        let listed = items(reply);
+        for (_, comment) in &listed {
             let kinds = [true, comment.is_empty(), !comment.is_ascii(), comment.len() == 255];
             self.listed.iter_mut().zip(kinds).for_each(|(n, is)| *n += is as u64);
-            let sent = self.comments.get(blob);
-            if sent.is_none_or(|sent| sent != comment) {
-                self.wrong.push(format!("blob {}: comment {} listed, {} sent", hex(blob), hex(comment), sent.map_or("none".into(), |s| hex(s))));
-            }
+        }
+        if reply.get(4) == Some(&12) && !self.held.0.iter().map(|e| (&e.blob[..], &e.comment[..])).eq(listed.iter().copied()) {
+            let show = |(blob, comment): (&[u8], &[u8])| format!("{} {}", hex(blob), hex(comment));
+            let held: Vec<_> = self.held.0.iter().map(|e| show((&e.blob, &e.comment))).collect();
+            let listed: Vec<_> = listed.into_iter().map(show).collect();
+            self.wrong.push(format!("listed\n{}\nheld\n{}", listed.join("\n"), held.join("\n")));
+        }
+        no_room
+    }
+
+    /// The held keys that a host is told of, beside those that the rule holds: blob, fields and comment, wherever they moved.
+    pub fn compare_keys(&mut self) {
+        self.held.expire(self.gateway.clock());
+        let mut told: Vec<_> = self.gateway.keys().map(|k| (k.blob.to_vec(), k.fields.to_vec(), k.comment.as_bytes().to_vec())).collect();
+        let mut held: Vec<_> = self.held.0.iter().map(|e| (e.blob.clone(), e.fields.clone(), e.comment.clone())).collect();
+        told.sort();
+        held.sort();
+        self.told += told.len() as u64;
+        if told != held {
+            self.wrong.push(format!("the host is told of {} keys: not of the {} that are held, or not of their bytes", told.len(), held.len()));
         }
     }
 
-    /// Calls until the request lands or a question stays open. `first`: what its first call found and came to, where only that was made.
-    fn step(&mut self, name: &str, mut r: Request, mut first: Option<(Found, Outcome)>) -> String {
+    fn no_room(&mut self, payload: &[u8]) -> Option<&'static str> {
+        let before = self.held.0.len();
+        self.held.expire(self.clock);
+        self.most_held = self.most_held.max(before);
+        self.most_expired = self.most_expired.max(before - self.held.0.len());
+        self.held.no_room(&Addition::of(payload)?)
+    }
+
+    /// Calls until the request lands or a question stays open. `first`: was it locked before its first call, and what did that come to, where only
+    /// that was made.
+    fn step(&mut self, name: &str, mut r: Request, mut first: Option<(bool, Outcome)>) -> String {
         loop {
-            let (found, outcome) = first.take().unwrap_or_else(|| {
-                (Found::of(&self.gateway), self.gateway.call(r.payload(), self.clock, &r.answers(), &mut self.reply))
+            let (was_locked, outcome) = first.take().unwrap_or_else(|| {
+                (self.gateway.is_locked(), self.gateway.call(r.payload(), self.clock, &r.answers(), &mut self.reply))
             });
-            let Found { was_locked, full } = found;
             let q = match outcome {
                 Outcome::Asks(q) => q,
                 Outcome::Refused(why) => panic!("{why}"),
@@ -264,11 +290,9 @@ impl World {
                     } else {
                         format!("reply {}", hex(&reply))
                     };
-                    if outcome == Outcome::Reply {
-                        self.compare_comments(r.payload().bytes(), &reply);
-                    }
+                    let no_room = self.follow(&r, &reply, was_locked);
                     let clock = self.gateway.clock();
-                    self.landings.push(Landing { conn: name.to_string(), request: r, clock, was_locked, full, outcome, reply });
+                    self.landings.push(Landing { conn: name.to_string(), request: r, clock, was_locked, no_room, outcome, reply });
                     return line;
                 }
             };
@@ -279,7 +303,12 @@ impl World {
                     let blob = hex(self.gateway.key(*number).expect("held").blob);
                     (self.confirm.pop_front().unwrap_or(self.confirm_always), format!("ask confirm {blob}"))
                 }
-                Question::Check(_) => (if self.hold { '?' } else { 'y' }, "ask check".into()),
+                Question::Check(_) => {
+                    if let Some(why) = self.no_room(r.payload().bytes()) {
+                        self.wrong.push(format!("the check was asked for: {why}"));
+                    }
+                    (if self.hold { '?' } else { 'y' }, "ask check".into())
+                }
                 Question::Signature { hash, .. } => {
                     r.hash = Some(*hash);
                     (if self.hold { '?' } else { 'y' }, "ask signature".into())

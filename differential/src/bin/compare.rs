@@ -1,8 +1,9 @@
 //! compare ORACLE REQUESTS SEED OUT: random requests to the unchanged Rust and to the core, answers and states compared. ORACLE is the program
 //! `scripted`, or `standin` (one request at a time alone).
 //! ../README.md has the rest.
-use differential::requests::{any_key, comment, damaged, special, whole, Key};
-use differential::stale::{addition, Stale};
+use differential::held::{Addition, Held, KEYS, STORE};
+use differential::requests::{any_key, comment, constraints, damaged, ed25519_key, rsa_exact, rsa_key, special, text_of, whole, Key};
+use differential::stale::Stale;
 use differential::world::{Landing, World};
 use differential::{hex, string, strings, unhex, without_comments, Random};
 use key_agent::{Gateway, Hash, Reply};
@@ -25,8 +26,37 @@ struct Segment {
     lines: Vec<String>,
     outs: Vec<Out>,
     requests: Vec<Vec<u8>>,
+    /// The Rust is told no at the gate where the rule has no room, so that both go on with the same keys.
+    aligned: bool,
+    /// Of each request, one at a time, the line by which its gate is answered.
+    gates: Vec<usize>,
 }
 impl Segment {
+    /// One at a time, which landing is a request's.
+    fn landing_of(&self) -> Vec<usize> {
+        let mut at = 0;
+        let mut begun = vec![0; self.requests.len()];
+        for what in &self.outs {
+            if let Out::Request(i) = *what {
+                begun[i] = at;
+            }
+            at += matches!(what, Out::Request(_) | Out::Probe(_)) as usize;
+        }
+        begun
+    }
+    /// The script for the Rust, by how the requests landed here.
+    fn for_rust(&self, landings: &[Landing]) -> Vec<String> {
+        let mut lines = self.lines.clone();
+        if self.aligned {
+            for (at, gate) in self.landing_of().into_iter().zip(&self.gates) {
+                if landings.get(at).is_some_and(|l| l.no_room.is_some()) {
+                    assert_eq!(lines[*gate].pop(), Some('y'), "past the gate");
+                    lines[*gate].push('n');
+                }
+            }
+        }
+        lines
+    }
     fn say(&mut self, line: impl Into<String>) {
         self.lines.push(line.into());
     }
@@ -45,19 +75,71 @@ impl Segment {
 
 const MOVES: [u64; 14] = [0, 1, 1, 10, 499, 500, 501, 998, 999, 1000, 1001, 1999, 2000, 3000];
 
+/// Keys that come near a limit, and the requests by which they are added first: 24 or more of any kind; so many large ones that the bytes give out; or
+/// bytes to the last one, or one more.
+fn crowd(r: &mut Random, pool: &[Key]) -> (Vec<Key>, Vec<Vec<u8>>) {
+    let (kind, limited) = (r.below(3), r.percent(35));
+    let n = if kind == 0 { KEYS + 1 + r.below(8) } else { 12 };
+    let (mut keys, mut adds, mut held) = (Vec::new(), Vec::new(), Held::default());
+    while keys.len() < n {
+        if kind == 2 && STORE - held.len() < 3_900 {
+            let left = STORE - held.len() + r.below(2);
+            keys.push(last_key(r, left, &mut adds));
+            keys.extend((0..4).map(|_| ed25519_key(r)));
+            break;
+        }
+        let size = 760 + r.below(9);
+        let key = if kind > 0 { rsa_key(r, size) } else if r.percent(80) { ed25519_key(r) } else { r.pick(pool).clone() };
+        let life = if limited && r.percent(60) { vec![1, 0, 0, 0, 1 + r.below(2) as u8] } else { vec![] };
+        let p = [vec![25], key.fields.clone(), comment(r), life].concat();
+        held.land(&p, 0);
+        keys.push(key);
+        adds.push(p);
+    }
+    (keys, adds)
+}
+/// A key that takes this many bytes with its comment; and its request.
+fn last_key(r: &mut Random, left: usize, adds: &mut Vec<Vec<u8>>) -> Key {
+    let blob = (left / 4).min(1024);
+    let text = r.below(blob.min(256));
+    let key = rsa_exact(r, Some(blob), left - blob - text);
+    adds.push([vec![17], key.fields.clone(), text_of(text)].concat());
+    key
+}
+
+/// A request by which keys come and go: adds, also of held keys with other comments, and removals.
+fn turnover(r: &mut Random, keys: &[Key]) -> Vec<u8> {
+    let k = r.pick(keys).clone();
+    let text = if r.percent(30) { text_of(255) } else { comment(r) };
+    match r.below(10) {
+        0..=2 => [vec![17], k.fields, text].concat(),
+        3..=5 => [vec![25], k.fields, text, constraints(r)].concat(),
+        _ => [vec![18], string(&k.blob)].concat(),
+    }
+}
+
 /// One request at a time.
 fn serial(r: &mut Random, pool: &[Key]) -> Segment {
-    let mut s = Segment::default();
+    let mut s = Segment { aligned: r.percent(75), ..Segment::default() };
     s.say("fresh");
-    let n = if r.percent(75) { 3 + r.below(6) } else { 9 + r.below(4) };
-    let keys: Vec<Key> = (0..n).map(|_| r.pick(pool).clone()).collect();
+    let crowded = r.percent(30);
+    let (keys, first) = if crowded {
+        crowd(r, pool)
+    } else {
+        let keys: Vec<Key> = (0..3 + r.below(10)).map(|_| r.pick(pool).clone()).collect();
+        let adds = r.below(keys.len() + 1);
+        let first = keys[..adds].iter().map(|k| [vec![17], k.fields.clone(), comment(r)].concat()).collect();
+        (keys, first)
+    };
     let specials = r.percent(25);
     let length = 30 + r.below(90);
     let mut phrases: Vec<Vec<u8>> = vec![b"ab".to_vec()];
-    let adds = r.below(keys.len().min(8) + 1);
+    let adds = first.len();
     for at in 0..length {
         let mut p = if at < adds {
-            [vec![17], keys[at].fields.clone(), comment(r)].concat()
+            first[at].clone()
+        } else if crowded && r.percent(50) {
+            turnover(r, &keys)
         } else if specials && r.percent(4) {
             special(r, &keys)
         } else {
@@ -68,6 +150,7 @@ fn serial(r: &mut Random, pool: &[Key]) -> Segment {
         }
         let (gate, confirm) = (if r.percent(95) { 'y' } else { 'n' }, if r.percent(80) { 'y' } else { 'n' });
         let asked = r.percent(30);
+        s.gates.push(s.lines.len());
         s.say(format!("gate-always {}", if asked { '?' } else { gate }));
         s.say(format!("confirm-always {}", if asked { '?' } else { confirm }));
         if let (Some(22), (w, _)) = (p.first(), strings(&p[1.min(p.len())..], 1)) {
@@ -99,6 +182,7 @@ fn serial(r: &mut Random, pool: &[Key]) -> Segment {
             s.to(conn, p)
         };
         if asked {
+            s.gates[i] = s.lines.len();
             s.out(Out::Answer(i), format!("ans {conn} {gate}"));
             s.out(Out::Answer(i), format!("ans {conn} {confirm}"));
         }
@@ -121,13 +205,37 @@ fn serial(r: &mut Random, pool: &[Key]) -> Segment {
     s
 }
 
+/// Adds keys until there is room for no more, or hardly; some of these, and some that are not held.
+fn fill(r: &mut Random, pool: &[Key], s: &mut Segment) -> Vec<Key> {
+    let mut held = Held::default();
+    s.requests.iter().for_each(|p| held.land(p, 0));
+    let large = r.percent(40);
+    let mut keys = Vec::new();
+    let spare = r.below(2);
+    while held.0.len() + spare < KEYS {
+        let key = if large { rsa_key(r, 768) } else if r.percent(70) { ed25519_key(r) } else { r.pick(pool).clone() };
+        let life = if r.percent(30) { vec![1, 0, 0, 0, 1 + r.below(3) as u8] } else { vec![] };
+        let p = [vec![25], key.fields.clone(), comment(r), life].concat();
+        keys.push(key);
+        if held.no_room(&Addition::of(&p).expect("whole")).is_some() {
+            break;
+        }
+        held.land(&p, 0);
+        s.to("s", p);
+    }
+    let from = keys.len() - keys.len().min(3);
+    keys.drain(..from);
+    keys.extend([ed25519_key(r), rsa_key(r, 64)]);
+    keys
+}
+
 /// Requests that cross: a few keys, then up to six requests with their questions left open and answered in any order.
 fn crossing(r: &mut Random, pool: &[Key]) -> Segment {
     let mut s = Segment { crossing: true, ..Segment::default() };
-    // one half is about the lock, the other about one key and its confirmations
-    let about_lock = r.percent(50);
+    // about the lock, about one key and its confirmations, or about the room that is left
+    let (about_lock, about_room) = (r.percent(50), r.percent(25));
     let n = if about_lock { 1 + r.below(3) } else { 1 };
-    let keys: Vec<Key> = (0..n).map(|_| r.pick(pool).clone()).collect();
+    let mut keys: Vec<Key> = (0..n).map(|_| r.pick(pool).clone()).collect();
     let add = |r: &mut Random, k: &Key| {
         let mut c = Vec::new();
         if r.percent(40) {
@@ -145,6 +253,9 @@ fn crossing(r: &mut Random, pool: &[Key]) -> Segment {
             s.to("s", p);
         }
     }
+    if about_room {
+        keys.extend(fill(r, pool, &mut s));
+    }
     let locked = about_lock && r.percent(30);
     if locked {
         s.to("s", [vec![22], string(b"ab")].concat());
@@ -153,7 +264,8 @@ fn crossing(r: &mut Random, pool: &[Key]) -> Segment {
     s.say("confirm-always ?");
     let total = 2 + r.below(5);
     let mut slots: Vec<(String, usize, usize)> = Vec::new();
-    while s.requests.len() < 40 && (slots.len() < total || r.percent(60)) {
+    let most = s.requests.len() + 40;
+    while s.requests.len() < most && (slots.len() < total || r.percent(60)) {
         if slots.len() < total && r.percent(40) {
             let k = r.pick(&keys).clone();
             let p = match r.below(if locked { 26 } else if about_lock { 18 } else { 13 }) {
@@ -206,6 +318,11 @@ struct Tally {
     crossing_differ: u64,
     asked_again: u64,
     crossings: BTreeMap<String, (u64, String)>,
+    /// Refused for want of room, and the Rust was told no.
+    foretold: BTreeMap<&'static str, u64>,
+    most_held: usize,
+    most_expired: usize,
+    told: u64,
     replayed: u64,
     held_replayed: u64,
     unlisted: Vec<String>,
@@ -277,12 +394,9 @@ fn listed(standin: bool, p: &[u8], l: &Landing, ours: &str, rust: &str) -> Optio
                 b"ssh-ed25519" | b"ssh-rsa" => return None,
                 _ => return Some(("17, 25: a type that is none of 01's five", true)),
             }
-            let (blob, comment, _) = addition(p);
-            if comment.len() > 255 {
-                // with the other limits, before the key check
-                return l.request.check.is_none().then_some(("17, 25: a comment of more than 255 bytes", true));
-            }
-            l.full.as_ref().is_some_and(|held| !held.contains(&blob)).then_some(("17, 25: a ninth key", true))
+            // these are found before the key check
+            let why = if Addition::of(p)?.comment.len() > 255 { Some("17, 25: a comment of more than 255 bytes") } else { l.no_room };
+            why.filter(|_| l.request.check.is_none()).map(|why| (why, true))
         }
         22 if ours == FAILURE && rust == SUCCESS => (strings(&p[1..], 1).0.first()?.len() > 1024).then_some(("22: a passphrase of more than 1,024 bytes", true)),
         13 if ours == "close" && rust.len() > 16 && &rust[14..16] == "0e" => {
@@ -331,16 +445,12 @@ fn has_comments(ours: &str, rust: &str, t: &mut Tally) -> bool {
 
 fn judge_serial(standin: bool, s: &Segment, ours: &[String], rust: &[String], landings: &[Landing], t: &mut Tally) {
     t.segments.0 += 1;
-    let mut at = 0; // the landing of this request or list
-    let mut begun = vec![0; s.requests.len()];
+    let begun = s.landing_of();
     for (k, what) in s.outs.iter().enumerate() {
         let (Out::Request(i) | Out::Answer(i) | Out::Probe(i) | Out::Bytes(i)) = *what;
-        if matches!(what, Out::Request(_)) {
-            begun[i] = at;
-            at += 1;
-        } else if matches!(what, Out::Probe(_)) {
-            at += 1;
-            t.lists += 1;
+        t.lists += matches!(what, Out::Probe(_)) as u64;
+        if let (Out::Request(_), true, Some(why)) = (what, s.aligned, landings[begun[i]].no_room) {
+            *t.foretold.entry(why).or_default() += 1;
         }
         if matches!(what, Out::Request(_)) || s.requests[i].len() > 262_144 && matches!(what, Out::Bytes(_)) {
             t.compared += 1;
@@ -385,9 +495,28 @@ fn judge_serial(standin: bool, s: &Segment, ours: &[String], rust: &[String], la
     }
 }
 
-/// What the host found of the comments since the script began.
-fn judge_comments(s: &Segment, w: &mut World, t: &mut Tally) {
+/// What the core made of a script.
+struct Ran {
+    ours: Vec<String>,
+    landings: Vec<Landing>,
+    gateway: Gateway,
+    clock: u64,
+}
+fn run_core(s: &Segment, w: &mut World, t: &mut Tally) -> Ran {
+    let ours: Vec<String> = s.lines.iter().flat_map(|l| w.line(l)).collect();
+    assert_eq!(ours.len(), s.outs.len());
+    assert!(!s.crossing || w.open() == 0, "all have landed");
+    judge_held(s, w, t);
+    Ran { ours, landings: std::mem::take(&mut w.landings), gateway: w.gateway.clone(), clock: w.clock }
+}
+
+/// What the host found of lists and of room since the script began.
+fn judge_held(s: &Segment, w: &mut World, t: &mut Tally) {
+    w.compare_keys();
+    t.told += std::mem::take(&mut w.told);
     t.comments.iter_mut().zip(std::mem::take(&mut w.listed)).for_each(|(n, m)| *n += m);
+    t.most_held = t.most_held.max(w.most_held);
+    t.most_expired = t.most_expired.max(w.most_expired);
     for wrong in w.wrong.drain(..) {
         t.unlisted.push(format!("{wrong}\nscript:\n{}", show(s, usize::MAX)));
     }
@@ -469,6 +598,8 @@ fn judge_crossing(s: &Segment, ours: &[String], rust: &[String], predicted: &[St
             Some(format!("{} past a landed LOCK", name(p)))
         } else if asked && !l.was_locked && p[0] == 23 && mine[i] == FAILURE {
             Some("UNLOCK past a landed UNLOCK".to_string())
+        } else if let Some(why) = l.no_room.filter(|_| mine[i] == FAILURE) {
+            Some(format!("add that finds no room at its landing ({why})"))
         } else if p[0] == 13 && asked && l.request.confirmations > 0 && l.request.confirmations < 2 && l.request.signature.is_none() && mine[i] == FAILURE && l.request.confirmation.is_some_and(|c| c.answer) {
             let blob = strings(&p[1..], 1).0[0];
             let removed = landings[..at].iter().any(|x| {
@@ -519,25 +650,22 @@ fn main() {
     let mut r = Random(seed);
     let mut t = Tally::default();
     let start = std::time::Instant::now();
-        while t.compared + t.crossing < requests {
+    while t.compared + t.crossing < requests {
         let pool: Vec<Key> = (0..60).map(|_| any_key(&mut r)).collect();
         let segments: Vec<Segment> = (0..150).map(|_| if !standin && r.percent(70) { crossing(&mut r, &pool) } else { serial(&mut r, &pool) }).collect();
-        let script: String = segments.iter().flat_map(|s| &s.lines).flat_map(|l| [l, "\n"]).collect();
-        let rust = run_oracle(oracle, script);
         let (mut w, mut held, mut stale) = (World::new(), World::new(), Stale::default());
         (w.sort, w.standin) = (true, standin);
+        let ran: Vec<Ran> = segments.iter().map(|s| run_core(s, &mut w, &mut t)).collect();
+        let script: String = segments.iter().zip(&ran).flat_map(|(s, ran)| s.for_rust(&ran.landings)).flat_map(|l| [l, "\n".into()]).collect();
+        let rust = run_oracle(oracle, script);
         let mut at = 0;
-        for s in &segments {
-            let ours: Vec<String> = s.lines.iter().flat_map(|l| w.line(l)).collect();
-            assert_eq!(ours.len(), s.outs.len());
-            let theirs = &rust[at..at + ours.len()];
-            at += ours.len();
-            judge_comments(s, &mut w, &mut t);
+        for (s, ran) in segments.iter().zip(ran) {
+            let theirs = &rust[at..at + ran.ours.len()];
+            at += ran.ours.len();
             if s.crossing {
                 let predicted: Vec<String> = s.lines.iter().filter_map(|l| stale.line(l)).collect();
-                assert_eq!(w.open(), 0, "all have landed");
-                judge_crossing(s, &ours, theirs, &predicted, &w.landings, &mut t);
-                match replay(&w.landings, w.gateway.clone(), w.clock) {
+                judge_crossing(s, &ran.ours, theirs, &predicted, &ran.landings, &mut t);
+                match replay(&ran.landings, ran.gateway, ran.clock) {
                     Ok(n) => t.replayed += n,
                     Err(e) => t.unlisted.push(format!("demand 3: {e}\nscript:\n{}", show(s, usize::MAX))),
                 }
@@ -550,13 +678,13 @@ fn main() {
                     }
                     held.line(l);
                 }
-                judge_comments(s, &mut held, &mut t);
+                judge_held(s, &mut held, &mut t);
                 match replay(&held.landings, held.gateway.clone(), held.clock) {
                     Ok(n) => t.held_replayed += n,
                     Err(e) => t.unlisted.push(format!("demand 3, all questions held: {e}\nscript:\n{}", show(s, usize::MAX))),
                 }
             } else {
-                judge_serial(standin, s, &ours, theirs, &w.landings, &mut t);
+                judge_serial(standin, s, &ran.ours, theirs, &ran.landings, &mut t);
                 for l in s.lines.iter().filter(|l| l.starts_with("adv ")) {
                     stale.line(l);
                     held.line(l);
@@ -586,6 +714,10 @@ fn main() {
     for (k, (n, p)) in &t.kinds {
         say(format!("    {n:8}  {k}; smallest payload {}", if p.len() > 100 { format!("{}.. ({} bytes)", &p[..100], p.len() / 2) } else { p.clone() }), &mut text);
     }
+    say("  no room, as the rule foretold; the Rust was told no and holds the same keys:".into(), &mut text);
+    for (k, n) in &t.foretold {
+        say(format!("    {n:8}  {k}"), &mut text);
+    }
     say(format!("crossing: {} requests in {} scripts; the Rust's answers as its own rule predicts; {} requests end differently", t.crossing, t.segments.1, t.crossing_differ), &mut text);
     let mut scripts = String::new();
     for (k, (n, script)) in &t.crossings {
@@ -595,7 +727,9 @@ fn main() {
     say(format!("  replaced while its confirmation was open, asked again here and not by the Rust, and the same end: {}", t.asked_again), &mut text);
     say(format!("  landings replayed one at a time on the core: {} (check and signature answered at once), {} (all questions held)", t.replayed, t.held_replayed), &mut text);
     let [all, empty, beyond, longest] = t.comments;
-    say(format!("comments in lists of the core, compared with what the adds carried: {all}; {empty} empty, {beyond} beyond ASCII, {longest} of 255 bytes"), &mut text);
+    say(format!("lists of the core, each item and its place compared with what the rule holds: {all} items; comments: {empty} empty, {beyond} beyond ASCII, {longest} of 255 bytes"), &mut text);
+    say(format!("keys held at a script's end, their blobs, fields and comments compared with what the adds carried: {}", t.told), &mut text);
+    say(format!("most keys held at once: {}; most that were gone on time at once: {}", t.most_held, t.most_expired), &mut text);
     say(format!("unlisted differences: {}", t.unlisted.len()), &mut text);
     for u in &t.unlisted {
         say(format!("-- UNLISTED\n{u}"), &mut text);
