@@ -1,0 +1,1 @@
+-- Laws of the moves that make room for a key.
