@@ -21,7 +21,7 @@ use Rattle.table.proofs.EntryLaws.{up-length, up-at, start-step, start-none, st
 -- ## Bytes that move down
 
 -- lists that are the same from m on are so from k on
-drop-beyond : (y x : List ℕ) (m k : ℕ) → m ≤ k → drop m y ≡ drop m x → drop k y ≡ drop k x
+pub drop-beyond : (y x : List ℕ) (m k : ℕ) → m ≤ k → drop m y ≡ drop m x → drop k y ≡ drop k x
 drop-beyond y x m k h e = let at : k ≡ m + (k - m) = omega arith in rw at (sym (drop-drop (k - m) m y) ∙ ap (drop (k - m)) e ∙ drop-drop (k - m) m x)
 
 -- what lies ahead of the bytes that were moved is as it was
