@@ -1,3 +1,4 @@
 -- The laws that the proofs of functions cite.
 pub mod ClosingLaws
 pub mod OpeningLaws
+pub mod WrittenLaws
