@@ -38,7 +38,6 @@ pub fn call(
     let mut seconds = t.seconds;
     let mut limited = t.limited;
     let mut confirm = t.confirm;
-    let mut comments = state.comments;
     let lock = state.lock;
     let mut passphrase = lock.bytes;
     let clock = state.clock;
@@ -56,7 +55,6 @@ pub fn call(
         &mut seconds,
         &mut limited,
         &mut confirm,
-        &mut comments,
         &mut passphrase,
         kept,
         store,
@@ -85,7 +83,6 @@ pub fn call(
     };
     let state = State {
         columns,
-        comments,
         lock,
         clock,
         next: after.next,
@@ -112,7 +109,6 @@ pub fn first_call(
     let mut seconds = t.seconds;
     let mut limited = t.limited;
     let mut confirm = t.confirm;
-    let mut comments = state.comments;
     let lock = state.lock;
     let mut passphrase = lock.bytes;
     let clock = state.clock;
@@ -130,7 +126,6 @@ pub fn first_call(
         &mut seconds,
         &mut limited,
         &mut confirm,
-        &mut comments,
         &mut passphrase,
         kept,
         store,
@@ -157,7 +152,6 @@ pub fn first_call(
     };
     let state = State {
         columns,
-        comments,
         lock,
         clock,
         next: after.next,

@@ -14,7 +14,7 @@ use Rattle.engine.specs.declared.first.Heard.{Heard}
 
 -- the arrays of s, and k beside them
 abbrev pub beside : State → Kept → State
-beside s k = held (s .columns) (s .comments) (s .lock .bytes) k
+beside s k = held (s .columns) (s .lock .bytes) k
 
 abbrev pub keptIn : State → Kept
 keptIn s = record { clock = s .clock; next = s .next; locked = s .lock .len }

@@ -1,16 +1,17 @@
 -- Laws of columns side by side: how many entries they show, where the bytes of each begin, and that they are written in one way.
 use Prim.Native.Nat.{ℕ, zero, suc, _+_, _-_, _≤_, _<_}
 use mathlib.Core.Path.{_≡_, refl, sym, ap, _∙_}
-use mathlib.Core.Logic.{_≢_}
+use mathlib.Core.Logic.{_≢_, _⊎_, inl, inr}
 use mathlib.Core.Bool.{Bool, true, false, cond}
 use mathlib.Core.List.{List, [], _∷_, _++_, map}
 use native.Mathlib.Omega.{arith}
 use native.Mathlib.Nat.{not-suc-le-zero, le-of-suc-le-suc}
 use borrow.Author.Tests.{eqb-true, eqb-false, eq-eqb, ne-eqb}
-use lib.ListN.{length, take, drop, getD, replicate, length-map, length-drop, take-append-drop}
-use lib.Seq.{getD-drop, take-nil}
+use lib.ListN.{length, take, drop, getD, replicate, length-map, drop-of-length-le}
+use lib.Seq.{take-nil, drop-cons}
 use lib.Dec.{eqb}
 use Rattle.wire.specs.Limits.{entriesLimit}
+use Rattle.wire.proofs.Reading.{le-or-lt}
 use Rattle.rule.proofs.Cases.{cond-cases}
 use Rattle.table.specs.declared.Columns.{Columns}
 use Rattle.table.specs.declared.Figures.{Figures}
@@ -96,6 +97,13 @@ count-step (n ∷ ns) i = cond-cases (λ c. i ≤ c → getD (n ∷ ns) i 0 ≢ 
     by-index zero rest h f = omega arith
     by-index (suc i) rest h f = let r = rest i (le-of-suc-le-suc h) f in omega arith
 
+pub count-ends : (ns : List ℕ) (i : ℕ) → i ≤ countOf ns → getD ns i 0 ≡ 0 → i ≡ countOf ns
+count-ends ns i h z = by-order (le-or-lt (countOf ns) i)
+  where
+    by-order : (countOf ns ≤ i) ⊎ (i < countOf ns) → i ≡ countOf ns
+    by-order (inl k) = omega arith
+    by-order (inr k) = absurd (count-held ns i k z)
+
 module _ (t : Columns) where
   pub entries-length : length (entriesIn t) ≡ countOf (t .numbers)
   unfolding entriesIn
@@ -112,6 +120,15 @@ unfolding sumOf
 sum-step [] i = rw take-nil
 sum-step (n ∷ l) zero = omega arith
 sum-step (n ∷ l) (suc i) = let r = sum-step l i in omega arith
+
+-- a sum from its front: nothing so far, one more, none left
+pub sum-more : (l : List ℕ) (i : ℕ) → i < length l → sumOf (drop i l) ≡ getD l i 0 + sumOf (drop (i + 1) l)
+unfolding sumOf
+sum-more l i h = let next : i + 1 ≡ suc i = omega arith in rw (next, drop-cons l i 0 h)
+
+pub sum-ended : (l : List ℕ) (i : ℕ) → length l ≤ i → sumOf (drop i l) ≡ 0
+unfolding sumOf
+sum-ended l i h = rw (drop-of-length-le l h)
 
 pub start-step : (b f c : List ℕ) (i : ℕ) → startIn b f c (suc i) ≡ startIn b f c i + (getD b i 0 + (getD f i 0 + getD c i 0))
 unfolding startIn

@@ -2,4 +2,9 @@
 pub mod ByteLaws
 pub mod EachLaws
 pub mod EntryLaws
+pub mod StateLaws
+pub mod TestLaws
 pub mod WritingLaws
+pub mod SeekLaws
+pub mod ReadLaws
+pub mod FoundLaws

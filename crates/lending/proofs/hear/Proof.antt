@@ -54,7 +54,7 @@ use Rattle.table.proofs.Kept as Kept′
 use Rattle.table.proofs.Kept.Laws as Kept″
 use Rattle.rule.proofs.Millis as Millis′
 use Rattle.rule.proofs.Millis.Laws as Millis″
-use Rattle.lending.proofs.Lending.{R, Lfts, Names, at-columns-numbers, ref-columns-numbers, at-columns-readings, ref-columns-readings, at-columns-blob-lens, ref-columns-blob-lens, at-columns-fields-lens, ref-columns-fields-lens, at-columns-comment-lens, ref-columns-comment-lens, at-columns-seconds, ref-columns-seconds, at-columns-limited, ref-columns-limited, at-columns-confirm, ref-columns-confirm, at-comments, ref-comments, at-lock-bytes, ref-lock-bytes, Refs, Lender, lends-all, comes-back}
+use Rattle.lending.proofs.Lending.{R, Lfts, Names, at-columns-numbers, ref-columns-numbers, at-columns-readings, ref-columns-readings, at-columns-blob-lens, ref-columns-blob-lens, at-columns-fields-lens, ref-columns-fields-lens, at-columns-comment-lens, ref-columns-comment-lens, at-columns-seconds, ref-columns-seconds, at-columns-limited, ref-columns-limited, at-columns-confirm, ref-columns-confirm, at-lock-bytes, ref-lock-bytes, Refs, Lender, lends-all, comes-back}
 use Rattle.engine.proofs.first.first_lent as first-lent′
 use Rattle.engine.proofs.first.first_lent.Symbol as first-lent-def
 use Rattle.engine.proofs.first.first_lent.Symbol.{name as #engine·first-lent}
@@ -104,11 +104,11 @@ module _ {M : Type 1} (𝓤 : URA M) (H : Heap 𝓤) (A : Atoms 𝓤) (W : Given
   Promised r z z-store z-reply = Hears h kept (store .now) (bytes .now) reading (reply .now) r z z-store z-reply
 
   abbrev to-callee : Lfts → Names → Callee 𝓤 H A at-mem run .Ghost
-  to-callee κs γs = (((κs .0, (κs .1 .0, (κs .1 .1 .0, (κs .1 .1 .1 .0, (κs .1 .1 .1 .1 .0, (κs .1 .1 .1 .1 .1 .0, (κs .1 .1 .1 .1 .1 .1 .0, (κs .1 .1 .1 .1 .1 .1 .1 .0, (κs .1 .1 .1 .1 .1 .1 .1 .1 .0, (κs .1 .1 .1 .1 .1 .1 .1 .1 .1 .0, (κ1, (κ2, (κ3, tt))))))))))))), (fullShare, (fullShare, (fullShare, (fullShare, (fullShare, (fullShare, (fullShare, (fullShare, (fullShare, (fullShare, (q1, (q2, (q3, tt))))))))))))), tt, (ref-columns-numbers b o γs h, (ref-columns-readings b o γs h, (ref-columns-blob-lens b o γs h, (ref-columns-fields-lens b o γs h, (ref-columns-comment-lens b o γs h, (ref-columns-seconds b o γs h, (ref-columns-limited b o γs h, (ref-columns-confirm b o γs h, (ref-comments b o γs h, (ref-lock-bytes b o γs h, (kept, (store, (bytes, (reading, (reply, tt))))))))))))))), (vptr b (at-columns-numbers o) ∷ [], (vptr b (at-columns-readings o) ∷ [], (vptr b (at-columns-blob-lens o) ∷ [], (vptr b (at-columns-fields-lens o) ∷ [], (vptr b (at-columns-comment-lens o) ∷ [], (vptr b (at-columns-seconds o) ∷ [], (vptr b (at-columns-limited o) ∷ [], (vptr b (at-columns-confirm o) ∷ [], (vptr b (at-comments o) ∷ [], (vptr b (at-lock-bytes o) ∷ [], (LL.val Kept′.the-type Kept″.the-laws kept ∷ [], (v-store ∷ [], (v-bytes ∷ [], (LL.val Millis′.the-type Millis″.the-laws reading ∷ [], (v-reply ∷ [], tt)))))))))))))))), tt)
+  to-callee κs γs = (((κs .0, (κs .1 .0, (κs .1 .1 .0, (κs .1 .1 .1 .0, (κs .1 .1 .1 .1 .0, (κs .1 .1 .1 .1 .1 .0, (κs .1 .1 .1 .1 .1 .1 .0, (κs .1 .1 .1 .1 .1 .1 .1 .0, (κs .1 .1 .1 .1 .1 .1 .1 .1 .0, (κ1, (κ2, (κ3, tt)))))))))))), (fullShare, (fullShare, (fullShare, (fullShare, (fullShare, (fullShare, (fullShare, (fullShare, (fullShare, (q1, (q2, (q3, tt)))))))))))), tt, (ref-columns-numbers b o γs h, (ref-columns-readings b o γs h, (ref-columns-blob-lens b o γs h, (ref-columns-fields-lens b o γs h, (ref-columns-comment-lens b o γs h, (ref-columns-seconds b o γs h, (ref-columns-limited b o γs h, (ref-columns-confirm b o γs h, (ref-lock-bytes b o γs h, (kept, (store, (bytes, (reading, (reply, tt)))))))))))))), (vptr b (at-columns-numbers o) ∷ [], (vptr b (at-columns-readings o) ∷ [], (vptr b (at-columns-blob-lens o) ∷ [], (vptr b (at-columns-fields-lens o) ∷ [], (vptr b (at-columns-comment-lens o) ∷ [], (vptr b (at-columns-seconds o) ∷ [], (vptr b (at-columns-limited o) ∷ [], (vptr b (at-columns-confirm o) ∷ [], (vptr b (at-lock-bytes o) ∷ [], (LL.val Kept′.the-type Kept″.the-laws kept ∷ [], (v-store ∷ [], (v-bytes ∷ [], (LL.val Millis′.the-type Millis″.the-laws reading ∷ [], (v-reply ∷ [], tt))))))))))))))), tt)
 
-  goes : (κs : Lfts) (γs : Names) → ent 𝓤 (⋆ 𝓤 H A ((‵ (flft (κs .0) fullShare) ⊛ ‵ (flft (κs .1 .0) fullShare) ⊛ ‵ (flft (κs .1 .1 .0) fullShare) ⊛ ‵ (flft (κs .1 .1 .1 .0) fullShare) ⊛ ‵ (flft (κs .1 .1 .1 .1 .0) fullShare) ⊛ ‵ (flft (κs .1 .1 .1 .1 .1 .0) fullShare) ⊛ ‵ (flft (κs .1 .1 .1 .1 .1 .1 .0) fullShare) ⊛ ‵ (flft (κs .1 .1 .1 .1 .1 .1 .1 .0) fullShare) ⊛ ‵ (flft (κs .1 .1 .1 .1 .1 .1 .1 .1 .0) fullShare) ⊛ ‵ (flft (κs .1 .1 .1 .1 .1 .1 .1 .1 .1 .0) fullShare) ⊛ ‵ (flft κ1 q1) ⊛ ‵ (flft κ2 q2) ⊛ ‵ (flft κ3 q3) ⊛ ‵ ftrue) ∷ ‵ (Refs κs b o γs h) ∷ ‵ (owns (Kept′.the-row ∷ MutSlice (named 1) κ1 u8 ∷ ShrSlice (named 2) κ2 u8 ∷ Millis′.the-row ∷ MutSlice (named 3) κ3 u8 ∷ []) (kept, (store, (bytes, (reading, (reply, tt))))) (LL.val Kept′.the-type Kept″.the-laws kept ∷ [], (v-store ∷ [], (v-bytes ∷ [], (LL.val Millis′.the-type Millis″.the-laws reading ∷ [], (v-reply ∷ [], tt)))))) ∷ [])) (Callee 𝓤 H A at-mem run .pre (to-callee κs γs))
-  goes κs γs = qed W ((‵ (flft (κs .0) fullShare) ⊛ ‵ (flft (κs .1 .0) fullShare) ⊛ ‵ (flft (κs .1 .1 .0) fullShare) ⊛ ‵ (flft (κs .1 .1 .1 .0) fullShare) ⊛ ‵ (flft (κs .1 .1 .1 .1 .0) fullShare) ⊛ ‵ (flft (κs .1 .1 .1 .1 .1 .0) fullShare) ⊛ ‵ (flft (κs .1 .1 .1 .1 .1 .1 .0) fullShare) ⊛ ‵ (flft (κs .1 .1 .1 .1 .1 .1 .1 .0) fullShare) ⊛ ‵ (flft (κs .1 .1 .1 .1 .1 .1 .1 .1 .0) fullShare) ⊛ ‵ (flft (κs .1 .1 .1 .1 .1 .1 .1 .1 .1 .0) fullShare) ⊛ ‵ (flft κ1 q1) ⊛ ‵ (flft κ2 q2) ⊛ ‵ (flft κ3 q3) ⊛ ‵ ftrue) ∷ ‵ (Refs κs b o γs h) ∷ ‵ (owns (Kept′.the-row ∷ MutSlice (named 1) κ1 u8 ∷ ShrSlice (named 2) κ2 u8 ∷ Millis′.the-row ∷ MutSlice (named 3) κ3 u8 ∷ []) (kept, (store, (bytes, (reading, (reply, tt))))) (LL.val Kept′.the-type Kept″.the-laws kept ∷ [], (v-store ∷ [], (v-bytes ∷ [], (LL.val Millis′.the-type Millis″.the-laws reading ∷ [], (v-reply ∷ [], tt)))))) ∷ []) ∵
-      move ! (1 ∷ []) $ fsplit ! $ move ! (1 ∷ []) $ fsplit ! $ move ! (1 ∷ []) $ fsplit ! $ move ! (1 ∷ []) $ fsplit ! $ move ! (1 ∷ []) $ fsplit ! $ move ! (1 ∷ []) $ fsplit ! $ move ! (1 ∷ []) $ fsplit ! $ move ! (1 ∷ []) $ fsplit ! $ move ! (1 ∷ []) $ fsplit ! $ move ! (1 ∷ 11 ∷ []) $ fjoin ! $ move ! (1 ∷ 0 ∷ []) $ fjoin ! $ move ! (1 ∷ 0 ∷ []) $ fjoin ! $ move ! (1 ∷ 0 ∷ []) $ fjoin ! $ move ! (1 ∷ 0 ∷ []) $ fjoin ! $ move ! (1 ∷ 0 ∷ []) $ fjoin ! $ move ! (1 ∷ 0 ∷ []) $ fjoin ! $ move ! (1 ∷ 0 ∷ []) $ fjoin ! $ move ! (1 ∷ 0 ∷ []) $ fjoin ! $ move ! (1 ∷ 0 ∷ []) $ fjoin ! $ move ! (1 ∷ 0 ∷ []) $ join ! $ frame ! $ done !
+  goes : (κs : Lfts) (γs : Names) → ent 𝓤 (⋆ 𝓤 H A ((‵ (flft (κs .0) fullShare) ⊛ ‵ (flft (κs .1 .0) fullShare) ⊛ ‵ (flft (κs .1 .1 .0) fullShare) ⊛ ‵ (flft (κs .1 .1 .1 .0) fullShare) ⊛ ‵ (flft (κs .1 .1 .1 .1 .0) fullShare) ⊛ ‵ (flft (κs .1 .1 .1 .1 .1 .0) fullShare) ⊛ ‵ (flft (κs .1 .1 .1 .1 .1 .1 .0) fullShare) ⊛ ‵ (flft (κs .1 .1 .1 .1 .1 .1 .1 .0) fullShare) ⊛ ‵ (flft (κs .1 .1 .1 .1 .1 .1 .1 .1 .0) fullShare) ⊛ ‵ (flft κ1 q1) ⊛ ‵ (flft κ2 q2) ⊛ ‵ (flft κ3 q3) ⊛ ‵ ftrue) ∷ ‵ (Refs κs b o γs h) ∷ ‵ (owns (Kept′.the-row ∷ MutSlice (named 1) κ1 u8 ∷ ShrSlice (named 2) κ2 u8 ∷ Millis′.the-row ∷ MutSlice (named 3) κ3 u8 ∷ []) (kept, (store, (bytes, (reading, (reply, tt))))) (LL.val Kept′.the-type Kept″.the-laws kept ∷ [], (v-store ∷ [], (v-bytes ∷ [], (LL.val Millis′.the-type Millis″.the-laws reading ∷ [], (v-reply ∷ [], tt)))))) ∷ [])) (Callee 𝓤 H A at-mem run .pre (to-callee κs γs))
+  goes κs γs = qed W ((‵ (flft (κs .0) fullShare) ⊛ ‵ (flft (κs .1 .0) fullShare) ⊛ ‵ (flft (κs .1 .1 .0) fullShare) ⊛ ‵ (flft (κs .1 .1 .1 .0) fullShare) ⊛ ‵ (flft (κs .1 .1 .1 .1 .0) fullShare) ⊛ ‵ (flft (κs .1 .1 .1 .1 .1 .0) fullShare) ⊛ ‵ (flft (κs .1 .1 .1 .1 .1 .1 .0) fullShare) ⊛ ‵ (flft (κs .1 .1 .1 .1 .1 .1 .1 .0) fullShare) ⊛ ‵ (flft (κs .1 .1 .1 .1 .1 .1 .1 .1 .0) fullShare) ⊛ ‵ (flft κ1 q1) ⊛ ‵ (flft κ2 q2) ⊛ ‵ (flft κ3 q3) ⊛ ‵ ftrue) ∷ ‵ (Refs κs b o γs h) ∷ ‵ (owns (Kept′.the-row ∷ MutSlice (named 1) κ1 u8 ∷ ShrSlice (named 2) κ2 u8 ∷ Millis′.the-row ∷ MutSlice (named 3) κ3 u8 ∷ []) (kept, (store, (bytes, (reading, (reply, tt))))) (LL.val Kept′.the-type Kept″.the-laws kept ∷ [], (v-store ∷ [], (v-bytes ∷ [], (LL.val Millis′.the-type Millis″.the-laws reading ∷ [], (v-reply ∷ [], tt)))))) ∷ []) ∵
+      move ! (1 ∷ []) $ fsplit ! $ move ! (1 ∷ []) $ fsplit ! $ move ! (1 ∷ []) $ fsplit ! $ move ! (1 ∷ []) $ fsplit ! $ move ! (1 ∷ []) $ fsplit ! $ move ! (1 ∷ []) $ fsplit ! $ move ! (1 ∷ []) $ fsplit ! $ move ! (1 ∷ []) $ fsplit ! $ move ! (1 ∷ 10 ∷ []) $ fjoin ! $ move ! (1 ∷ 0 ∷ []) $ fjoin ! $ move ! (1 ∷ 0 ∷ []) $ fjoin ! $ move ! (1 ∷ 0 ∷ []) $ fjoin ! $ move ! (1 ∷ 0 ∷ []) $ fjoin ! $ move ! (1 ∷ 0 ∷ []) $ fjoin ! $ move ! (1 ∷ 0 ∷ []) $ fjoin ! $ move ! (1 ∷ 0 ∷ []) $ fjoin ! $ move ! (1 ∷ 0 ∷ []) $ fjoin ! $ move ! (1 ∷ 0 ∷ []) $ join ! $ frame ! $ done !
 
   exits : (r : Heard) (z : State) (z-store z-reply : List ℕ) → Promised r z z-store z-reply → length z-store ≡ length (store .now) → length z-reply ≡ length (reply .now) → Is Heard′.the-row r (outcome-val r ∷ []) → ent 𝓤 (⋆ 𝓤 H A (‵ (flft κ q) ∷ (‵ (flft κ1 q1) ⊛ ‵ (flft κ2 q2) ⊛ ‵ (flft κ3 q3) ⊛ ‵ ftrue) ∷ ‵ (fobs γ (R .coded .code z)) ∷ ‵ (fbor κ (Body (mem R) b o γ)) ∷ ‵ (finally u8 (store .name) z-store) ∷ ‵ (finally u8 (reply .name) z-reply) ∷ [])) (Post (outcome-val r))
   exits r z z-store z-reply e l-store l-reply is =
@@ -121,47 +121,46 @@ module _ {M : Type 1} (𝓤 : URA M) (H : Heap 𝓤) (A : Atoms 𝓤) (W : Given
     walk : Is (Kept′.the-row) kept (LL.val Kept′.the-type Kept″.the-laws kept ∷ []) → Is (MutSlice (named 1) κ1 u8) store (v-store ∷ []) → Is (ShrSlice (named 2) κ2 u8) bytes (v-bytes ∷ []) → Is (Millis′.the-row) reading (LL.val Millis′.the-type Millis″.the-laws reading ∷ []) → Is (MutSlice (named 3) κ3 u8) reply (v-reply ∷ []) → ent 𝓤 (onEntry 𝓤 H A hear′.signature (κ, (κ1, (κ2, (κ3, tt)))) (q, (q1, (q2, (q3, tt)))) a vals) (WpFn 𝓤 H C Λ code.function (vptr b o ∷ LL.val Kept′.the-type Kept″.the-laws kept ∷ v-store ∷ v-bytes ∷ LL.val Millis′.the-type Millis″.the-laws reading ∷ v-reply ∷ []) Post)
     walk is-kept is-store is-bytes is-reading is-reply =
         qed W ((‵ (flft κ q) ⊛ ‵ (flft κ1 q1) ⊛ ‵ (flft κ2 q2) ⊛ ‵ (flft κ3 q3) ⊛ ‵ ftrue) ∷ ‵ (owns (MutRef (named 0) κ R ∷ Kept′.the-row ∷ MutSlice (named 1) κ1 u8 ∷ ShrSlice (named 2) κ2 u8 ∷ Millis′.the-row ∷ MutSlice (named 3) κ3 u8 ∷ []) a vals) ∷ []) ∵ enter ! C Λ code.function (vptr b o ∷ LL.val Kept′.the-type Kept″.the-laws kept ∷ v-store ∷ v-bytes ∷ LL.val Millis′.the-type Millis″.the-laws reading ∷ v-reply ∷ []) _ $
-        alloc1 ! (λ l0. alloc1 ! (λ l1. alloc1 ! (λ l2. alloc1 ! (λ l3. alloc1 ! (λ l4. alloc1 ! (λ l5. alloc1 ! (λ l6. alloc1 ! (λ l7. alloc1 ! (λ l8. alloc1 ! (λ l9. alloc1 ! (λ l10. alloc1 ! (λ l11. alloc1 ! (λ l12. alloc1 ! (λ l13. alloc1 ! (λ l14. alloc1 ! (λ l15. alloc1 ! (λ l16. alloc1 ! (λ l17. alloc1 ! (λ l18. alloc1 ! (λ l19. alloc1 ! (λ l20. alloc0 ! $ params1 ! $ pass1 ! (init ! 38 refl (tt, tt)) $
-        pass1 ! (init ! 36 refl (LL.lawful Kept′.the-type Kept″.the-laws 𝓤 H A W .typed kept _ is-kept .0)) $
-        pass1 ! (init ! 34 refl (mut-slice-lawful 𝓤 H A W (named 1) κ1 u8 .typed store (v-store ∷ []) is-store .0)) $
-        pass1 ! (init ! 32 refl (shr-slice-lawful 𝓤 H A W (named 2) κ2 u8 .typed bytes (v-bytes ∷ []) is-bytes .0)) $
-        pass1 ! (init ! 30 refl (LL.lawful Millis′.the-type Millis″.the-laws 𝓤 H A W .typed reading _ is-reading .0)) $
-        pass1 ! (init ! 28 refl (mut-slice-lawful 𝓤 H A W (named 3) κ3 u8 .typed reply (v-reply ∷ []) is-reply .0)) $
+        alloc1 ! (λ l0. alloc1 ! (λ l1. alloc1 ! (λ l2. alloc1 ! (λ l3. alloc1 ! (λ l4. alloc1 ! (λ l5. alloc1 ! (λ l6. alloc1 ! (λ l7. alloc1 ! (λ l8. alloc1 ! (λ l9. alloc1 ! (λ l10. alloc1 ! (λ l11. alloc1 ! (λ l12. alloc1 ! (λ l13. alloc1 ! (λ l14. alloc1 ! (λ l15. alloc1 ! (λ l16. alloc1 ! (λ l17. alloc1 ! (λ l18. alloc1 ! (λ l19. alloc0 ! $ params1 ! $ pass1 ! (init ! 36 refl (tt, tt)) $
+        pass1 ! (init ! 34 refl (LL.lawful Kept′.the-type Kept″.the-laws 𝓤 H A W .typed kept _ is-kept .0)) $
+        pass1 ! (init ! 32 refl (mut-slice-lawful 𝓤 H A W (named 1) κ1 u8 .typed store (v-store ∷ []) is-store .0)) $
+        pass1 ! (init ! 30 refl (shr-slice-lawful 𝓤 H A W (named 2) κ2 u8 .typed bytes (v-bytes ∷ []) is-bytes .0)) $
+        pass1 ! (init ! 28 refl (LL.lawful Millis′.the-type Millis″.the-laws 𝓤 H A W .typed reading _ is-reading .0)) $
+        pass1 ! (init ! 26 refl (mut-slice-lawful 𝓤 H A W (named 3) κ3 u8 .typed reply (v-reply ∷ []) is-reply .0)) $
         pass0 ! $
         -- the addresses of the fields
-        assigns ! (addr ! (from ! (hop ! (look ! 38 refl) (fld ! refl (fld ! refl (stop !)))))) (from ! (stop !)) (init ! 26 refl (tt, tt)) $
-        assigns ! (addr ! (from ! (hop ! (look ! 38 refl) (fld ! refl (fld ! refl (stop !)))))) (from ! (stop !)) (init ! 24 refl (tt, tt)) $
-        assigns ! (addr ! (from ! (hop ! (look ! 38 refl) (fld ! refl (fld ! refl (stop !)))))) (from ! (stop !)) (init ! 22 refl (tt, tt)) $
-        assigns ! (addr ! (from ! (hop ! (look ! 38 refl) (fld ! refl (fld ! refl (stop !)))))) (from ! (stop !)) (init ! 20 refl (tt, tt)) $
-        assigns ! (addr ! (from ! (hop ! (look ! 38 refl) (fld ! refl (fld ! refl (stop !)))))) (from ! (stop !)) (init ! 18 refl (tt, tt)) $
-        assigns ! (addr ! (from ! (hop ! (look ! 38 refl) (fld ! refl (fld ! refl (stop !)))))) (from ! (stop !)) (init ! 16 refl (tt, tt)) $
-        assigns ! (addr ! (from ! (hop ! (look ! 38 refl) (fld ! refl (fld ! refl (stop !)))))) (from ! (stop !)) (init ! 14 refl (tt, tt)) $
-        assigns ! (addr ! (from ! (hop ! (look ! 38 refl) (fld ! refl (fld ! refl (stop !)))))) (from ! (stop !)) (init ! 12 refl (tt, tt)) $
-        assigns ! (addr ! (from ! (hop ! (look ! 38 refl) (fld ! refl (stop !))))) (from ! (stop !)) (init ! 10 refl (tt, tt)) $
-        assigns ! (addr ! (from ! (hop ! (look ! 38 refl) (fld ! refl (fld ! refl (stop !)))))) (from ! (stop !)) (init ! 8 refl (tt, tt)) $
-        assigns ! (addr ! (from ! (fld ! refl (hop ! (look-in ! 34 (sub ! 0 refl (whole !))) (stop !))))) (from ! (stop !)) (init ! 6 refl (tt, tt)) $
-        assigns ! (agg ! (and-then ! (load ! (from ! (stop !)) (look ! 6 refl)) (and-then ! (load ! (from ! (fld ! refl (stop !))) (look-in ! 34 (sub ! 1 refl (whole !)))) (no-more !)))) (from ! (stop !)) (init ! 4 refl (mut-slice-lawful 𝓤 H A W erased κ1 u8 .typed store (v-store ∷ []) is-store .0)) $
-        assigns ! (addr ! (from ! (fld ! refl (hop ! (look-in ! 28 (sub ! 0 refl (whole !))) (stop !))))) (from ! (stop !)) (init ! 2 refl (tt, tt)) $
-        assigns ! (agg ! (and-then ! (load ! (from ! (stop !)) (look ! 2 refl)) (and-then ! (load ! (from ! (fld ! refl (stop !))) (look-in ! 28 (sub ! 1 refl (whole !)))) (no-more !)))) (from ! (stop !)) (init ! 0 refl (mut-slice-lawful 𝓤 H A W erased κ3 u8 .typed reply (v-reply ∷ []) is-reply .0)) $
+        assigns ! (addr ! (from ! (hop ! (look ! 36 refl) (fld ! refl (fld ! refl (stop !)))))) (from ! (stop !)) (init ! 24 refl (tt, tt)) $
+        assigns ! (addr ! (from ! (hop ! (look ! 36 refl) (fld ! refl (fld ! refl (stop !)))))) (from ! (stop !)) (init ! 22 refl (tt, tt)) $
+        assigns ! (addr ! (from ! (hop ! (look ! 36 refl) (fld ! refl (fld ! refl (stop !)))))) (from ! (stop !)) (init ! 20 refl (tt, tt)) $
+        assigns ! (addr ! (from ! (hop ! (look ! 36 refl) (fld ! refl (fld ! refl (stop !)))))) (from ! (stop !)) (init ! 18 refl (tt, tt)) $
+        assigns ! (addr ! (from ! (hop ! (look ! 36 refl) (fld ! refl (fld ! refl (stop !)))))) (from ! (stop !)) (init ! 16 refl (tt, tt)) $
+        assigns ! (addr ! (from ! (hop ! (look ! 36 refl) (fld ! refl (fld ! refl (stop !)))))) (from ! (stop !)) (init ! 14 refl (tt, tt)) $
+        assigns ! (addr ! (from ! (hop ! (look ! 36 refl) (fld ! refl (fld ! refl (stop !)))))) (from ! (stop !)) (init ! 12 refl (tt, tt)) $
+        assigns ! (addr ! (from ! (hop ! (look ! 36 refl) (fld ! refl (fld ! refl (stop !)))))) (from ! (stop !)) (init ! 10 refl (tt, tt)) $
+        assigns ! (addr ! (from ! (hop ! (look ! 36 refl) (fld ! refl (fld ! refl (stop !)))))) (from ! (stop !)) (init ! 8 refl (tt, tt)) $
+        assigns ! (addr ! (from ! (fld ! refl (hop ! (look-in ! 32 (sub ! 0 refl (whole !))) (stop !))))) (from ! (stop !)) (init ! 6 refl (tt, tt)) $
+        assigns ! (agg ! (and-then ! (load ! (from ! (stop !)) (look ! 6 refl)) (and-then ! (load ! (from ! (fld ! refl (stop !))) (look-in ! 32 (sub ! 1 refl (whole !)))) (no-more !)))) (from ! (stop !)) (init ! 4 refl (mut-slice-lawful 𝓤 H A W erased κ1 u8 .typed store (v-store ∷ []) is-store .0)) $
+        assigns ! (addr ! (from ! (fld ! refl (hop ! (look-in ! 26 (sub ! 0 refl (whole !))) (stop !))))) (from ! (stop !)) (init ! 2 refl (tt, tt)) $
+        assigns ! (agg ! (and-then ! (load ! (from ! (stop !)) (look ! 2 refl)) (and-then ! (load ! (from ! (fld ! refl (stop !))) (look-in ! 26 (sub ! 1 refl (whole !)))) (no-more !)))) (from ! (stop !)) (init ! 0 refl (mut-slice-lawful 𝓤 H A W erased κ3 u8 .typed reply (v-reply ∷ []) is-reply .0)) $
         -- the state's borrow is opened, and each field is lent for a lifetime of the call
-        move ! (43 ∷ []) $ fsplit ! $ fsplit3 ! $ drop ! $ move ! (45 ∷ []) $ split ! $ move ! (2 ∷ 3 ∷ 0 ∷ []) $ open-ref ! tt (mem R) {x = h} {b = b} {o = o} $
-        lft-new ! tt (λ ν0. lft-new ! tt (λ ν1. lft-new ! tt (λ ν2. lft-new ! tt (λ ν3. lft-new ! tt (λ ν4. lft-new ! tt (λ ν5. lft-new ! tt (λ ν6. lft-new ! tt (λ ν7. lft-new ! tt (λ ν8. lft-new ! tt (λ ν9.
-        move ! (10 ∷ []) $ use1 W (later (some (λ (γs : Names). ‵ (Refs (ν0 ∷ [], (ν1 ∷ [], (ν2 ∷ [], (ν3 ∷ [], (ν4 ∷ [], (ν5 ∷ [], (ν6 ∷ [], (ν7 ∷ [], (ν8 ∷ [], (ν9 ∷ [], tt)))))))))) b o γs h) ⊛ Lender 𝓤 H A b o (ν0 ∷ [], (ν1 ∷ [], (ν2 ∷ [], (ν3 ∷ [], (ν4 ∷ [], (ν5 ∷ [], (ν6 ∷ [], (ν7 ∷ [], (ν8 ∷ [], (ν9 ∷ [], tt)))))))))) γs h))) (lends-all 𝓤 H A W b o (ν0 ∷ [], (ν1 ∷ [], (ν2 ∷ [], (ν3 ∷ [], (ν4 ∷ [], (ν5 ∷ [], (ν6 ∷ [], (ν7 ∷ [], (ν8 ∷ [], (ν9 ∷ [], tt)))))))))) h) $ await ! tt $ pick ! (λ γs. split ! $
-        move ! (2 ∷ 15 ∷ []) $ join ! $ move ! (3 ∷ 0 ∷ []) $ join ! $ move ! (3 ∷ 0 ∷ []) $ join ! $ move ! (3 ∷ 0 ∷ []) $ join ! $ move ! (3 ∷ 0 ∷ []) $ join ! $ move ! (3 ∷ 0 ∷ []) $ join ! $ move ! (3 ∷ 0 ∷ []) $ join ! $ move ! (3 ∷ 0 ∷ []) $ join ! $ move ! (3 ∷ 0 ∷ []) $ join ! $ move ! (3 ∷ 0 ∷ []) $ join ! $ move ! (0 ∷ 1 ∷ 6 ∷ []) $ use3 W (raw (Callee 𝓤 H A at-mem run .pre (to-callee (ν0 ∷ [], (ν1 ∷ [], (ν2 ∷ [], (ν3 ∷ [], (ν4 ∷ [], (ν5 ∷ [], (ν6 ∷ [], (ν7 ∷ [], (ν8 ∷ [], (ν9 ∷ [], tt)))))))))) γs))) (goes (ν0 ∷ [], (ν1 ∷ [], (ν2 ∷ [], (ν3 ∷ [], (ν4 ∷ [], (ν5 ∷ [], (ν6 ∷ [], (ν7 ∷ [], (ν8 ∷ [], (ν9 ∷ [], tt)))))))))) γs) $
+        move ! (41 ∷ []) $ fsplit ! $ fsplit3 ! $ drop ! $ move ! (43 ∷ []) $ split ! $ move ! (2 ∷ 3 ∷ 0 ∷ []) $ open-ref ! tt (mem R) {x = h} {b = b} {o = o} $
+        lft-new ! tt (λ ν0. lft-new ! tt (λ ν1. lft-new ! tt (λ ν2. lft-new ! tt (λ ν3. lft-new ! tt (λ ν4. lft-new ! tt (λ ν5. lft-new ! tt (λ ν6. lft-new ! tt (λ ν7. lft-new ! tt (λ ν8.
+        move ! (9 ∷ []) $ use1 W (later (some (λ (γs : Names). ‵ (Refs (ν0 ∷ [], (ν1 ∷ [], (ν2 ∷ [], (ν3 ∷ [], (ν4 ∷ [], (ν5 ∷ [], (ν6 ∷ [], (ν7 ∷ [], (ν8 ∷ [], tt))))))))) b o γs h) ⊛ Lender 𝓤 H A b o (ν0 ∷ [], (ν1 ∷ [], (ν2 ∷ [], (ν3 ∷ [], (ν4 ∷ [], (ν5 ∷ [], (ν6 ∷ [], (ν7 ∷ [], (ν8 ∷ [], tt))))))))) γs h))) (lends-all 𝓤 H A W b o (ν0 ∷ [], (ν1 ∷ [], (ν2 ∷ [], (ν3 ∷ [], (ν4 ∷ [], (ν5 ∷ [], (ν6 ∷ [], (ν7 ∷ [], (ν8 ∷ [], tt))))))))) h) $ await ! tt $ pick ! (λ γs. split ! $
+        move ! (2 ∷ 14 ∷ []) $ join ! $ move ! (3 ∷ 0 ∷ []) $ join ! $ move ! (3 ∷ 0 ∷ []) $ join ! $ move ! (3 ∷ 0 ∷ []) $ join ! $ move ! (3 ∷ 0 ∷ []) $ join ! $ move ! (3 ∷ 0 ∷ []) $ join ! $ move ! (3 ∷ 0 ∷ []) $ join ! $ move ! (3 ∷ 0 ∷ []) $ join ! $ move ! (3 ∷ 0 ∷ []) $ join ! $ move ! (0 ∷ 1 ∷ 6 ∷ []) $ use3 W (raw (Callee 𝓤 H A at-mem run .pre (to-callee (ν0 ∷ [], (ν1 ∷ [], (ν2 ∷ [], (ν3 ∷ [], (ν4 ∷ [], (ν5 ∷ [], (ν6 ∷ [], (ν7 ∷ [], (ν8 ∷ [], tt))))))))) γs))) (goes (ν0 ∷ [], (ν1 ∷ [], (ν2 ∷ [], (ν3 ∷ [], (ν4 ∷ [], (ν5 ∷ [], (ν6 ∷ [], (ν7 ∷ [], (ν8 ∷ [], tt))))))))) γs) $
         -- the call
-        calls-at ! fm (Callee 𝓤 H A at-mem run) known (to-callee (ν0 ∷ [], (ν1 ∷ [], (ν2 ∷ [], (ν3 ∷ [], (ν4 ∷ [], (ν5 ∷ [], (ν6 ∷ [], (ν7 ∷ [], (ν8 ∷ [], (ν9 ∷ [], tt)))))))))) γs) (and-then ! (load ! (from ! (stop !)) (look ! 31 refl)) (and-then ! (load ! (from ! (stop !)) (look ! 29 refl)) (and-then ! (load ! (from ! (stop !)) (look ! 27 refl)) (and-then ! (load ! (from ! (stop !)) (look ! 25 refl)) (and-then ! (load ! (from ! (stop !)) (look ! 23 refl)) (and-then ! (load ! (from ! (stop !)) (look ! 21 refl)) (and-then ! (load ! (from ! (stop !)) (look ! 19 refl)) (and-then ! (load ! (from ! (stop !)) (look ! 17 refl)) (and-then ! (load ! (from ! (stop !)) (look ! 15 refl)) (and-then ! (load ! (from ! (stop !)) (look ! 13 refl)) (and-then ! (load ! (from ! (stop !)) (look ! 41 refl)) (and-then ! (load ! (from ! (stop !)) (look ! 9 refl)) (and-then ! (load ! (from ! (stop !)) (look ! 37 refl)) (and-then ! (load ! (from ! (stop !)) (look ! 35 refl)) (and-then ! (load ! (from ! (stop !)) (look ! 5 refl)) (no-more !)))))))))))))))) (λ w.
-        use1 W (later (some (λ (r : Heard). ((‵ (flft (ν0 ∷ []) fullShare) ⊛ ‵ (flft (ν1 ∷ []) fullShare) ⊛ ‵ (flft (ν2 ∷ []) fullShare) ⊛ ‵ (flft (ν3 ∷ []) fullShare) ⊛ ‵ (flft (ν4 ∷ []) fullShare) ⊛ ‵ (flft (ν5 ∷ []) fullShare) ⊛ ‵ (flft (ν6 ∷ []) fullShare) ⊛ ‵ (flft (ν7 ∷ []) fullShare) ⊛ ‵ (flft (ν8 ∷ []) fullShare) ⊛ ‵ (flft (ν9 ∷ []) fullShare) ⊛ ‵ (flft κ1 q1) ⊛ ‵ (flft κ2 q2) ⊛ ‵ (flft κ3 q3) ⊛ ‵ ftrue) ⊛ ‵ (Heard′.the-row .own r (w ∷ []))) ⊛ raw (ensured 𝓤 H A first-lent′.ended (first-lent′.clauses 𝓤 H A at-mem run) (ν0 ∷ [], (ν1 ∷ [], (ν2 ∷ [], (ν3 ∷ [], (ν4 ∷ [], (ν5 ∷ [], (ν6 ∷ [], (ν7 ∷ [], (ν8 ∷ [], (ν9 ∷ [], (κ1, (κ2, (κ3, tt))))))))))))) (ref-columns-numbers b o γs h, (ref-columns-readings b o γs h, (ref-columns-blob-lens b o γs h, (ref-columns-fields-lens b o γs h, (ref-columns-comment-lens b o γs h, (ref-columns-seconds b o γs h, (ref-columns-limited b o γs h, (ref-columns-confirm b o γs h, (ref-comments b o γs h, (ref-lock-bytes b o γs h, (kept, (store, (bytes, (reading, (reply, tt))))))))))))))) tt r)))) (id⊢ 𝓤 _) $ await ! tt $ pick ! (λ r. split ! $ move ! (1 ∷ []) $
-        use1 W (some (λ (zs : List ℕ × (List ℕ × (List ℕ × (List ℕ × (List ℕ × (List ℕ × (List ℕ × (List ℕ × (List ℕ × (List ℕ × (Unit {0} × (List ℕ × (Unit {0} × (Unit {0} × (List ℕ × Unit {0}))))))))))))))). ‵ (lasts first-lent′.ended (ν0 ∷ [], (ν1 ∷ [], (ν2 ∷ [], (ν3 ∷ [], (ν4 ∷ [], (ν5 ∷ [], (ν6 ∷ [], (ν7 ∷ [], (ν8 ∷ [], (ν9 ∷ [], (κ1, (κ2, (κ3, tt))))))))))))) (ref-columns-numbers b o γs h, (ref-columns-readings b o γs h, (ref-columns-blob-lens b o γs h, (ref-columns-fields-lens b o γs h, (ref-columns-comment-lens b o γs h, (ref-columns-seconds b o γs h, (ref-columns-limited b o γs h, (ref-columns-confirm b o γs h, (ref-comments b o γs h, (ref-lock-bytes b o γs h, (kept, (store, (bytes, (reading, (reply, tt))))))))))))))) zs) ⊛ raw (fact 𝓤 (Granted r (record { columns = record { numbers = zs .0; readings = zs .1 .0; «blob_lens» = zs .1 .1 .0; «fields_lens» = zs .1 .1 .1 .0; «comment_lens» = zs .1 .1 .1 .1 .0; seconds = zs .1 .1 .1 .1 .1 .0; limited = zs .1 .1 .1 .1 .1 .1 .0; confirm = zs .1 .1 .1 .1 .1 .1 .1 .0 }; comments = zs .1 .1 .1 .1 .1 .1 .1 .1 .0; lock = record { bytes = zs .1 .1 .1 .1 .1 .1 .1 .1 .1 .0; len = h .lock .len }; clock = h .clock; next = h .next }) (zs .1 .1 .1 .1 .1 .1 .1 .1 .1 .1 .1 .0) (zs .1 .1 .1 .1 .1 .1 .1 .1 .1 .1 .1 .1 .1 .1 .0))))) (id⊢ 𝓤 _) $ pick ! (λ zs. split ! $ move ! (1 ∷ []) $ heard ! (Granted r (record { columns = record { numbers = zs .0; readings = zs .1 .0; «blob_lens» = zs .1 .1 .0; «fields_lens» = zs .1 .1 .1 .0; «comment_lens» = zs .1 .1 .1 .1 .0; seconds = zs .1 .1 .1 .1 .1 .0; limited = zs .1 .1 .1 .1 .1 .1 .0; confirm = zs .1 .1 .1 .1 .1 .1 .1 .0 }; comments = zs .1 .1 .1 .1 .1 .1 .1 .1 .0; lock = record { bytes = zs .1 .1 .1 .1 .1 .1 .1 .1 .1 .0; len = h .lock .len }; clock = h .clock; next = h .next }) (zs .1 .1 .1 .1 .1 .1 .1 .1 .1 .1 .1 .0) (zs .1 .1 .1 .1 .1 .1 .1 .1 .1 .1 .1 .1 .1 .1 .0)) (λ e.
-        fsplit ! $ move ! (1 ∷ []) $ fsplit ! $ move ! (1 ∷ []) $ fsplit ! $ move ! (1 ∷ []) $ fsplit ! $ move ! (1 ∷ []) $ fsplit ! $ move ! (1 ∷ []) $ fsplit ! $ move ! (1 ∷ []) $ fsplit ! $ move ! (1 ∷ []) $ fsplit ! $ move ! (1 ∷ []) $ fsplit ! $ move ! (1 ∷ []) $ fsplit ! $ move ! (1 ∷ []) $ fsplit ! $ drop ! $ fsplit ! $ fsplit ! $ move ! (1 ∷ []) $ feqL ! (λ l-store. move ! (1 ∷ []) $ fsplit ! $ drop ! $ fsplit ! $ drop ! $ fsplit ! $ fsplit ! $ move ! (1 ∷ []) $ feqL ! (λ l-reply. move ! (1 ∷ []) $ drop ! $
-        move ! (3 ∷ 2 ∷ []) $ fjoin ! $ move ! (3 ∷ 0 ∷ []) $ fjoin ! $ move ! (3 ∷ 0 ∷ []) $ fjoin ! $ move ! (3 ∷ 0 ∷ []) $ fjoin ! $ move ! (3 ∷ 0 ∷ []) $ fjoin ! $ move ! (3 ∷ 0 ∷ []) $ fjoin ! $ move ! (3 ∷ 0 ∷ []) $ fjoin ! $ move ! (3 ∷ 0 ∷ []) $ fjoin ! $ move ! (3 ∷ 0 ∷ []) $ fjoin ! $ move ! (3 ∷ []) $ split ! $ move ! (1 ∷ []) $ peeks ! Heard′.the-row (Is Heard′.the-row) (shows 𝓤 H A Heard′.the-row) r (w ∷ []) (λ is. drop ! $
-        land ! (from ! (stop !)) (init ! 48 refl (LL.lawful Heard′.the-type Heard″.the-laws 𝓤 H A W .typed r _ is .0)) $ rewrite ! 48 (λ (u : Val). ‵ (fat fullShare Heard″.mir l0 0 u)) (ap only (LL.tells Heard′.the-type Heard″.the-laws r _ is)) refl $
+        calls-at ! fm (Callee 𝓤 H A at-mem run) known (to-callee (ν0 ∷ [], (ν1 ∷ [], (ν2 ∷ [], (ν3 ∷ [], (ν4 ∷ [], (ν5 ∷ [], (ν6 ∷ [], (ν7 ∷ [], (ν8 ∷ [], tt))))))))) γs) (and-then ! (load ! (from ! (stop !)) (look ! 29 refl)) (and-then ! (load ! (from ! (stop !)) (look ! 27 refl)) (and-then ! (load ! (from ! (stop !)) (look ! 25 refl)) (and-then ! (load ! (from ! (stop !)) (look ! 23 refl)) (and-then ! (load ! (from ! (stop !)) (look ! 21 refl)) (and-then ! (load ! (from ! (stop !)) (look ! 19 refl)) (and-then ! (load ! (from ! (stop !)) (look ! 17 refl)) (and-then ! (load ! (from ! (stop !)) (look ! 15 refl)) (and-then ! (load ! (from ! (stop !)) (look ! 13 refl)) (and-then ! (load ! (from ! (stop !)) (look ! 39 refl)) (and-then ! (load ! (from ! (stop !)) (look ! 9 refl)) (and-then ! (load ! (from ! (stop !)) (look ! 35 refl)) (and-then ! (load ! (from ! (stop !)) (look ! 33 refl)) (and-then ! (load ! (from ! (stop !)) (look ! 5 refl)) (no-more !))))))))))))))) (λ w.
+        use1 W (later (some (λ (r : Heard). ((‵ (flft (ν0 ∷ []) fullShare) ⊛ ‵ (flft (ν1 ∷ []) fullShare) ⊛ ‵ (flft (ν2 ∷ []) fullShare) ⊛ ‵ (flft (ν3 ∷ []) fullShare) ⊛ ‵ (flft (ν4 ∷ []) fullShare) ⊛ ‵ (flft (ν5 ∷ []) fullShare) ⊛ ‵ (flft (ν6 ∷ []) fullShare) ⊛ ‵ (flft (ν7 ∷ []) fullShare) ⊛ ‵ (flft (ν8 ∷ []) fullShare) ⊛ ‵ (flft κ1 q1) ⊛ ‵ (flft κ2 q2) ⊛ ‵ (flft κ3 q3) ⊛ ‵ ftrue) ⊛ ‵ (Heard′.the-row .own r (w ∷ []))) ⊛ raw (ensured 𝓤 H A first-lent′.ended (first-lent′.clauses 𝓤 H A at-mem run) (ν0 ∷ [], (ν1 ∷ [], (ν2 ∷ [], (ν3 ∷ [], (ν4 ∷ [], (ν5 ∷ [], (ν6 ∷ [], (ν7 ∷ [], (ν8 ∷ [], (κ1, (κ2, (κ3, tt)))))))))))) (ref-columns-numbers b o γs h, (ref-columns-readings b o γs h, (ref-columns-blob-lens b o γs h, (ref-columns-fields-lens b o γs h, (ref-columns-comment-lens b o γs h, (ref-columns-seconds b o γs h, (ref-columns-limited b o γs h, (ref-columns-confirm b o γs h, (ref-lock-bytes b o γs h, (kept, (store, (bytes, (reading, (reply, tt)))))))))))))) tt r)))) (id⊢ 𝓤 _) $ await ! tt $ pick ! (λ r. split ! $ move ! (1 ∷ []) $
+        use1 W (some (λ (zs : List ℕ × (List ℕ × (List ℕ × (List ℕ × (List ℕ × (List ℕ × (List ℕ × (List ℕ × (List ℕ × (Unit {0} × (List ℕ × (Unit {0} × (Unit {0} × (List ℕ × Unit {0})))))))))))))). ‵ (lasts first-lent′.ended (ν0 ∷ [], (ν1 ∷ [], (ν2 ∷ [], (ν3 ∷ [], (ν4 ∷ [], (ν5 ∷ [], (ν6 ∷ [], (ν7 ∷ [], (ν8 ∷ [], (κ1, (κ2, (κ3, tt)))))))))))) (ref-columns-numbers b o γs h, (ref-columns-readings b o γs h, (ref-columns-blob-lens b o γs h, (ref-columns-fields-lens b o γs h, (ref-columns-comment-lens b o γs h, (ref-columns-seconds b o γs h, (ref-columns-limited b o γs h, (ref-columns-confirm b o γs h, (ref-lock-bytes b o γs h, (kept, (store, (bytes, (reading, (reply, tt)))))))))))))) zs) ⊛ raw (fact 𝓤 (Granted r (record { columns = record { numbers = zs .0; readings = zs .1 .0; «blob_lens» = zs .1 .1 .0; «fields_lens» = zs .1 .1 .1 .0; «comment_lens» = zs .1 .1 .1 .1 .0; seconds = zs .1 .1 .1 .1 .1 .0; limited = zs .1 .1 .1 .1 .1 .1 .0; confirm = zs .1 .1 .1 .1 .1 .1 .1 .0 }; lock = record { bytes = zs .1 .1 .1 .1 .1 .1 .1 .1 .0; len = h .lock .len }; clock = h .clock; next = h .next }) (zs .1 .1 .1 .1 .1 .1 .1 .1 .1 .1 .0) (zs .1 .1 .1 .1 .1 .1 .1 .1 .1 .1 .1 .1 .1 .0))))) (id⊢ 𝓤 _) $ pick ! (λ zs. split ! $ move ! (1 ∷ []) $ heard ! (Granted r (record { columns = record { numbers = zs .0; readings = zs .1 .0; «blob_lens» = zs .1 .1 .0; «fields_lens» = zs .1 .1 .1 .0; «comment_lens» = zs .1 .1 .1 .1 .0; seconds = zs .1 .1 .1 .1 .1 .0; limited = zs .1 .1 .1 .1 .1 .1 .0; confirm = zs .1 .1 .1 .1 .1 .1 .1 .0 }; lock = record { bytes = zs .1 .1 .1 .1 .1 .1 .1 .1 .0; len = h .lock .len }; clock = h .clock; next = h .next }) (zs .1 .1 .1 .1 .1 .1 .1 .1 .1 .1 .0) (zs .1 .1 .1 .1 .1 .1 .1 .1 .1 .1 .1 .1 .1 .0)) (λ e.
+        fsplit ! $ move ! (1 ∷ []) $ fsplit ! $ move ! (1 ∷ []) $ fsplit ! $ move ! (1 ∷ []) $ fsplit ! $ move ! (1 ∷ []) $ fsplit ! $ move ! (1 ∷ []) $ fsplit ! $ move ! (1 ∷ []) $ fsplit ! $ move ! (1 ∷ []) $ fsplit ! $ move ! (1 ∷ []) $ fsplit ! $ move ! (1 ∷ []) $ fsplit ! $ drop ! $ fsplit ! $ fsplit ! $ move ! (1 ∷ []) $ feqL ! (λ l-store. move ! (1 ∷ []) $ fsplit ! $ drop ! $ fsplit ! $ drop ! $ fsplit ! $ fsplit ! $ move ! (1 ∷ []) $ feqL ! (λ l-reply. move ! (1 ∷ []) $ drop ! $
+        move ! (3 ∷ 2 ∷ []) $ fjoin ! $ move ! (3 ∷ 0 ∷ []) $ fjoin ! $ move ! (3 ∷ 0 ∷ []) $ fjoin ! $ move ! (3 ∷ 0 ∷ []) $ fjoin ! $ move ! (3 ∷ 0 ∷ []) $ fjoin ! $ move ! (3 ∷ 0 ∷ []) $ fjoin ! $ move ! (3 ∷ 0 ∷ []) $ fjoin ! $ move ! (3 ∷ 0 ∷ []) $ fjoin ! $ move ! (3 ∷ []) $ split ! $ move ! (1 ∷ []) $ peeks ! Heard′.the-row (Is Heard′.the-row) (shows 𝓤 H A Heard′.the-row) r (w ∷ []) (λ is. drop ! $
+        land ! (from ! (stop !)) (init ! 46 refl (LL.lawful Heard′.the-type Heard″.the-laws 𝓤 H A W .typed r _ is .0)) $ rewrite ! 46 (λ (u : Val). ‵ (fat fullShare Heard″.mir l0 0 u)) (ap only (LL.tells Heard′.the-type Heard″.the-laws r _ is)) refl $
         -- the lifetimes are ended, the fields come back, and the borrow is closed
-        split ! $ lft-end ! tt $ move ! (1 ∷ []) $ split ! $ lft-end ! tt $ move ! (1 ∷ []) $ split ! $ lft-end ! tt $ move ! (1 ∷ []) $ split ! $ lft-end ! tt $ move ! (1 ∷ []) $ split ! $ lft-end ! tt $ move ! (1 ∷ []) $ split ! $ lft-end ! tt $ move ! (1 ∷ []) $ split ! $ lft-end ! tt $ move ! (1 ∷ []) $ split ! $ lft-end ! tt $ move ! (1 ∷ []) $ split ! $ lft-end ! tt $ move ! (1 ∷ []) $ split ! $ lft-end ! tt $ move ! (2 ∷ 0 ∷ []) $ fjoin ! $ move ! (2 ∷ 0 ∷ []) $ fjoin ! $ move ! (2 ∷ 0 ∷ []) $ fjoin ! $ move ! (2 ∷ 0 ∷ []) $ fjoin ! $ move ! (2 ∷ 0 ∷ []) $ fjoin ! $ move ! (2 ∷ 0 ∷ []) $ fjoin ! $ move ! (2 ∷ 0 ∷ []) $ fjoin ! $ move ! (2 ∷ 0 ∷ []) $ fjoin ! $ move ! (2 ∷ 0 ∷ []) $ fjoin ! $
-        move ! (0 ∷ 2 ∷ 5 ∷ []) $ use3 W (later (‵ (mem R .lies (record { columns = record { numbers = zs .0; readings = zs .1 .0; «blob_lens» = zs .1 .1 .0; «fields_lens» = zs .1 .1 .1 .0; «comment_lens» = zs .1 .1 .1 .1 .0; seconds = zs .1 .1 .1 .1 .1 .0; limited = zs .1 .1 .1 .1 .1 .1 .0; confirm = zs .1 .1 .1 .1 .1 .1 .1 .0 }; comments = zs .1 .1 .1 .1 .1 .1 .1 .1 .0; lock = record { bytes = zs .1 .1 .1 .1 .1 .1 .1 .1 .1 .0; len = h .lock .len }; clock = h .clock; next = h .next }) b o))) (comes-back 𝓤 H A W b o (ν0 ∷ [], (ν1 ∷ [], (ν2 ∷ [], (ν3 ∷ [], (ν4 ∷ [], (ν5 ∷ [], (ν6 ∷ [], (ν7 ∷ [], (ν8 ∷ [], (ν9 ∷ [], tt)))))))))) γs (record { columns = record { numbers = zs .0; readings = zs .1 .0; «blob_lens» = zs .1 .1 .0; «fields_lens» = zs .1 .1 .1 .0; «comment_lens» = zs .1 .1 .1 .1 .0; seconds = zs .1 .1 .1 .1 .1 .0; limited = zs .1 .1 .1 .1 .1 .1 .0; confirm = zs .1 .1 .1 .1 .1 .1 .1 .0 }; comments = zs .1 .1 .1 .1 .1 .1 .1 .1 .0; lock = record { bytes = zs .1 .1 .1 .1 .1 .1 .1 .1 .1 .0; len = h .lock .len }; clock = h .clock; next = h .next })) $ await ! tt $
-        move ! (0 ∷ 4 ∷ 5 ∷ 6 ∷ []) $ close-ref ! tt (mem R) (record { columns = record { numbers = zs .0; readings = zs .1 .0; «blob_lens» = zs .1 .1 .0; «fields_lens» = zs .1 .1 .1 .0; «comment_lens» = zs .1 .1 .1 .1 .0; seconds = zs .1 .1 .1 .1 .1 .0; limited = zs .1 .1 .1 .1 .1 .1 .0; confirm = zs .1 .1 .1 .1 .1 .1 .1 .0 }; comments = zs .1 .1 .1 .1 .1 .1 .1 .1 .0; lock = record { bytes = zs .1 .1 .1 .1 .1 .1 .1 .1 .1 .0; len = h .lock .len }; clock = h .clock; next = h .next }) {b = b} {o = o} $
-        returns ! (look ! 46 refl) $ forget ! 6 refl $ forget ! 8 refl $ forget ! 10 refl $ forget ! 12 refl $ forget ! 14 refl $ forget ! 16 refl $ forget ! 18 refl $ forget ! 20 refl $ forget ! 22 refl $ forget ! 24 refl $ forget ! 26 refl $ forget ! 28 refl $ forget ! 30 refl $ forget ! 32 refl $ forget ! 34 refl $ forget ! 36 refl $ forget ! 38 refl $ forget ! 40 refl $ forget ! 42 refl $ forget ! 44 refl $ forget ! 46 refl $
-        move ! (46 ∷ 47 ∷ []) $ free1 ! $ move ! (44 ∷ 45 ∷ []) $ free1 ! $ move ! (42 ∷ 43 ∷ []) $ free1 ! $ move ! (40 ∷ 41 ∷ []) $ free1 ! $ move ! (38 ∷ 39 ∷ []) $ free1 ! $ move ! (36 ∷ 37 ∷ []) $ free1 ! $ move ! (34 ∷ 35 ∷ []) $ free1 ! $ move ! (32 ∷ 33 ∷ []) $ free1 ! $ move ! (30 ∷ 31 ∷ []) $ free1 ! $ move ! (28 ∷ 29 ∷ []) $ free1 ! $ move ! (26 ∷ 27 ∷ []) $ free1 ! $ move ! (24 ∷ 25 ∷ []) $ free1 ! $ move ! (22 ∷ 23 ∷ []) $ free1 ! $ move ! (20 ∷ 21 ∷ []) $ free1 ! $ move ! (18 ∷ 19 ∷ []) $ free1 ! $ move ! (16 ∷ 17 ∷ []) $ free1 ! $ move ! (14 ∷ 15 ∷ []) $ free1 ! $ move ! (12 ∷ 13 ∷ []) $ free1 ! $ move ! (10 ∷ 11 ∷ []) $ free1 ! $ move ! (8 ∷ 9 ∷ []) $ free1 ! $ move ! (6 ∷ 7 ∷ []) $ free1 ! $ free0 ! $
-        keep ! (2 ∷ 3 ∷ 0 ∷ 1 ∷ 5 ∷ 4 ∷ []) $ by ! (exits r (record { columns = record { numbers = zs .0; readings = zs .1 .0; «blob_lens» = zs .1 .1 .0; «fields_lens» = zs .1 .1 .1 .0; «comment_lens» = zs .1 .1 .1 .1 .0; seconds = zs .1 .1 .1 .1 .1 .0; limited = zs .1 .1 .1 .1 .1 .1 .0; confirm = zs .1 .1 .1 .1 .1 .1 .1 .0 }; comments = zs .1 .1 .1 .1 .1 .1 .1 .1 .0; lock = record { bytes = zs .1 .1 .1 .1 .1 .1 .1 .1 .1 .0; len = h .lock .len }; clock = h .clock; next = h .next }) (zs .1 .1 .1 .1 .1 .1 .1 .1 .1 .1 .1 .0) (zs .1 .1 .1 .1 .1 .1 .1 .1 .1 .1 .1 .1 .1 .1 .0) (record { meets = e; stays = refl }) l-store l-reply (LL.owes Heard′.the-type Heard″.the-laws r (LL.owed Heard′.the-type Heard″.the-laws r _ is))))))))))))))))))))))))))))))))))))))))))
+        split ! $ lft-end ! tt $ move ! (1 ∷ []) $ split ! $ lft-end ! tt $ move ! (1 ∷ []) $ split ! $ lft-end ! tt $ move ! (1 ∷ []) $ split ! $ lft-end ! tt $ move ! (1 ∷ []) $ split ! $ lft-end ! tt $ move ! (1 ∷ []) $ split ! $ lft-end ! tt $ move ! (1 ∷ []) $ split ! $ lft-end ! tt $ move ! (1 ∷ []) $ split ! $ lft-end ! tt $ move ! (1 ∷ []) $ split ! $ lft-end ! tt $ move ! (2 ∷ 0 ∷ []) $ fjoin ! $ move ! (2 ∷ 0 ∷ []) $ fjoin ! $ move ! (2 ∷ 0 ∷ []) $ fjoin ! $ move ! (2 ∷ 0 ∷ []) $ fjoin ! $ move ! (2 ∷ 0 ∷ []) $ fjoin ! $ move ! (2 ∷ 0 ∷ []) $ fjoin ! $ move ! (2 ∷ 0 ∷ []) $ fjoin ! $ move ! (2 ∷ 0 ∷ []) $ fjoin ! $
+        move ! (0 ∷ 2 ∷ 5 ∷ []) $ use3 W (later (‵ (mem R .lies (record { columns = record { numbers = zs .0; readings = zs .1 .0; «blob_lens» = zs .1 .1 .0; «fields_lens» = zs .1 .1 .1 .0; «comment_lens» = zs .1 .1 .1 .1 .0; seconds = zs .1 .1 .1 .1 .1 .0; limited = zs .1 .1 .1 .1 .1 .1 .0; confirm = zs .1 .1 .1 .1 .1 .1 .1 .0 }; lock = record { bytes = zs .1 .1 .1 .1 .1 .1 .1 .1 .0; len = h .lock .len }; clock = h .clock; next = h .next }) b o))) (comes-back 𝓤 H A W b o (ν0 ∷ [], (ν1 ∷ [], (ν2 ∷ [], (ν3 ∷ [], (ν4 ∷ [], (ν5 ∷ [], (ν6 ∷ [], (ν7 ∷ [], (ν8 ∷ [], tt))))))))) γs (record { columns = record { numbers = zs .0; readings = zs .1 .0; «blob_lens» = zs .1 .1 .0; «fields_lens» = zs .1 .1 .1 .0; «comment_lens» = zs .1 .1 .1 .1 .0; seconds = zs .1 .1 .1 .1 .1 .0; limited = zs .1 .1 .1 .1 .1 .1 .0; confirm = zs .1 .1 .1 .1 .1 .1 .1 .0 }; lock = record { bytes = zs .1 .1 .1 .1 .1 .1 .1 .1 .0; len = h .lock .len }; clock = h .clock; next = h .next })) $ await ! tt $
+        move ! (0 ∷ 4 ∷ 5 ∷ 6 ∷ []) $ close-ref ! tt (mem R) (record { columns = record { numbers = zs .0; readings = zs .1 .0; «blob_lens» = zs .1 .1 .0; «fields_lens» = zs .1 .1 .1 .0; «comment_lens» = zs .1 .1 .1 .1 .0; seconds = zs .1 .1 .1 .1 .1 .0; limited = zs .1 .1 .1 .1 .1 .1 .0; confirm = zs .1 .1 .1 .1 .1 .1 .1 .0 }; lock = record { bytes = zs .1 .1 .1 .1 .1 .1 .1 .1 .0; len = h .lock .len }; clock = h .clock; next = h .next }) {b = b} {o = o} $
+        returns ! (look ! 44 refl) $ forget ! 6 refl $ forget ! 8 refl $ forget ! 10 refl $ forget ! 12 refl $ forget ! 14 refl $ forget ! 16 refl $ forget ! 18 refl $ forget ! 20 refl $ forget ! 22 refl $ forget ! 24 refl $ forget ! 26 refl $ forget ! 28 refl $ forget ! 30 refl $ forget ! 32 refl $ forget ! 34 refl $ forget ! 36 refl $ forget ! 38 refl $ forget ! 40 refl $ forget ! 42 refl $ forget ! 44 refl $
+        move ! (44 ∷ 45 ∷ []) $ free1 ! $ move ! (42 ∷ 43 ∷ []) $ free1 ! $ move ! (40 ∷ 41 ∷ []) $ free1 ! $ move ! (38 ∷ 39 ∷ []) $ free1 ! $ move ! (36 ∷ 37 ∷ []) $ free1 ! $ move ! (34 ∷ 35 ∷ []) $ free1 ! $ move ! (32 ∷ 33 ∷ []) $ free1 ! $ move ! (30 ∷ 31 ∷ []) $ free1 ! $ move ! (28 ∷ 29 ∷ []) $ free1 ! $ move ! (26 ∷ 27 ∷ []) $ free1 ! $ move ! (24 ∷ 25 ∷ []) $ free1 ! $ move ! (22 ∷ 23 ∷ []) $ free1 ! $ move ! (20 ∷ 21 ∷ []) $ free1 ! $ move ! (18 ∷ 19 ∷ []) $ free1 ! $ move ! (16 ∷ 17 ∷ []) $ free1 ! $ move ! (14 ∷ 15 ∷ []) $ free1 ! $ move ! (12 ∷ 13 ∷ []) $ free1 ! $ move ! (10 ∷ 11 ∷ []) $ free1 ! $ move ! (8 ∷ 9 ∷ []) $ free1 ! $ move ! (6 ∷ 7 ∷ []) $ free1 ! $ free0 ! $
+        keep ! (2 ∷ 3 ∷ 0 ∷ 1 ∷ 5 ∷ 4 ∷ []) $ by ! (exits r (record { columns = record { numbers = zs .0; readings = zs .1 .0; «blob_lens» = zs .1 .1 .0; «fields_lens» = zs .1 .1 .1 .0; «comment_lens» = zs .1 .1 .1 .1 .0; seconds = zs .1 .1 .1 .1 .1 .0; limited = zs .1 .1 .1 .1 .1 .1 .0; confirm = zs .1 .1 .1 .1 .1 .1 .1 .0 }; lock = record { bytes = zs .1 .1 .1 .1 .1 .1 .1 .1 .0; len = h .lock .len }; clock = h .clock; next = h .next }) (zs .1 .1 .1 .1 .1 .1 .1 .1 .1 .1 .0) (zs .1 .1 .1 .1 .1 .1 .1 .1 .1 .1 .1 .1 .1 .0) (record { meets = e; stays = refl }) l-store l-reply (LL.owes Heard′.the-type Heard″.the-laws r (LL.owed Heard′.the-type Heard″.the-laws r _ is))))))))))))))))))))))))))))))))))))))))
 
 module _ {M : Type 1} (𝓤 : URA M) (H : Heap 𝓤) (A : Atoms 𝓤) (W : Given 𝓤 H A) (at-mem : Memory → SProp 𝓤) (run : Routine → Fun 𝓤) where
   walks : (C : Calls 𝓤 H) (Λ : Loops 𝓤 H) → FmC 𝓤 H (W .laws) C → Triple 𝓤 (C #engine·first-lent) (Callee 𝓤 H A at-mem run) → Walks 𝓤 H A hear′.ended stayed (WpFn 𝓤 H C Λ code.function) (hear′.clauses 𝓤 H A at-mem run)

@@ -92,10 +92,10 @@ kept-val = LL.val Kept′.the-type Kept″.the-laws
 
 -- what the values of a state and of a result are known to be
 clock-is : (s : State) (vs : List Val) → Is R s vs → Is Millis′.the-row (s .clock) (LL.vals Millis′.the-type Millis″.the-laws (s .clock))
-clock-is s vs is = LL.owed State′.the-type State″.the-laws s vs is .1 .1 .1 .0
+clock-is s vs is = LL.owed State′.the-type State″.the-laws s vs is .1 .1 .0
 
 kept-is : (s : State) (vs : List Val) → Is R s vs → Is Kept′.the-row (keptIn s) (kept-val (keptIn s) ∷ [])
-kept-is s vs is = LL.owes Kept′.the-type Kept″.the-laws (keptIn s) (clock-is s vs is, (LL.owed State′.the-type State″.the-laws s vs is .1 .1 .1 .1 .0, (LL.owed LockRecord′.the-type LockRecord″.the-laws (s .lock) _ (LL.owed State′.the-type State″.the-laws s vs is .1 .1 .0) .1 .0, tt)))
+kept-is s vs is = LL.owes Kept′.the-type Kept″.the-laws (keptIn s) (clock-is s vs is, (LL.owed State′.the-type State″.the-laws s vs is .1 .1 .1 .0, (LL.owed LockRecord′.the-type LockRecord″.the-laws (s .lock) _ (LL.owed State′.the-type State″.the-laws s vs is .1 .0) .1 .0, tt)))
 
 came-is : (r : Landed) (vs : List Val) → Is Landed′.the-row r vs → Is Kept′.the-row (r .kept) (kept-val (r .kept) ∷ [])
 came-is r vs is = LL.owed Landed′.the-type Landed″.the-laws r vs is .1 .0
@@ -238,8 +238,8 @@ module _ {M : Type 1} (𝓤 : URA M) (H : Heap 𝓤) (A : Atoms 𝓤) (W : Given
         move ! (38 ∷ 39 ∷ []) $ use2 W (later (some Opened)) opened $ await ! tt $ pick ! (λ g. split ! $ split ! $ move ! (1 ∷ []) $ split ! $
         assigns ! (of-opd ! (load ! (from ! (hop ! (look ! 38 refl) (fld ! refl (fld ! refl (stop !))))) (look ! 0 refl))) (from ! (stop !)) (init ! 20 refl (uint-lawful 𝓤 H A W w64 .typed (h .clock .count) _ (LL.owed Millis′.the-type Millis″.the-laws (h .clock) _ (clock-is h _ g) .0) .0)) $
         assigns ! (agg ! (and-then ! (load ! (from ! (stop !)) (look ! 20 refl)) (no-more !))) (from ! (stop !)) (init ! 18 refl (LL.lawful Millis′.the-type Millis″.the-laws 𝓤 H A W .typed (h .clock) _ (clock-is h _ g) .0)) $
-        assigns ! (of-opd ! (load ! (from ! (hop ! (look ! 38 refl) (fld ! refl (stop !)))) (look ! 1 refl))) (from ! (stop !)) (init ! 16 refl (uint-lawful 𝓤 H A W w64 .typed (h .next) _ (LL.owed State′.the-type State″.the-laws h _ g .1 .1 .1 .1 .0) .0)) $
-        assigns ! (of-opd ! (load ! (from ! (hop ! (look ! 38 refl) (fld ! refl (fld ! refl (stop !))))) (look ! 2 refl))) (from ! (stop !)) (init ! 14 refl (uint-lawful 𝓤 H A W w64 .typed (h .lock .len) _ (LL.owed LockRecord′.the-type LockRecord″.the-laws (h .lock) _ (LL.owed State′.the-type State″.the-laws h _ g .1 .1 .0) .1 .0) .0)) $
+        assigns ! (of-opd ! (load ! (from ! (hop ! (look ! 38 refl) (fld ! refl (stop !)))) (look ! 1 refl))) (from ! (stop !)) (init ! 16 refl (uint-lawful 𝓤 H A W w64 .typed (h .next) _ (LL.owed State′.the-type State″.the-laws h _ g .1 .1 .1 .0) .0)) $
+        assigns ! (of-opd ! (load ! (from ! (hop ! (look ! 38 refl) (fld ! refl (fld ! refl (stop !))))) (look ! 2 refl))) (from ! (stop !)) (init ! 14 refl (uint-lawful 𝓤 H A W w64 .typed (h .lock .len) _ (LL.owed LockRecord′.the-type LockRecord″.the-laws (h .lock) _ (LL.owed State′.the-type State″.the-laws h _ g .1 .0) .1 .0) .0)) $
         assigns ! (agg ! (and-then ! (load ! (from ! (stop !)) (look ! 18 refl)) (and-then ! (load ! (from ! (stop !)) (look ! 16 refl)) (and-then ! (load ! (from ! (stop !)) (look ! 14 refl)) (no-more !))))) (from ! (stop !)) (init ! 24 refl (LL.lawful Kept′.the-type Kept″.the-laws 𝓤 H A W .typed (keptIn h) _ (kept-is h _ g) .0)) $
         assigns ! (addr ! (from ! (hop ! (look ! 38 refl) (stop !)))) (from ! (stop !)) (init ! 12 refl (tt, tt)) $
         assigns ! (addr ! (from ! (fld ! refl (hop ! (look-in ! 36 (sub ! 0 refl (whole !))) (stop !))))) (from ! (stop !)) (init ! 10 refl (tt, tt)) $
