@@ -2,3 +2,4 @@
 pub mod ClosingLaws
 pub mod OpeningLaws
 pub mod WrittenLaws
+pub mod ChangeLaws
