@@ -2,12 +2,12 @@
 use borrow.Author.Needs.{needs}
 use mathlib.Core.Path.{ap}
 use lib.ListN.{length}
-use Rattle.table.specs.Meaning.{keptComment, entryFor, figuresFor}
+use Rattle.table.specs.Meaning.{figuresFor}
 use Rattle.changes.proofs.held_figures.Statement.{statement}
 use Rattle.changes.proofs.held_figures.Tie as tie
 
 returns : tie.Need-returns
-unfolding figuresFor entryFor keptComment
+unfolding figuresFor
 returns c =
     let at-comment : tie.After-cut2 = search in
     let at-fields : tie.After-cut = search in

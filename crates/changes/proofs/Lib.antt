@@ -1,0 +1,5 @@
+-- The laws that the proofs of functions cite.
+pub mod ClosingLaws
+pub mod OpeningLaws
+pub mod WrittenLaws
+pub mod ChangeLaws
