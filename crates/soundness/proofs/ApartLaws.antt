@@ -17,14 +17,15 @@ use Rattle.wire.specs.Read.{same}
 use Rattle.wire.proofs.Reading.{same-true, same-rule}
 use Rattle.rule.specs.declared.Found.{Found}
 use Rattle.rule.specs.declared.Found.the-variants.{At, Nothing}
-use Rattle.rule.specs.Gateway.{Entry as Key, entryAt, seek, holds}
+use Rattle.rule.specs.Gateway.{Entry as Key, zeroMillis, entryAt, seek, holds}
 use Rattle.rule.specs.Soundness.{everyEntry, apart, distinct}
 use Rattle.rule.proofs.Cases.{true-not-false}
 use Rattle.rule.proofs.PositionLaws.{some-not-none, same-entry}
+use Rattle.table.specs.declared.Columns.{Columns}
 use Rattle.table.specs.declared.State.{State}
 use Rattle.table.specs.Bytes.{sumOf, among}
-use Rattle.table.specs.Entries.{countOf, upTo, startIn}
-use Rattle.table.specs.Meaning.{gatewayOf}
+use Rattle.table.specs.Entries.{countOf, upTo, entriesIn, startIn}
+use Rattle.table.specs.Meaning.{view, gatewayOf, held}
 use Rattle.table.specs.Soundness.{shortOf, shortsIn}
 use Rattle.table.specs.Shown.{ShowsParts}
 use Rattle.table.proofs.EntryLaws.{up-length, up-at, up-same, up-take, map-up, count-within, start-step, start-mono}
@@ -325,3 +326,9 @@ module _ (numbers blobs fields comments x : List ℕ) (i : ℕ) where
   distinct-end h left s shows =
       let all : length (gatewayOf s x .entries) ≤ i = rw (state-count s x, shows .numbers-are) h in
       walk-end distinct (λ k. everyEntry (apart k)) distinct-none distinct-goes (keyAt s x i) _ _ i all (left s shows)
+
+-- columns that are no state's yet
+pub distinct-shown : (b : Bool) (t : Columns) (x : List ℕ) → DistinctSays b (t .numbers) (t .«blob_lens») (t .«fields_lens») (t .«comment_lens») x → b ≡ distinct (view (entriesIn t) x)
+unfolding gatewayOf
+distinct-shown b t x e =
+    e (held t [] (record { clock = zeroMillis; next = 0; locked = 0 })) (record { numbers-are = refl; blobs-are = refl; fields-are = refl; comments-are = refl })

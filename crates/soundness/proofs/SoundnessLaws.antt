@@ -6,23 +6,25 @@ use mathlib.Core.Bool.{Bool, true, false, _&&_, _||_, not}
 use mathlib.Core.List.{List, [], _∷_, map}
 use native.Mathlib.Omega.{arith}
 use native.Mathlib.Numerals.{add-one}
-use borrow.Author.Tests.{eq-eqb, ne-eqb}
-use lib.Dec.{eqb}
+use borrow.Author.Tests.{eq-eqb, ne-eqb, le-leb, lt-leb}
+use lib.Dec.{eqb, leb}
 use lib.ListN.{length, take, drop, getD, length-drop, length-map, drop-of-length-le, List·getD-map}
 use lib.Seq.{take-all, drop-cons}
-use Rattle.wire.specs.Limits.{blobLimit, fieldsLimit, commentLimit}
+use Rattle.wire.specs.Limits.{entriesLimit, storeSize, blobLimit, fieldsLimit, commentLimit}
 use Rattle.wire.specs.declared.Seconds.{Seconds}
 use Rattle.wire.proofs.Steps.{steps}
 use Rattle.rule.specs.declared.Millis.{Millis}
+use Rattle.rule.specs.Soundness.{distinct}
 use Rattle.table.specs.declared.Columns.{Columns}
 use Rattle.table.specs.declared.Figures.{Figures}
 use Rattle.table.specs.declared.LockRecord.{LockRecord}
 use Rattle.table.specs.Bytes.{allZero}
 use Rattle.table.specs.Entries.{Long, figuresAt, countOf, entriesIn, startIn}
-use Rattle.table.specs.Meaning.{noFigures}
-use Rattle.table.specs.Soundness.{isFlag, longColumns, zeroBehind, soundFlags, soundLifetime, soundLengths, soundFigures, all, soundEntries, soundLock}
-use Rattle.table.proofs.EntryLaws.{entries-length, entries-at, start-step}
-use Rattle.table.proofs.TestLaws.{long-says}
+use Rattle.table.specs.Meaning.{view, noFigures, startOf, endOf}
+use Rattle.table.specs.Soundness.{isFlag, longColumns, zeroBehind, soundFlags, soundLifetime, soundFigures, all, soundEntries, soundStore, soundLock, soundKeys, SoundFigures, Housed}
+use Rattle.table.proofs.EntryLaws.{count-within, entries-length, entries-at, start-step, start-is}
+use Rattle.table.proofs.TestLaws.{long-says, entries-say}
+use Rattle.table.proofs.ReadLaws.{every-figures-at}
 
 -- ## Tests
 
@@ -53,9 +55,6 @@ flags-tested v b limited confirm = turned v b (soundFlags limited confirm)
 
 pub lifetime-tested : (v b : Bool) (limited : ℕ) (seconds : Seconds) → not b ≡ not v → b ≡ soundLifetime limited seconds → v ≡ soundLifetime limited seconds
 lifetime-tested v b limited seconds = turned v b (soundLifetime limited seconds)
-
-pub lengths-tested : (b : Bool) (f : Figures) → b ≡ soundLengths f → b ≡ soundLengths f
-lengths-tested b f e = e
 
 pub long-tested : (v b : Bool) (t : Columns) → not b ≡ not v → b ≡ longColumns t → v ≡ longColumns t
 long-tested v b t = turned v b (longColumns t)
@@ -96,6 +95,10 @@ four-passed n t x numbers readings blobs fields rest = rw (← numbers, ← read
 -- where the columns pass, they are of 24 entries
 pub long-by : (b : Bool) (t : Columns) → not b ≡ false → b ≡ longColumns t → Long t
 long-by b t turn e = long-says t .0 (sym (long-tested true b t turn e))
+
+-- no column has more entries than numbers
+pub few-by : (n : ℕ) (numbers : List ℕ) → n ≡ countOf numbers → length numbers ≡ entriesLimit → n ≤ entriesLimit
+few-by n numbers e long = omega (arith, count-within numbers)
 
 -- ## The loops: a test over a list goes by its first element and the rest
 
@@ -179,3 +182,50 @@ module _ (blobs fields comments : List ℕ) (i at : ℕ) where
 
   pub start-reached : (n : ℕ) → i ≡ n → at ≡ startIn blobs fields comments i → at ≡ startIn blobs fields comments n
   start-reached n e f = f ∙ ap (startIn blobs fields comments) e
+
+-- lengths of entries that pass are within limits
+pub lengths-by : (b : Bool) (clock : Millis) (next : ℕ) (t : Columns) → not b ≡ false → b ≡ soundEntries clock next (entriesIn t) → (i : ℕ) → i < countOf (t .numbers)
+    → (getD (t .«blob_lens») i 0 ≤ blobLimit) × (getD (t .«fields_lens») i 0 ≤ fieldsLimit) × (getD (t .«comment_lens») i 0 ≤ commentLimit)
+lengths-by b clock next t q e i h =
+    let every = entries-say clock next (entriesIn t) .0 (sym (entries-tested true b clock next (entriesIn t) q e)) in
+    let many = entries-length t in
+    let here = rw (entries-at t i noFigures h) at (every-figures-at (SoundFigures clock next) (entriesIn t) every i noFigures (omega arith)) in
+    (here .blob-fits, here .fields-fit, here .comment-fits)
+
+-- ## Columns and store
+
+-- of n entries, whose bytes end where the sum of their lengths says, all unused ones and each by itself passed
+module _ (clock : Millis) (next : ℕ) (t : Columns) (x : List ℕ) (n end : ℕ) (counted : n ≡ countOf (t .numbers)) (u : Bool) (unused : u ≡ zeroBehind n t) (u-passed : not u ≡ false) (v : Bool) (entries : v ≡ soundEntries clock next (entriesIn t)) (v-passed : not v ≡ false) (summed : end ≡ startIn (t .«blob_lens») (t .«fields_lens») (t .«comment_lens») n) where
+  store-decides : (b : Bool) → b ≡ soundStore (entriesIn t) x && distinct (view (entriesIn t) x) → b ≡ soundKeys clock next t x
+  unfolding soundKeys
+  store-decides b e = and-yes _ _ b (unused-tested true u n (countOf (t .numbers)) t u-passed unused counted) (and-yes _ _ b (entries-tested true v clock next (entriesIn t) v-passed entries) e)
+
+  end-is : endOf (entriesIn t) ≡ end
+  end-is =
+      let many = entries-length t ∙ sym counted in
+      ap (λ (m : ℕ). startOf (entriesIn t) m) many ∙ start-is t n (omega arith) ∙ sym summed
+
+  pub store-over : storeSize < end → false ≡ soundKeys clock next t x
+  unfolding soundStore
+  store-over h = store-decides false (and-no _ _ (and-no _ (allZero (drop (endOf (entriesIn t)) x)) (sym (ap (λ (m : ℕ). leb m storeSize) end-is ∙ lt-leb end storeSize h))))
+
+  module _ (h : end ≤ storeSize) (b : Bool) (e : b ≡ allZero (take (length x - end) (drop end x))) where
+    store-tested : (v : Bool) → not b ≡ not v → v ≡ soundStore (entriesIn t) x
+    unfolding soundStore
+    store-tested v q = rest-turned v b x (length x) end e refl q ∙ rw (end-is, le-leb end storeSize h)
+
+    pub end-unclean : not b ≡ true → false ≡ soundKeys clock next t x
+    end-unclean q = store-decides false (and-no _ _ (store-tested false q))
+
+    pub last-decides : not b ≡ false → (d : Bool) → d ≡ distinct (view (entriesIn t) x) → d ≡ soundKeys clock next t x
+    last-decides q d f = store-decides d (and-yes _ _ d (store-tested true q) f)
+
+pub housed-by : (t : Columns) (x : List ℕ) (n end : ℕ) → Long t → length x ≡ storeSize → n ≡ countOf (t .numbers) → end ≡ startIn (t .«blob_lens») (t .«fields_lens») (t .«comment_lens») n → end ≤ storeSize
+    → Housed (t .numbers) (t .«blob_lens») (t .«fields_lens») (t .«comment_lens») x
+housed-by t x n end long whole counted is h = record {
+  long-numbers = long .numbers;
+  long-blobs = long .blobs;
+  long-fields = long .fields;
+  long-comments = long .comments;
+  room = rw (← counted, ← is, whole) h;
+}

@@ -110,22 +110,22 @@ module _ (s : State) (x : List ℕ) (i : ℕ) (h : i < countOf (s .columns .numb
 
   key-said : KeySays s x i (keyAt s x i)
   key-said =
-    let start = from-is in
-    let b = getD (s .columns .«blob_lens») i 0 in
-    let f = getD (s .columns .«fields_lens») i 0 in
-    let fields-start : startIn (s .columns .«blob_lens») (s .columns .«fields_lens») (s .columns .«comment_lens») i + b ≡ fieldsFrom s i = omega arith in
-    let comment-start : startIn (s .columns .«blob_lens») (s .columns .«fields_lens») (s .columns .«comment_lens») i + (b + f) ≡ commentFrom s i = omega arith in
-    record {
-    number = refl;
-    reading = refl;
-    lifetime = λ f. rw f;
-    no-lifetime = λ f. rw f;
-    confirm = λ f. rw f;
-    no-confirm = λ f. rw f;
-    blob = blob-lies s x i h ∙ ap (λ (n : ℕ). take (getD (s .columns .«blob_lens») i 0) (drop n x)) from-is;
-    fields = fields-lie s x i h ∙ ap (λ (n : ℕ). take (getD (s .columns .«fields_lens») i 0) (drop n x)) fields-start;
-    comment = comment-lies s x i h ∙ ap (λ (n : ℕ). take (getD (s .columns .«comment_lens») i 0) (drop n x)) comment-start;
-  }
+      let start = from-is in
+      let b = getD (s .columns .«blob_lens») i 0 in
+      let f = getD (s .columns .«fields_lens») i 0 in
+      let fields-start : startIn (s .columns .«blob_lens») (s .columns .«fields_lens») (s .columns .«comment_lens») i + b ≡ fieldsFrom s i = omega arith in
+      let comment-start : startIn (s .columns .«blob_lens») (s .columns .«fields_lens») (s .columns .«comment_lens») i + (b + f) ≡ commentFrom s i = omega arith in
+      record {
+        number = refl;
+        reading = refl;
+        lifetime = λ f. rw f;
+        no-lifetime = λ f. rw f;
+        confirm = λ f. rw f;
+        no-confirm = λ f. rw f;
+        blob = blob-lies s x i h ∙ ap (λ (n : ℕ). take (getD (s .columns .«blob_lens») i 0) (drop n x)) from-is;
+        fields = fields-lie s x i h ∙ ap (λ (n : ℕ). take (getD (s .columns .«fields_lens») i 0) (drop n x)) fields-start;
+        comment = comment-lies s x i h ∙ ap (λ (n : ℕ). take (getD (s .columns .«comment_lens») i 0) (drop n x)) comment-start;
+      }
 
 pub state-rule : StateRule
 unfolding gatewayOf

@@ -224,8 +224,8 @@ key-back k =
       blob = take-at (k .blob) (k .fields ++ k .comment) (length (k .blob)) refl j;
       fields = (ap (take (length (k .fields))) behind ∙ take-at (k .fields) (k .comment) (length (k .fields)) refl) j;
       comment = (ap (λ (r : List ℕ). take (length (k .comment)) (drop (length (k .fields)) r)) behind
-      ∙ ap (take (length (k .comment))) (drop-at (k .fields) (k .comment) (length (k .fields)) refl)
-      ∙ take-all (length (k .comment)) (k .comment) (omega arith)) j;
+          ∙ ap (take (length (k .comment))) (drop-at (k .fields) (k .comment) (length (k .fields)) refl)
+          ∙ take-all (length (k .comment)) (k .comment) (omega arith)) j;
     }
 
 figures-sound : (clock : Millis) (next : ℕ) (k : Key) → SoundEntry clock next k → SoundFigures clock next (figuresFor k)

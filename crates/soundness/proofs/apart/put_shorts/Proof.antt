@@ -74,8 +74,7 @@ loop-again c =
     let asked : tie.After-short-of Inv-loop μ-loop = search in
     let start : tie.Start Inv-loop μ-loop = search in
     let a = start .args in
-    let l = turn .loop in
-    (
+    let l = turn .loop in (
       omega arith,
       omega (arith, start-more (a .blob-lens .now) (a .fields-lens .now) (a .comment-lens .now) (l .i) (l .at) (l .inv .1)),
       shorts-more (a .blob-lens .now) (a .fields-lens .now) (a .comment-lens .now) (a .store .now) (l .i) (l .at) _ _ (omega arith) (l .inv .1) (asked .short-of .ensures) (l .inv .2),

@@ -18,7 +18,6 @@ returns c =
     let start : tie.Start = search in
     short-is (start .args .blob .now) _ _ (asked .last-from .ensures) (c .sum-of .ensures)
 
-
 pub short-of-spec : {M : Type 1} → statement M
 short-of-spec =
     tie.close
