@@ -207,8 +207,8 @@ pub key-put : (t : Columns) (x : List ℕ) (u : Columns) (y : List ℕ) (kept af
     → after ≡ record { clock = kept .clock; next = kept .next + 1; locked = kept .locked }
     → u ≡ figuresSet i (figuresFor (newEntry (kept .next) (kept .clock) k)) t
     → y ≡ bytesPut (t .«blob_lens») (t .«fields_lens») (t .«comment_lens») i (k .blob ++ (k .fields ++ k .comment)) x
-    → (b : List ℕ) → MayPut (held t b kept) x i k
-    → Means (held u b after) y (withEntry i (newEntry (kept .next) (kept .clock) k) (gatewayOf (held t b kept) x))
+    → (b : List ℕ) → MayPut (held t b kept) x i k → let g = gatewayOf (held t b kept) x in
+    Means (held u b after) y (withEntry i (newEntry (g .next) (g .clock) k) g)
 unfolding gatewayOf stateOf layout bytesFor
 key-put t x u y kept after i k e f p b may =
     let s = held t b kept in

@@ -253,7 +253,7 @@ module _ (i : ℕ) (ks : List Key) (rest : List ℕ) where
 
 before-next : (ks : List Key) (i : ℕ) → before (suc i) ks ≡ before i ks + size (getD (map figuresFor ks) i noFigures)
 unfolding laid size
-before-next [] i = rw (take-nil i) 
+before-next [] i = rw (take-nil i)
 before-next (k ∷ ks) zero = let s = key-size k in rw (append-nil (bytesFor k)) (omega arith)
 before-next (k ∷ ks) (suc i) = let r = before-next ks i in simp length-append (omega arith)
 
