@@ -1,36 +1,30 @@
 -- Following the code of the soundness test: `search tests` closes a return where the definition makes the same tests, and one law for each
 -- turn, way out and end of a loop that tests all elements of a list.
-use Prim.Native.Nat.{ℕ, zero, suc, _+_, _-_, _*_, _≤_, _<_}
+use Prim.Native.Nat.{ℕ, suc, _+_, _-_, _≤_, _<_}
 use mathlib.Core.Path.{_≡_, refl, sym, ap, _∙_}
-use mathlib.Core.Bool.{Bool, true, false, _&&_, _||_, not, and-true, and-false}
-use mathlib.Core.Option.{none, some}
-use mathlib.Core.List.{List, [], _∷_}
+use mathlib.Core.Bool.{Bool, true, false, _&&_, _||_, not}
+use mathlib.Core.List.{List, [], _∷_, map}
 use native.Mathlib.Omega.{arith}
 use native.Mathlib.Numerals.{add-one}
-use native.Mathlib.Nat.{not-suc-le-zero, le-of-suc-le-suc, sub-zero, suc-sub-suc}
-use borrow.Author.Tests.{eq-eqb, ne-eqb}
-use lib.ListN.{length, take, drop, getD, replicate, length-drop, drop-of-length-le}
-use lib.Seq.{length-take-le, take-all, take-nil, drop-drop, drop-cons}
-use Rattle.wire.specs.Limits.{placeSize, storeSize, blobLimit, fieldsAt, commentLimit, lastNumber}
-use Rattle.wire.specs.Read.{same}
+use borrow.Author.Tests.{eq-eqb, ne-eqb, le-leb, lt-leb}
+use lib.Dec.{eqb, leb}
+use lib.ListN.{length, take, drop, getD, length-drop, length-map, drop-of-length-le, List·getD-map}
+use lib.Seq.{take-all, drop-cons}
+use Rattle.wire.specs.Limits.{entriesLimit, storeSize, blobLimit, fieldsLimit, commentLimit}
 use Rattle.wire.specs.declared.Seconds.{Seconds}
 use Rattle.wire.proofs.Steps.{steps}
 use Rattle.rule.specs.declared.Millis.{Millis}
-use Rattle.rule.specs.Gateway.{Place}
-use Rattle.rule.specs.Soundness.{everyEntry, apart, distinct}
+use Rattle.rule.specs.Soundness.{distinct}
 use Rattle.table.specs.declared.Columns.{Columns}
 use Rattle.table.specs.declared.Figures.{Figures}
 use Rattle.table.specs.declared.LockRecord.{LockRecord}
-use Rattle.table.specs.declared.State.{State}
 use Rattle.table.specs.Bytes.{allZero}
-use Rattle.table.specs.Each.{each}
-use Rattle.table.specs.Entries.{Comment, Entry, Eight, figuresAt, commentsSize, commentPart, entryBy, entryAt, entriesIn}
-use Rattle.table.specs.Meaning.{entriesOf, size, keyOf, placeOf, view, noEntry, partAt}
-use Rattle.table.specs.Soundness.{soundComment, isFlag, eightColumns, soundFlags, soundLifetime, soundLock, soundPlace, all, soundPlaces, soundState, unlike, Housed}
-use Rattle.table.proofs.EachLaws.{each-length, each-at}
-use Rattle.table.proofs.StateLaws.{entries-length, entries-at, view-length, view-at, place-free, place-held}
-use Rattle.table.proofs.TestLaws.{eight-says}
-use Rattle.table.proofs.SizeLaws.{size-is, in-store}
+use Rattle.table.specs.Entries.{Long, figuresAt, countOf, entriesIn, startIn}
+use Rattle.table.specs.Meaning.{view, noFigures, startOf, endOf}
+use Rattle.table.specs.Soundness.{isFlag, longColumns, zeroBehind, soundFlags, soundLifetime, soundFigures, all, soundEntries, soundStore, soundLock, soundKeys, SoundFigures, Housed}
+use Rattle.table.proofs.EntryLaws.{count-within, entries-length, entries-at, start-step, start-is}
+use Rattle.table.proofs.TestLaws.{long-says, entries-say}
+use Rattle.table.proofs.ReadLaws.{every-figures-at}
 
 -- ## Tests
 
@@ -62,42 +56,49 @@ flags-tested v b limited confirm = turned v b (soundFlags limited confirm)
 pub lifetime-tested : (v b : Bool) (limited : ℕ) (seconds : Seconds) → not b ≡ not v → b ≡ soundLifetime limited seconds → v ≡ soundLifetime limited seconds
 lifetime-tested v b limited seconds = turned v b (soundLifetime limited seconds)
 
-pub comment-tested : (v b : Bool) (c : Comment) → not b ≡ not v → b ≡ soundComment c → v ≡ soundComment c
-comment-tested v b c = turned v b (soundComment c)
-
-pub zeros-tested : (v b : Bool) (p : List ℕ) → not b ≡ not v → b ≡ allZero p → v ≡ allZero p
-zeros-tested v b p = turned v b (allZero p)
-
-pub eight-tested : (v b : Bool) (t : Columns) → not b ≡ not v → b ≡ eightColumns t → v ≡ eightColumns t
-eight-tested v b t = turned v b (eightColumns t)
+pub long-tested : (v b : Bool) (t : Columns) → not b ≡ not v → b ≡ longColumns t → v ≡ longColumns t
+long-tested v b t = turned v b (longColumns t)
 
 pub lock-tested : (v b : Bool) (l : LockRecord) → not b ≡ not v → b ≡ soundLock l → v ≡ soundLock l
 lock-tested v b l = turned v b (soundLock l)
 
-pub places-tested : (v b : Bool) (clock : Millis) (next : ℕ) (es : List Entry) (x : List ℕ) → not b ≡ not v → b ≡ soundPlaces clock next es x → v ≡ soundPlaces clock next es x
-places-tested v b clock next es x = turned v b (soundPlaces clock next es x)
+pub unused-tested : (v b : Bool) (n m : ℕ) (t : Columns) → not b ≡ not v → b ≡ zeroBehind n t → n ≡ m → v ≡ zeroBehind m t
+unused-tested v b n m t q e is = turned v b (zeroBehind m t) q (e ∙ ap (λ (k : ℕ). zeroBehind k t) is)
 
--- the parts that are tested for zeros are the unused ones
+pub entries-tested : (v b : Bool) (clock : Millis) (next : ℕ) (fs : List Figures) → not b ≡ not v → b ≡ soundEntries clock next fs → v ≡ soundEntries clock next fs
+entries-tested v b clock next fs = turned v b (soundEntries clock next fs)
 
-drop-take : (n m : ℕ) (l : List ℕ) → m ≤ n → take (n - m) (drop m l) ≡ drop m (take n l)
-drop-take n zero l h = rw sub-zero
-drop-take zero (suc m) l h = absurd (not-suc-le-zero h)
-drop-take (suc n) (suc m) [] h = take-nil (suc n - suc m)
-drop-take (suc n) (suc m) (b ∷ l) h = rw suc-sub-suc (drop-take n m l (le-of-suc-le-suc h))
-
-all-behind : (n k : ℕ) (l : List ℕ) → length l ≡ k → take (k - n) (drop n l) ≡ drop n l
+-- what is tested for zeros behind the first n is all that is there
+pub all-behind : (n k : ℕ) (l : List ℕ) → length l ≡ k → take (k - n) (drop n l) ≡ drop n l
 all-behind n k l e = let size : length (drop n l) ≤ k - n = rw length-drop (omega arith) in take-all (k - n) (drop n l) size
 
-pub blob-rest-tested : (v b : Bool) (p : List ℕ) (n : ℕ) → not b ≡ not v → b ≡ allZero (take (fieldsAt - n) (drop n p)) → n ≤ blobLimit → v ≡ allZero (drop n (take fieldsAt p))
-blob-rest-tested v b p n q e h = turned v b _ q (e ∙ ap allZero (drop-take fieldsAt n p h))
+pub rest-tested : (b : Bool) (p : List ℕ) (k n : ℕ) → b ≡ allZero (take (k - n) (drop n p)) → length p ≡ k → b ≡ allZero (drop n p)
+rest-tested b p k n e long = e ∙ ap allZero (all-behind n k p long)
 
-pub fields-rest-tested : (b : Bool) (p : List ℕ) (m : ℕ) → b ≡ allZero (take (length p - (fieldsAt + m)) (drop (fieldsAt + m) p)) → b ≡ allZero (drop m (drop fieldsAt p))
-fields-rest-tested b p m e = e ∙ ap allZero (all-behind (fieldsAt + m) (length p) p refl ∙ sym (drop-drop m fieldsAt p))
+pub rest-turned : (v b : Bool) (p : List ℕ) (k n : ℕ) → b ≡ allZero (take (k - n) (drop n p)) → length p ≡ k → not b ≡ not v → v ≡ allZero (drop n p)
+rest-turned v b p k n e long q = turned v b (allZero (drop n p)) q (rest-tested b p k n e long)
 
-pub rest-tested : (b : Bool) (p : List ℕ) (k n : ℕ) → length p ≡ k → b ≡ allZero (take (k - n) (drop n p)) → b ≡ allZero (drop n p)
-rest-tested b p k n long e = e ∙ ap allZero (all-behind n k p long)
+pub zeros-tested : (v b : Bool) (p : List ℕ) → b ≡ allZero p → not b ≡ not v → v ≡ allZero p
+zeros-tested v b p e q = turned v b (allZero p) q e
 
-pub ruleset tests = (steps, and-yes, and-no, or-yes, or-no, flag-tested, flags-tested, lifetime-tested, comment-tested, zeros-tested, eight-tested, lock-tested, places-tested, blob-rest-tested, fields-rest-tested, rest-tested)
+pub ruleset tests = (steps, and-yes, and-no, or-yes, or-no, flag-tested, flags-tested, lifetime-tested, long-tested, lock-tested, unused-tested, entries-tested, rest-tested, zeros-tested, rest-turned)
+
+-- .. column by column
+pub ruleset columns = (and-yes, and-no, zeros-tested, rest-tested, rest-turned)
+
+-- where the first four columns are zero behind the first n, the others decide
+pub four-passed : (n : ℕ) (t : Columns) (x : Bool) → true ≡ allZero (drop n (t .numbers)) → true ≡ allZero (drop n (t .readings)) → true ≡ allZero (drop n (t .«blob_lens»)) → true ≡ allZero (drop n (t .«fields_lens»))
+    → x ≡ allZero (drop n (t .«comment_lens»)) && (allZero (drop n (t .seconds)) && (allZero (drop n (t .limited)) && allZero (drop n (t .confirm)))) → x ≡ zeroBehind n t
+unfolding zeroBehind
+four-passed n t x numbers readings blobs fields rest = rw (← numbers, ← readings, ← blobs, ← fields) rest
+
+-- where the columns pass, they are of 24 entries
+pub long-by : (b : Bool) (t : Columns) → not b ≡ false → b ≡ longColumns t → Long t
+long-by b t turn e = long-says t .0 (sym (long-tested true b t turn e))
+
+-- no column has more entries than numbers
+pub few-by : (n : ℕ) (numbers : List ℕ) → n ≡ countOf numbers → length numbers ≡ entriesLimit → n ≤ entriesLimit
+few-by n numbers e long = omega (arith, count-within numbers)
 
 -- ## The loops: a test over a list goes by its first element and the rest
 
@@ -105,183 +106,126 @@ module _ {A : Type 0} (test : List A → Bool) (first : A → List A → Bool) (
   split : (i : ℕ) → i < length l → test (drop i l) ≡ first (getD l i a₀) (drop (i + 1) l) && test (drop (i + 1) l)
   split i h = rw (add-one, drop-cons l i a₀ h) (goes (getD l i a₀) (drop (suc i) l))
 
-  walk-on : (i : ℕ) (b : Bool) → i < length l → not b ≡ false → b ≡ first (getD l i a₀) (drop (i + 1) l) → test (drop i l) ≡ whole → test (drop (i + 1) l) ≡ whole
+  pub walk-on : (i : ℕ) (b : Bool) → i < length l → not b ≡ false → b ≡ first (getD l i a₀) (drop (i + 1) l) → test (drop i l) ≡ whole → test (drop (i + 1) l) ≡ whole
   walk-on i b h q e left = ap (λ (t : Bool). t && test (drop (i + 1) l)) (turned true b _ q e) ∙ sym (split i h) ∙ left
 
-  walk-out : (i : ℕ) (b : Bool) → i < length l → not b ≡ true → b ≡ first (getD l i a₀) (drop (i + 1) l) → test (drop i l) ≡ whole → false ≡ whole
+  pub walk-out : (i : ℕ) (b : Bool) → i < length l → not b ≡ true → b ≡ first (getD l i a₀) (drop (i + 1) l) → test (drop i l) ≡ whole → false ≡ whole
   walk-out i b h q e left = ap (λ (t : Bool). t && test (drop (i + 1) l)) (turned false b _ q e) ∙ sym (split i h) ∙ left
 
-  walk-end : (i : ℕ) → length l ≤ i → test (drop i l) ≡ whole → true ≡ whole
+  pub walk-end : (i : ℕ) → length l ≤ i → test (drop i l) ≡ whole → true ≡ whole
   walk-end i h left = sym none-left ∙ ap test (sym (drop-of-length-le l h)) ∙ left
 
--- ## The bytes of a place, and of its comment
+-- ## Zeros, of any width
 
--- p is what the store has at place i
-abbrev pub PartIs : List ℕ → ℕ → List ℕ → Type 0
-PartIs x i p = (es : List Entry) → length es ≡ 8 → p ≡ partAt es x i
+zeros-go : (n : ℕ) (rest : List ℕ) → allZero (n ∷ rest) ≡ eqb n 0 && allZero rest
+unfolding allZero
+zeros-go n rest = refl
 
-pub part-size : (x : List ℕ) (i : ℕ) (p : List ℕ) → length x ≡ storeSize → i < 8 → PartIs x i p → length p ≡ placeSize
-part-size x i p long h p-is =
-    let es : List Entry = replicate 8 noEntry in
-    rw (p-is es refl) (in-store es x refl long i h .whole) ∙ size-is (getD es i noEntry)
+zeros-none : allZero [] ≡ true
+unfolding allZero
+zeros-none = refl
 
-pub comment-size : (cs : List ℕ) (i : ℕ) (c : List ℕ) → length cs ≡ commentsSize → i < 8 → c ≡ commentPart cs i → length c ≡ commentLimit
-comment-size cs i c long h c-is =
-    let room : commentLimit ≤ length (drop (i * commentLimit) cs) = rw length-drop (omega arith) in
-    rw c-is (length-take-le commentLimit (drop (i * commentLimit) cs) room)
+-- behind the first n, from place i on
+abbrev pub ZerosLeft : List ℕ → ℕ → ℕ → Type 0
+ZerosLeft l n i = allZero (drop i l) ≡ allZero (drop n l)
 
--- ## Each place by itself
+module _ (l : List ℕ) (n i : ℕ) where
+  pub zero-on : i < length l → getD l i 0 ≡ 0 → ZerosLeft l n i → ZerosLeft l n (i + 1)
+  zero-on h z = walk-on allZero (λ n _. eqb n 0) zeros-none zeros-go 0 l _ i true h refl (sym (eq-eqb (getD l i 0) 0 z))
 
-all-goes : (b : Bool) (rest : List Bool) → all (b ∷ rest) ≡ b && all rest
+  pub zero-out : i < length l → (getD l i 0 ≡ 0 → ⊥) → ZerosLeft l n i → false ≡ allZero (drop n l)
+  zero-out h f = walk-out allZero (λ n _. eqb n 0) zeros-none zeros-go 0 l _ i false h refl (sym (ne-eqb (getD l i 0) 0 f))
+
+  pub zeros-end : length l ≤ i → ZerosLeft l n i → true ≡ allZero (drop n l)
+  zeros-end = walk-end allZero (λ n _. eqb n 0) zeros-none zeros-go 0 l _ i
+
+-- ## Each entry by itself
+
+all-go : (b : Bool) (rest : List Bool) → all (b ∷ rest) ≡ b && all rest
 unfolding all
-all-goes b rest = refl
+all-go b rest = refl
 
 all-none : all [] ≡ true
 unfolding all
 all-none = refl
 
-abbrev pub PlacesLeft : Millis → ℕ → Columns → List ℕ → List ℕ → ℕ → Type 0
-PlacesLeft clock next t cs x i = all (drop i (each (soundPlace clock next) size (entriesIn t cs) x)) ≡ soundPlaces clock next (entriesIn t cs) x
+abbrev pub EntriesLeft : Millis → ℕ → Columns → ℕ → Type 0
+EntriesLeft clock next t i = all (drop i (map (soundFigures clock next) (entriesIn t))) ≡ soundEntries clock next (entriesIn t)
 
-module _ (clock : Millis) (next : ℕ) (t : Columns) (cs x : List ℕ) where
-  pub places-all : PlacesLeft clock next t cs x 0
-  unfolding soundPlaces
-  places-all = refl
+module _ (clock : Millis) (next : ℕ) (t : Columns) where
+  pub entries-all : EntriesLeft clock next t 0
+  unfolding soundEntries
+  entries-all = refl
 
-  eight-tests : length (each (soundPlace clock next) size (entriesIn t cs) x) ≡ 8
-  eight-tests = each-length size (soundPlace clock next) (entriesIn t cs) x ∙ entries-length t cs
+  test-count : length (map (soundFigures clock next) (entriesIn t)) ≡ countOf (t .numbers)
+  test-count = length-map (entriesIn t) (soundFigures clock next) ∙ entries-length t
 
-  module _ (i : ℕ) (f : Figures) (c p : List ℕ) (b : Bool) (i-in : i < 8) (f-is : f ≡ figuresAt t i) (c-is : c ≡ commentPart cs i) (p-is : PartIs x i p) (e : b ≡ soundPlace clock next (entryBy f c) p) where
-    test-at : b ≡ getD (each (soundPlace clock next) size (entriesIn t cs) x) i true
-    test-at =
-        let eight = entries-length t cs in
-        e ∙ rw (f-is, c-is, p-is (entriesIn t cs) eight, each-at size (soundPlace clock next) (entriesIn t cs) x i noEntry true (omega arith), entries-at t cs i noEntry i-in)
+  module _ (i : ℕ) (f : Figures) (b : Bool) (h : i < countOf (t .numbers)) (f-is : f ≡ figuresAt t i) (e : b ≡ soundFigures clock next f) where
+    test-at : b ≡ getD (map (soundFigures clock next) (entriesIn t)) i (soundFigures clock next noFigures)
+    test-at = e ∙ ap (soundFigures clock next) (f-is ∙ sym (entries-at t i noFigures h)) ∙ sym (List·getD-map (soundFigures clock next) (entriesIn t) i noFigures)
 
-    pub place-on : not b ≡ false → PlacesLeft clock next t cs x i → PlacesLeft clock next t cs x (i + 1)
-    place-on t = walk-on all (λ t _. t) all-none all-goes true _ _ i b (rw eight-tests i-in) t test-at
+    pub entry-on : not b ≡ false → EntriesLeft clock next t i → EntriesLeft clock next t (i + 1)
+    entry-on q = walk-on all (λ t _. t) all-none all-go _ _ _ i b (rw test-count h) q test-at
 
-    pub place-out : not b ≡ true → PlacesLeft clock next t cs x i → false ≡ soundPlaces clock next (entriesIn t cs) x
-    place-out t = walk-out all (λ t _. t) all-none all-goes true _ _ i b (rw eight-tests i-in) t test-at
+    pub entry-out : not b ≡ true → EntriesLeft clock next t i → false ≡ soundEntries clock next (entriesIn t)
+    entry-out q = walk-out all (λ t _. t) all-none all-go _ _ _ i b (rw test-count h) q test-at
 
-  pub places-end : (i : ℕ) → 8 ≤ i → PlacesLeft clock next t cs x i → true ≡ soundPlaces clock next (entriesIn t cs) x
-  places-end i h = walk-end all (λ t _. t) all-none all-goes true _ _ i (rw eight-tests h)
+  pub entries-end : (i : ℕ) → countOf (t .numbers) ≤ i → EntriesLeft clock next t i → true ≡ soundEntries clock next (entriesIn t)
+  entries-end i h = walk-end all (λ t _. t) all-none all-go (soundFigures clock next noFigures) _ _ i (rw test-count h)
 
--- ## Two places
+-- ## Where the bytes end
 
-module _ (e f : Entry) (p q : List ℕ) where
-  pub apart-free : e .number ≡ 0 → true ≡ unlike (placeOf e p) (placeOf f q ∷ [])
-  unfolding unlike
-  apart-free n = rw (place-free e p n)
+module _ (blobs fields comments : List ℕ) (i at : ℕ) where
+  -- one entry more
+  pub start-more : at ≡ startIn blobs fields comments i → at + (getD blobs i 0 + (getD fields i 0 + getD comments i 0)) ≡ startIn blobs fields comments (i + 1)
+  start-more e = let step = start-step blobs fields comments i in rw (add-one i) (omega arith)
 
-  module _ (n : e .number ≡ 0 → ⊥) where
-    pub apart-other-free : f .number ≡ 0 → true ≡ unlike (placeOf e p) (placeOf f q ∷ [])
-    unfolding unlike everyEntry
-    apart-other-free m = rw (place-held e p n, place-free f q m)
+  pub start-reached : (n : ℕ) → i ≡ n → at ≡ startIn blobs fields comments i → at ≡ startIn blobs fields comments n
+  start-reached n e f = f ∙ ap (startIn blobs fields comments) e
 
-    module _ (m : f .number ≡ 0 → ⊥) where
-      both-held : unlike (placeOf e p) (placeOf f q ∷ []) ≡ apart (keyOf e p) (keyOf f q)
-      unfolding unlike everyEntry
-      both-held = rw (place-held e p n, place-held f q m, and-true)
+-- lengths of entries that pass are within limits
+pub lengths-by : (b : Bool) (clock : Millis) (next : ℕ) (t : Columns) → not b ≡ false → b ≡ soundEntries clock next (entriesIn t) → (i : ℕ) → i < countOf (t .numbers)
+    → (getD (t .«blob_lens») i 0 ≤ blobLimit) × (getD (t .«fields_lens») i 0 ≤ fieldsLimit) × (getD (t .«comment_lens») i 0 ≤ commentLimit)
+lengths-by b clock next t q e i h =
+    let every = entries-say clock next (entriesIn t) .0 (sym (entries-tested true b clock next (entriesIn t) q e)) in
+    let many = entries-length t in
+    let here = rw (entries-at t i noFigures h) at (every-figures-at (SoundFigures clock next) (entriesIn t) every i noFigures (omega arith)) in
+    (here .blob-fits, here .fields-fit, here .comment-fits)
 
-      pub apart-number : e .number ≡ f .number → false ≡ unlike (placeOf e p) (placeOf f q ∷ [])
-      apart-number s = rw (both-held, eq-eqb (e .number) (f .number) s, and-false)
+-- ## Columns and store
 
-      pub apart-blob : (e .number ≡ f .number → ⊥) → (k l : ℕ) → e .«blob_len» ≡ k → f .«blob_len» ≡ l → (b : Bool) → b ≡ same (take k p) (take l q) → not b ≡ unlike (placeOf e p) (placeOf f q ∷ [])
-      apart-blob d k l e-is f-is b s = rw (both-held, ne-eqb (e .number) (f .number) d, and-true, e-is, f-is) (ap not s)
+-- of n entries, whose bytes end where the sum of their lengths says, all unused ones and each by itself passed
+module _ (clock : Millis) (next : ℕ) (t : Columns) (x : List ℕ) (n end : ℕ) (counted : n ≡ countOf (t .numbers)) (u : Bool) (unused : u ≡ zeroBehind n t) (u-passed : not u ≡ false) (v : Bool) (entries : v ≡ soundEntries clock next (entriesIn t)) (v-passed : not v ≡ false) (summed : end ≡ startIn (t .«blob_lens») (t .«fields_lens») (t .«comment_lens») n) where
+  store-decides : (b : Bool) → b ≡ soundStore (entriesIn t) x && distinct (view (entriesIn t) x) → b ≡ soundKeys clock next t x
+  unfolding soundKeys
+  store-decides b e = and-yes _ _ b (unused-tested true u n (countOf (t .numbers)) t u-passed unused counted) (and-yes _ _ b (entries-tested true v clock next (entriesIn t) v-passed entries) e)
 
--- ## A place and those behind it
+  end-is : endOf (entriesIn t) ≡ end
+  end-is =
+      let many = entries-length t ∙ sym counted in
+      ap (λ (m : ℕ). startOf (entriesIn t) m) many ∙ start-is t n (omega arith) ∙ sym summed
 
-unlike-goes : (place other : Place) (rest : List Place) → unlike place (other ∷ rest) ≡ unlike place (other ∷ []) && unlike place rest
-unfolding unlike everyEntry
-unlike-goes none other rest = refl
-unlike-goes (some k) none rest = refl
-unlike-goes (some k) (some l) rest = rw (and-true (apart k l))
+  pub store-over : storeSize < end → false ≡ soundKeys clock next t x
+  unfolding soundStore
+  store-over h = store-decides false (and-no _ _ (and-no _ (allZero (drop (endOf (entriesIn t)) x)) (sym (ap (λ (m : ℕ). leb m storeSize) end-is ∙ lt-leb end storeSize h))))
 
--- the test of one other place
-abbrev unlikeOne : Place → Place → List Place → Bool
-unlikeOne place other _ = unlike place (other ∷ [])
+  module _ (h : end ≤ storeSize) (b : Bool) (e : b ≡ allZero (take (length x - end) (drop end x))) where
+    store-tested : (v : Bool) → not b ≡ not v → v ≡ soundStore (entriesIn t) x
+    unfolding soundStore
+    store-tested v q = rest-turned v b x (length x) end e refl q ∙ rw (end-is, le-leb end storeSize h)
 
-unlike-none : (place : Place) → unlike place [] ≡ true
-unfolding unlike everyEntry
-unlike-none none = refl
-unlike-none (some k) = refl
+    pub end-unclean : not b ≡ true → false ≡ soundKeys clock next t x
+    end-unclean q = store-decides false (and-no _ _ (store-tested false q))
 
-distinct-goes : (place : Place) (rest : List Place) → distinct (place ∷ rest) ≡ unlike place rest && distinct rest
-unfolding distinct unlike
-distinct-goes none rest = refl
-distinct-goes (some k) rest = refl
+    pub last-decides : not b ≡ false → (d : Bool) → d ≡ distinct (view (entriesIn t) x) → d ≡ soundKeys clock next t x
+    last-decides q d f = store-decides d (and-yes _ _ d (store-tested true q) f)
 
-distinct-none : distinct [] ≡ true
-unfolding distinct
-distinct-none = refl
-
--- where the columns pass, they are of eight places
-pub eight-by : (b : Bool) (t : Columns) → not b ≡ false → b ≡ eightColumns t → Eight t
-eight-by b t turn e = eight-says t .0 (sym (eight-tested true b t turn e))
-
--- what the columns, comments and store mean
-abbrev shown : Columns → List ℕ → List ℕ → List Place
-shown t cs x = view (entriesIn t cs) x
-
-eight-shown : (t : Columns) (cs x : List ℕ) → length (shown t cs x) ≡ 8
-eight-shown t cs x = view-length (entriesIn t cs) x (entries-length t cs)
-
--- place i is unlike those behind it
-abbrev UnlikeAt : Columns → List ℕ → List ℕ → ℕ → Bool
-UnlikeAt t cs x i = unlike (getD (shown t cs x) i none) (drop (i + 1) (shown t cs x))
-
--- of all columns with these numbers and blobs' lengths, whatever else they have
-abbrev WithThese : List ℕ → List ℕ → (Columns → List ℕ → Type 0) → Type 0
-WithThese numbers blobs P = (t : Columns) (cs : List ℕ) → t .numbers ≡ numbers → t .«blob_lens» ≡ blobs → P t cs
-
-abbrev pub OthersLeft : List ℕ → List ℕ → List ℕ → ℕ → ℕ → Type 0
-OthersLeft numbers blobs x i j = WithThese numbers blobs (λ t cs. unlike (getD (shown t cs x) i none) (drop j (shown t cs x)) ≡ UnlikeAt t cs x i)
-
-abbrev pub DistinctLeft : List ℕ → List ℕ → List ℕ → ℕ → Type 0
-DistinctLeft numbers blobs x i = WithThese numbers blobs (λ t cs. distinct (drop i (shown t cs x)) ≡ distinct (shown t cs x))
-
--- b says whether two places with these numbers, blobs' lengths and bytes have neither blob nor number in common
-abbrev ApartSays : Bool → ℕ → ℕ → List ℕ → ℕ → ℕ → List ℕ → Type 0
-ApartSays b number n p other m q = (e f : Entry) → e .number ≡ number → e .«blob_len» ≡ n → f .number ≡ other → f .«blob_len» ≡ m → b ≡ unlike (placeOf e p) (placeOf f q ∷ [])
-
-module _ (numbers blobs x : List ℕ) where
-  pub blob-inside : (i : ℕ) (p : List ℕ) → i < 8 → Housed numbers blobs x → PartIs x i p → getD blobs i 0 ≤ length p
-  blob-inside i p h housed p-is = omega (arith, housed .blobs-fit i h, part-size x i p (housed .store-size) h p-is)
-
-  module _ (i j : ℕ) (p q : List ℕ) (b : Bool) (i-in : i < 8) (j-in : j < 8) (p-is : PartIs x i p) (q-is : PartIs x j q)
-      (e : ApartSays b (getD numbers i 0) (getD blobs i 0) p (getD numbers j 0) (getD blobs j 0) q) where
-    place-of : (t : Columns) (cs : List ℕ) (k : ℕ) (r : List ℕ) → k < 8 → PartIs x k r → placeOf (entryAt t cs k) r ≡ getD (shown t cs x) k none
-    place-of t cs k r h r-is = let eight = entries-length t cs in rw (r-is (entriesIn t cs) eight, view-at (entriesIn t cs) x eight k h, entries-at t cs k noEntry h)
-
-    unlike-at : WithThese numbers blobs (λ t cs. b ≡ unlike (getD (shown t cs x) i none) (getD (shown t cs x) j none ∷ []))
-    unlike-at t cs ns bs =
-        e (entryAt t cs i) (entryAt t cs j) (rw ns) (rw bs) (rw ns) (rw bs) ∙ rw (place-of t cs i p i-in p-is, place-of t cs j q j-in q-is)
-
-    pub other-on : not b ≡ false → OthersLeft numbers blobs x i j → OthersLeft numbers blobs x i (j + 1)
-    other-on turn left t cs ns bs =
-        walk-on (unlike _) (unlikeOne (getD (shown t cs x) i none)) (unlike-none _) (unlike-goes _) none (shown t cs x) _ j b (rw (eight-shown t cs x) j-in) turn (unlike-at t cs ns bs) (left t cs ns bs)
-
-    pub other-out : not b ≡ true → OthersLeft numbers blobs x i j → WithThese numbers blobs (λ t cs. false ≡ UnlikeAt t cs x i)
-    other-out turn left t cs ns bs =
-        walk-out (unlike _) (unlikeOne (getD (shown t cs x) i none)) (unlike-none _) (unlike-goes _) none (shown t cs x) _ j b (rw (eight-shown t cs x) j-in) turn (unlike-at t cs ns bs) (left t cs ns bs)
-
-  pub others-end : (i j : ℕ) → 8 ≤ j → OthersLeft numbers blobs x i j → WithThese numbers blobs (λ t cs. true ≡ UnlikeAt t cs x i)
-  others-end i j h left t cs ns bs =
-      walk-end (unlike _) (unlikeOne (getD (shown t cs x) i none)) (unlike-none _) (unlike-goes _) none (shown t cs x) _ j (rw (eight-shown t cs x) h) (left t cs ns bs)
-
-  module _ (i : ℕ) (b : Bool) (i-in : i < 8) (e : WithThese numbers blobs (λ t cs. b ≡ UnlikeAt t cs x i)) where
-    pub distinct-on : not b ≡ false → DistinctLeft numbers blobs x i → DistinctLeft numbers blobs x (i + 1)
-    distinct-on turn left t cs ns bs = walk-on distinct unlike distinct-none distinct-goes none (shown t cs x) _ i b (rw (eight-shown t cs x) i-in) turn (e t cs ns bs) (left t cs ns bs)
-
-    pub distinct-out : not b ≡ true → DistinctLeft numbers blobs x i → WithThese numbers blobs (λ t cs. false ≡ distinct (shown t cs x))
-    distinct-out turn left t cs ns bs = walk-out distinct unlike distinct-none distinct-goes none (shown t cs x) _ i b (rw (eight-shown t cs x) i-in) turn (e t cs ns bs) (left t cs ns bs)
-
-  pub distinct-end : (i : ℕ) → 8 ≤ i → DistinctLeft numbers blobs x i → WithThese numbers blobs (λ t cs. true ≡ distinct (shown t cs x))
-  distinct-end i h left t cs ns bs = walk-end distinct unlike distinct-none distinct-goes none (shown t cs x) _ i (rw (eight-shown t cs x) h) (left t cs ns bs)
-
--- where all other tests are passed, the last one decides
-module _ (s : State) (x : List ℕ) (store : length x ≡ storeSize) (comments : length (s .comments) ≡ commentsSize) (eight : true ≡ eightColumns (s .columns)) (first : 1 ≤ s .next) (last : s .next ≤ lastNumber) where
-  pub last-test : (b : Bool) → true ≡ soundLock (s .lock) → true ≡ soundPlaces (s .clock) (s .next) (entriesOf s) x
-      → WithThese (s .columns .numbers) (s .columns .«blob_lens») (λ t cs. b ≡ distinct (shown t cs x)) → b ≡ soundState s x
-  unfolding soundState
-  last-test b lock places every = let decides = every (s .columns) (s .comments) refl refl in search tests depth 16
+pub housed-by : (t : Columns) (x : List ℕ) (n end : ℕ) → Long t → length x ≡ storeSize → n ≡ countOf (t .numbers) → end ≡ startIn (t .«blob_lens») (t .«fields_lens») (t .«comment_lens») n → end ≤ storeSize
+    → Housed (t .numbers) (t .«blob_lens») (t .«fields_lens») (t .«comment_lens») x
+housed-by t x n end long whole counted is h = record {
+  long-numbers = long .numbers;
+  long-blobs = long .blobs;
+  long-fields = long .fields;
+  long-comments = long .comments;
+  room = rw (← counted, ← is, whole) h;
+}

@@ -17,10 +17,10 @@ use wire::limits;
 ghost use mathlib.Core.Path.{_≡_};
 ghost use Prim.Native.Nat.{ℕ, _≤_, _<_};
 ghost use lib.ListN.{length, getD};
-ghost use Rattle.wire.specs.Limits.{entriesLimit, blobLimit, fieldsLimit, commentLimit};
+ghost use Rattle.wire.specs.Limits.{entriesLimit, storeSize, blobLimit, fieldsLimit, commentLimit};
 ghost use Rattle.table.specs.Entries.{Long, columns, countOf, entriesIn, startIn};
 ghost use Rattle.table.specs.Meaning.{held};
-ghost use Rattle.table.specs.Soundness.{isFlag, longColumns, soundLengths, soundFigures, soundEntries, soundFlags, soundLifetime, soundLock, soundState};
+ghost use Rattle.table.specs.Soundness.{isFlag, longColumns, soundLengths, soundFigures, soundEntries, soundFlags, soundLifetime, soundLock, soundKeys, soundState};
 
 // Has each column 24 numbers?
 fn are_long(
@@ -186,6 +186,61 @@ fn is_lock_sound(bytes: &[u8], len: usize) -> bool
     is_zero(&bytes[len..])
 }
 
+// Columns and store of their sizes: unused entries, each entry by itself, the store's end, the entries side by side.
+fn are_keys_sound(
+    numbers: &[u64],
+    readings: &[u64],
+    blob_lens: &[usize],
+    fields_lens: &[usize],
+    comment_lens: &[usize],
+    seconds: &[u32],
+    limited: &[u8],
+    confirm: &[u8],
+    clock: Millis,
+    next: u64,
+    store: &[u8],
+) -> bool
+    requires { ⌜ Long (columns (now numbers) (now readings) (now «blob_lens») (now «fields_lens») (now «comment_lens») (now seconds) (now limited) (now confirm)) × (length (now store) ≡ storeSize) ⌝ }
+    ensures { λ r. ⌜ r ≡ soundKeys clock next (columns (now (numbers .entry)) (now (readings .entry)) (now («blob_lens» .entry)) (now («fields_lens» .entry)) (now («comment_lens» .entry)) (now (seconds .entry)) (now (limited .entry)) (now (confirm .entry))) (now (store .entry)) ⌝ }
+{
+    let n = count(numbers);
+    if !is_unused_zero(
+        numbers,
+        readings,
+        blob_lens,
+        fields_lens,
+        comment_lens,
+        seconds,
+        limited,
+        confirm,
+        n,
+    ) {
+        return false;
+    }
+    if !are_entries_sound(
+        numbers,
+        readings,
+        blob_lens,
+        fields_lens,
+        comment_lens,
+        seconds,
+        limited,
+        confirm,
+        clock,
+        next,
+    ) {
+        return false;
+    }
+    let end = end_of(blob_lens, fields_lens, comment_lens, n);
+    if limits::STORE_SIZE < end {
+        return false;
+    }
+    if !is_zero(&store[end..]) {
+        return false;
+    }
+    is_distinct(numbers, blob_lens, fields_lens, comment_lens, store)
+}
+
 pub fn is_sound(
     numbers: &[u64],
     readings: &[u64],
@@ -222,22 +277,8 @@ pub fn is_sound(
     if !is_lock_sound(passphrase, kept.locked) {
         return false;
     }
-    let n = count(numbers);
-    if !is_unused_zero(
-        numbers,
-        readings,
-        blob_lens,
-        fields_lens,
-        comment_lens,
-        seconds,
-        limited,
-        confirm,
-        n,
-    ) {
-        return false;
-    }
     let clock = kept.clock;
-    if !are_entries_sound(
+    are_keys_sound(
         numbers,
         readings,
         blob_lens,
@@ -248,17 +289,8 @@ pub fn is_sound(
         confirm,
         clock,
         kept.next,
-    ) {
-        return false;
-    }
-    let end = end_of(blob_lens, fields_lens, comment_lens, n);
-    if limits::STORE_SIZE < end {
-        return false;
-    }
-    if !is_zero(&store[end..]) {
-        return false;
-    }
-    is_distinct(numbers, blob_lens, fields_lens, comment_lens, store)
+        store,
+    )
 }
 
 // Of a state's arrays.

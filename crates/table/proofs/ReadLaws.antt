@@ -24,7 +24,7 @@ use Rattle.table.specs.Shown.{ShowsParts}
 use Rattle.table.proofs.EntryLaws.{count-within, entries-length, entries-at, start-is, start-step, start-mono, start-all}
 use Rattle.table.proofs.StateLaws.{keyAt, state-count, state-entry, state-held, blob-lies}
 
-every-figures-at : (P : Figures → Type 0) (fs : List Figures) → EveryFigures P fs → (i : ℕ) (d : Figures) → i < length fs → P (getD fs i d)
+pub every-figures-at : (P : Figures → Type 0) (fs : List Figures) → EveryFigures P fs → (i : ℕ) (d : Figures) → i < length fs → P (getD fs i d)
 every-figures-at P [] all i d h = absurd (not-suc-le-zero h)
 every-figures-at P (f ∷ fs) all zero d h = all .0
 every-figures-at P (f ∷ fs) all (suc i) d h = every-figures-at P fs (all .1) i d (le-of-suc-le-suc h)

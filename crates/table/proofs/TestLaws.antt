@@ -18,7 +18,7 @@ use Rattle.table.specs.declared.LockRecord.{LockRecord}
 use Rattle.table.specs.Bytes.{Zeros}
 use Rattle.table.specs.Entries.{Long, countOf}
 use Rattle.table.specs.Meaning.{entriesOf, isSet, view, endOf}
-use Rattle.table.specs.Soundness.{isFlag, longColumns, zeroBehind, soundFlags, soundLifetime, soundLengths, soundFigures, all, soundEntries, soundStore, soundLock, soundState, shortOf, Flag, ZeroBehind, SoundFigures, EveryFigures, SoundLock}
+use Rattle.table.specs.Soundness.{isFlag, longColumns, zeroBehind, soundFlags, soundLifetime, soundLengths, soundFigures, all, soundEntries, soundStore, soundLock, soundKeys, soundState, shortOf, Flag, ZeroBehind, SoundFigures, EveryFigures, SoundLock}
 use Rattle.table.specs.Promises.{SoundStateRule, ShortRule}
 use Rattle.table.proofs.ByteLaws.{zeros-say}
 
@@ -135,7 +135,7 @@ unused-says n t =
     )
 
 pub sound-state-rule : SoundStateRule
-unfolding soundState
+unfolding soundState soundKeys
 sound-state-rule s x =
     let tests =
     both-say _ _ _ _ (eq-says (length x) storeSize)

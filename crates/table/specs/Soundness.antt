@@ -16,7 +16,7 @@ use Rattle.table.specs.declared.Figures.{Figures}
 use Rattle.table.specs.declared.LockRecord.{LockRecord}
 use Rattle.table.specs.declared.State.{State}
 use Rattle.table.specs.Bytes.{allZero, Zeros, sumOf}
-use Rattle.table.specs.Entries.{Long, countOf, upTo, startIn}
+use Rattle.table.specs.Entries.{Long, countOf, upTo, entriesIn, startIn}
 use Rattle.table.specs.Meaning.{isSet, entriesOf, view, gatewayOf, endOf}
 
 -- ## The tests
@@ -80,16 +80,21 @@ soundStore fs x = leb (endOf fs) storeSize && allZero (drop (endOf fs) x)
 unfoldable pub soundLock : LockRecord → Bool
 soundLock l = eqb (length (l .bytes)) passphraseLimit && (leb (l .len) passphraseLimit && allZero (drop (l .len) (l .bytes)))
 
+-- columns and store: unused entries, each entry by itself, the store's end, the entries side by side
+unfoldable pub soundKeys : Millis → ℕ → Columns → List ℕ → Bool
+soundKeys clock next t x =
+    zeroBehind (countOf (t .numbers)) t
+    && (soundEntries clock next (entriesIn t)
+    && (soundStore (entriesIn t) x
+    && distinct (view (entriesIn t) x)))
+
 unfoldable pub soundState : State → List ℕ → Bool
 soundState s x =
     eqb (length x) storeSize
     && (longColumns (s .columns)
     && (within 1 lastNumber (s .next)
     && (soundLock (s .lock)
-    && (zeroBehind (countOf (s .columns .numbers)) (s .columns)
-    && (soundEntries (s .clock) (s .next) (entriesOf s)
-    && (soundStore (entriesOf s) x
-    && distinct (view (entriesOf s) x)))))))
+    && soundKeys (s .clock) (s .next) (s .columns) x)))
 
 -- a short number of a blob: blobs whose short numbers differ are not the same
 unfoldable pub shortOf : List ℕ → ℕ

@@ -16,13 +16,13 @@ returns : tie.Need-returns
 returns c =
     let start : tie.Start = search in
     let a = start .args in
-    refuses-1 _ _ _ _ _ _ _ _ (c .before .if1 .taken) (refused-as (columns (a .numbers .now) (a .readings .now) (a .blob-lens .now) (a .fields-lens .now) (a .comment-lens .now) (a .seconds .now) (a .limited .now) (a .confirm .now)) (a .comments .now) (a .passphrase .now) _ _ _ (c .refused .ensures))
+    refuses-1 _ _ _ _ _ _ _ _ (c .before .if1 .taken) (refused-as (columns (a .numbers .now) (a .readings .now) (a .blob-lens .now) (a .fields-lens .now) (a .comment-lens .now) (a .seconds .now) (a .limited .now) (a .confirm .now)) (a .passphrase .now) _ _ _ (c .refused .ensures))
 
 returns-2 : tie.Need-returns-2
 returns-2 c =
     let start : tie.Start = search in
     let a = start .args in
-    refuses-2 _ _ _ _ _ _ _ _ (c .before .before .if1 .left) (c .before .if2 .taken) (refused-as (columns (a .numbers .now) (a .readings .now) (a .blob-lens .now) (a .fields-lens .now) (a .comment-lens .now) (a .seconds .now) (a .limited .now) (a .confirm .now)) (a .comments .now) (a .passphrase .now) _ _ _ (c .refused2 .ensures))
+    refuses-2 _ _ _ _ _ _ _ _ (c .before .before .if1 .left) (c .before .if2 .taken) (refused-as (columns (a .numbers .now) (a .readings .now) (a .blob-lens .now) (a .fields-lens .now) (a .comment-lens .now) (a .seconds .now) (a .limited .now) (a .confirm .now)) (a .passphrase .now) _ _ _ (c .refused2 .ensures))
 
 returns-3 : tie.Need-returns-3
 returns-3 c =
@@ -31,73 +31,13 @@ returns-3 c =
     let sized = sized-at asked in
     let start = began sized in
     let a = start .args in
-    refuses-3 _ _ _ _ _ _ _ _ _ (sized .before .if1 .left) (sized .if2 .left) (tested .if3 .taken) (asked .is-sound .ensures) (refused-as (columns (a .numbers .now) (a .readings .now) (a .blob-lens .now) (a .fields-lens .now) (a .comment-lens .now) (a .seconds .now) (a .limited .now) (a .confirm .now)) (a .comments .now) (a .passphrase .now) _ _ _ (c .refused3 .ensures))
+    refuses-3 _ _ _ _ _ _ _ _ _ (sized .before .if1 .left) (sized .if2 .left) (tested .if3 .taken) (asked .is-sound .ensures) (refused-as (columns (a .numbers .now) (a .readings .now) (a .blob-lens .now) (a .fields-lens .now) (a .comment-lens .now) (a .seconds .now) (a .limited .now) (a .confirm .now)) (a .passphrase .now) _ _ _ (c .refused3 .ensures))
 
 call-sound-requires : tie.Need-call-sound-requires
 call-sound-requires c κs =
     let tested : tie.Else3 = search in
     let asked : tie.After-is-sound = search in
     sound-told _ _ _ (tested .if3 .left) (asked .is-sound .ensures)
-
-same-length-12 : tie.Need-same-length-12
-same-length-12 c =
-    let r : tie.After-call-sound = search in
-    r .call-sound .kept .0
-
-same-length-13 : tie.Need-same-length-13
-same-length-13 c =
-    let r : tie.After-call-sound = search in
-    r .call-sound .kept .1 .0
-
-same-length-14 : tie.Need-same-length-14
-same-length-14 c =
-    let r : tie.After-call-sound = search in
-    r .call-sound .kept .1 .1 .0
-
-same-length-15 : tie.Need-same-length-15
-same-length-15 c =
-    let r : tie.After-call-sound = search in
-    r .call-sound .kept .1 .1 .1 .0
-
-same-length-16 : tie.Need-same-length-16
-same-length-16 c =
-    let r : tie.After-call-sound = search in
-    r .call-sound .kept .1 .1 .1 .1 .0
-
-same-length-17 : tie.Need-same-length-17
-same-length-17 c =
-    let r : tie.After-call-sound = search in
-    r .call-sound .kept .1 .1 .1 .1 .1 .0
-
-same-length-18 : tie.Need-same-length-18
-same-length-18 c =
-    let r : tie.After-call-sound = search in
-    r .call-sound .kept .1 .1 .1 .1 .1 .1 .0
-
-same-length-19 : tie.Need-same-length-19
-same-length-19 c =
-    let r : tie.After-call-sound = search in
-    r .call-sound .kept .1 .1 .1 .1 .1 .1 .1 .0
-
-same-length-20 : tie.Need-same-length-20
-same-length-20 c =
-    let r : tie.After-call-sound = search in
-    r .call-sound .kept .1 .1 .1 .1 .1 .1 .1 .1 .0
-
-same-length-21 : tie.Need-same-length-21
-same-length-21 c =
-    let r : tie.After-call-sound = search in
-    r .call-sound .kept .1 .1 .1 .1 .1 .1 .1 .1 .1 .0
-
-same-length-22 : tie.Need-same-length-22
-same-length-22 c =
-    let r : tie.After-call-sound = search in
-    r .call-sound .kept .1 .1 .1 .1 .1 .1 .1 .1 .1 .1 .1 .0
-
-same-length-23 : tie.Need-same-length-23
-same-length-23 c =
-    let r : tie.After-call-sound = search in
-    r .call-sound .kept .1 .1 .1 .1 .1 .1 .1 .1 .1 .1 .1 .1 .1 .1 .1 .1 .0
 
 pub call-core-spec : {M : Type 1} → statement M
 call-core-spec =
@@ -119,19 +59,17 @@ call-core-spec =
     (λ c. search needs)
     (λ c. search needs)
     (λ c. search needs)
-    (λ c. search needs)
     returns-3
     call-sound-requires
-    same-length-12
-    same-length-13
-    same-length-14
-    same-length-15
-    same-length-16
-    same-length-17
-    same-length-18
-    same-length-19
-    same-length-20
-    same-length-21
-    same-length-22
-    same-length-23
+    (λ c. let r : tie.After-call-sound = search in r .call-sound .kept .0)
+    (λ c. let r : tie.After-call-sound = search in r .call-sound .kept .1 .0)
+    (λ c. let r : tie.After-call-sound = search in r .call-sound .kept .1 .1 .0)
+    (λ c. let r : tie.After-call-sound = search in r .call-sound .kept .1 .1 .1 .0)
+    (λ c. let r : tie.After-call-sound = search in r .call-sound .kept .1 .1 .1 .1 .0)
+    (λ c. let r : tie.After-call-sound = search in r .call-sound .kept .1 .1 .1 .1 .1 .0)
+    (λ c. let r : tie.After-call-sound = search in r .call-sound .kept .1 .1 .1 .1 .1 .1 .0)
+    (λ c. let r : tie.After-call-sound = search in r .call-sound .kept .1 .1 .1 .1 .1 .1 .1 .0)
+    (λ c. let r : tie.After-call-sound = search in r .call-sound .kept .1 .1 .1 .1 .1 .1 .1 .1 .0)
+    (λ c. let r : tie.After-call-sound = search in r .call-sound .kept .1 .1 .1 .1 .1 .1 .1 .1 .1 .1 .0)
+    (λ c. let r : tie.After-call-sound = search in r .call-sound .kept .1 .1 .1 .1 .1 .1 .1 .1 .1 .1 .1 .1 .1 .1 .1 .0)
     (λ c. search needs))

@@ -12,7 +12,7 @@ use Rattle.engine.proofs.call.call_sound.Tie as tie
 abbrev lent-state : tie.Start → State
 lent-state start =
     let a = start .args in
-    held (columns (a .numbers .now) (a .readings .now) (a .blob-lens .now) (a .fields-lens .now) (a .comment-lens .now) (a .seconds .now) (a .limited .now) (a .confirm .now)) (a .comments .now) (a .passphrase .now) (a .kept)
+    held (columns (a .numbers .now) (a .readings .now) (a .blob-lens .now) (a .fields-lens .now) (a .comment-lens .now) (a .seconds .now) (a .limited .now) (a .confirm .now)) (a .passphrase .now) (a .kept)
 
 -- what is too far back for a search from the function's end
 abbrev began : tie.After-lent-length → tie.Start
@@ -43,7 +43,7 @@ returns : tie.Need-returns
 returns c =
     let start : tie.Start = search in
     let a = start .args in
-    refuses-1 _ _ _ _ _ _ _ _ (c .before .if1 .taken) (refused-as (columns (a .numbers .now) (a .readings .now) (a .blob-lens .now) (a .fields-lens .now) (a .comment-lens .now) (a .seconds .now) (a .limited .now) (a .confirm .now)) (a .comments .now) (a .passphrase .now) _ _ _ (c .refused .ensures))
+    refuses-1 _ _ _ _ _ _ _ _ (c .before .if1 .taken) (refused-as (columns (a .numbers .now) (a .readings .now) (a .blob-lens .now) (a .fields-lens .now) (a .comment-lens .now) (a .seconds .now) (a .limited .now) (a .confirm .now)) (a .passphrase .now) _ _ _ (c .refused .ensures))
 
 returns-2 : tie.Need-returns-2
 returns-2 c =
@@ -51,7 +51,7 @@ returns-2 c =
     let room : tie.Else1 = search in
     let start : tie.Start = search in
     let a = start .args in
-    refuses-4 _ _ _ _ _ _ _ (room .if1 .left) (start .pre) _ (short .if2 .taken) (refused-as (columns (a .numbers .now) (a .readings .now) (a .blob-lens .now) (a .fields-lens .now) (a .comment-lens .now) (a .seconds .now) (a .limited .now) (a .confirm .now)) (a .comments .now) (a .passphrase .now) _ _ _ (c .refused2 .ensures))
+    refuses-4 _ _ _ _ _ _ _ (room .if1 .left) (start .pre) _ (short .if2 .taken) (refused-as (columns (a .numbers .now) (a .readings .now) (a .blob-lens .now) (a .fields-lens .now) (a .comment-lens .now) (a .seconds .now) (a .limited .now) (a .confirm .now)) (a .passphrase .now) _ _ _ (c .refused2 .ensures))
 
 returns-3 : tie.Need-returns-3
 returns-3 c =
@@ -62,7 +62,7 @@ returns-3 c =
     let start = began counted in
     let a = start .args in
     refuses-5 _ _ _ _ _ _ _ (room .if1 .left) (start .pre) _ (short .if2 .left) (counted .lent-length .ensures) _ (lent .if3 .taken)
-    (refused-as (columns (a .numbers .now) (a .readings .now) (a .blob-lens .now) (a .fields-lens .now) (a .comment-lens .now) (a .seconds .now) (a .limited .now) (a .confirm .now)) (a .comments .now) (a .passphrase .now) _ _ _ (c .refused3 .ensures))
+    (refused-as (columns (a .numbers .now) (a .readings .now) (a .blob-lens .now) (a .fields-lens .now) (a .comment-lens .now) (a .seconds .now) (a .limited .now) (a .confirm .now)) (a .passphrase .now) _ _ _ (c .refused3 .ensures))
 
 advance-requires : tie.Need-advance-requires
 advance-requires c κs =
@@ -79,66 +79,6 @@ respond-requires c κs =
     let start = began counted in
     let a = start .args in
     (room .if1 .left, lent-short (a .answers) _ _ (counted .lent-length .ensures) (lent .if3 .left), raised .advance .ensures (a .passphrase .now) (start .pre) .sound)
-
-same-length : tie.Need-same-length
-same-length c =
-    let served : tie.After-respond = search in
-    let raised = raised-at served in
-    served .respond .kept .0 ∙ raised .advance .kept .0
-
-same-length-2 : tie.Need-same-length-2
-same-length-2 c =
-    let served : tie.After-respond = search in
-    let raised = raised-at served in
-    served .respond .kept .1 .0 ∙ raised .advance .kept .1 .0
-
-same-length-3 : tie.Need-same-length-3
-same-length-3 c =
-    let served : tie.After-respond = search in
-    let raised = raised-at served in
-    served .respond .kept .1 .1 .0 ∙ raised .advance .kept .1 .1 .0
-
-same-length-4 : tie.Need-same-length-4
-same-length-4 c =
-    let served : tie.After-respond = search in
-    let raised = raised-at served in
-    served .respond .kept .1 .1 .1 .0 ∙ raised .advance .kept .1 .1 .1 .0
-
-same-length-5 : tie.Need-same-length-5
-same-length-5 c =
-    let served : tie.After-respond = search in
-    let raised = raised-at served in
-    served .respond .kept .1 .1 .1 .1 .0 ∙ raised .advance .kept .1 .1 .1 .1 .0
-
-same-length-6 : tie.Need-same-length-6
-same-length-6 c =
-    let served : tie.After-respond = search in
-    let raised = raised-at served in
-    served .respond .kept .1 .1 .1 .1 .1 .0 ∙ raised .advance .kept .1 .1 .1 .1 .1 .0
-
-same-length-7 : tie.Need-same-length-7
-same-length-7 c =
-    let served : tie.After-respond = search in
-    let raised = raised-at served in
-    served .respond .kept .1 .1 .1 .1 .1 .1 .0 ∙ raised .advance .kept .1 .1 .1 .1 .1 .1 .0
-
-same-length-8 : tie.Need-same-length-8
-same-length-8 c =
-    let served : tie.After-respond = search in
-    let raised = raised-at served in
-    served .respond .kept .1 .1 .1 .1 .1 .1 .1 .0 ∙ raised .advance .kept .1 .1 .1 .1 .1 .1 .1 .0
-
-same-length-9 : tie.Need-same-length-9
-same-length-9 c =
-    let served : tie.After-respond = search in
-    let raised = raised-at served in
-    served .respond .kept .1 .1 .1 .1 .1 .1 .1 .1 .0 ∙ raised .advance .kept .1 .1 .1 .1 .1 .1 .1 .1 .0
-
-same-length-11 : tie.Need-same-length-11
-same-length-11 c =
-    let served : tie.After-respond = search in
-    let raised = raised-at served in
-    served .respond .kept .1 .1 .1 .1 .1 .1 .1 .1 .1 .1 .1 .0 ∙ raised .advance .kept .1 .1 .1 .1 .1 .1 .1 .1 .1 .1 .0
 
 returns-4 : tie.Need-returns-4
 returns-4 c =
@@ -166,16 +106,15 @@ call-sound-spec =
     returns-3
     advance-requires
     respond-requires
-    same-length
-    same-length-2
-    same-length-3
-    same-length-4
-    same-length-5
-    same-length-6
-    same-length-7
-    same-length-8
-    same-length-9
+    (λ c. let served : tie.After-respond = search in let raised = raised-at served in served .respond .kept .0 ∙ raised .advance .kept .0)
+    (λ c. let served : tie.After-respond = search in let raised = raised-at served in served .respond .kept .1 .0 ∙ raised .advance .kept .1 .0)
+    (λ c. let served : tie.After-respond = search in let raised = raised-at served in served .respond .kept .1 .1 .0 ∙ raised .advance .kept .1 .1 .0)
+    (λ c. let served : tie.After-respond = search in let raised = raised-at served in served .respond .kept .1 .1 .1 .0 ∙ raised .advance .kept .1 .1 .1 .0)
+    (λ c. let served : tie.After-respond = search in let raised = raised-at served in served .respond .kept .1 .1 .1 .1 .0 ∙ raised .advance .kept .1 .1 .1 .1 .0)
+    (λ c. let served : tie.After-respond = search in let raised = raised-at served in served .respond .kept .1 .1 .1 .1 .1 .0 ∙ raised .advance .kept .1 .1 .1 .1 .1 .0)
+    (λ c. let served : tie.After-respond = search in let raised = raised-at served in served .respond .kept .1 .1 .1 .1 .1 .1 .0 ∙ raised .advance .kept .1 .1 .1 .1 .1 .1 .0)
+    (λ c. let served : tie.After-respond = search in let raised = raised-at served in served .respond .kept .1 .1 .1 .1 .1 .1 .1 .0 ∙ raised .advance .kept .1 .1 .1 .1 .1 .1 .1 .0)
     (λ c. search needs)
-    same-length-11
+    (λ c. let served : tie.After-respond = search in let raised = raised-at served in served .respond .kept .1 .1 .1 .1 .1 .1 .1 .1 .1 .1 .0 ∙ raised .advance .kept .1 .1 .1 .1 .1 .1 .1 .1 .1 .0)
     (λ c. search needs)
     returns-4)

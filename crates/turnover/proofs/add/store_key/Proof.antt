@@ -72,6 +72,27 @@ sized-told c =
     let same-comment = comment .cut2 .ensures .bytes in
     λ j. length (k .blob) + (length (sym same-fields j) + length (sym same-comment j))
 
+-- within the limits the sum does not overflow
+small : tie.Need-add-size
+unfolding begun
+small c =
+    let at-fits : tie.After-fits2 = search in
+    let within : tie.Else1 = search in
+    let start = begun at-fits in
+    let fits = sym (not-false _ (within .if1 .left)) ∙ fits-told at-fits in
+    let all = new-short (key start) _ (sized-told at-fits) fits in
+    record { fits = omega arith }
+
+small-2 : tie.Need-add-size-2
+unfolding begun
+small-2 c =
+    let at-fits : tie.After-fits2 = search in
+    let within : tie.Else1 = search in
+    let start = begun at-fits in
+    let fits = sym (not-false _ (within .if1 .left)) ∙ fits-told at-fits in
+    let all = new-short (key start) _ (sized-told at-fits) fits in
+    record { fits = omega arith }
+
 shown : tie.Need-place-for-requires
 unfolding begun
 shown c κs =
@@ -93,6 +114,20 @@ may c κs =
     let a = start .args in
     let fits = sym (not-false _ (within .if1 .left)) ∙ fits-told at-fits in
     with-place (given start) (a .store .now) (a .kept) (start .pre .1) _ (key start) _ _ (sized-told at-fits) (place .i .given .1) (found .place-for .ensures) fits (left .if2 .left)
+
+denied-room : tie.Need-failure-requires-4
+unfolding begun
+denied-room c κs =
+    let at-fits : tie.After-fits2 = search in
+    let long = begun at-fits .pre .0 in
+    omega (arith, long)
+
+full-room : tie.Need-failure-requires-3
+unfolding begun
+full-room c κs =
+    let at-fits : tie.After-fits2 = search in
+    let long = begun at-fits .pre .0 in
+    omega (arith, long)
 
 room : tie.Need-success-requires
 unfolding begun
@@ -182,16 +217,20 @@ store-key-spec =
     (λ c κs. search needs)
     (λ c. search needs)
     returns-2
+    small
+    small-2
     shown
     (λ c. search needs)
-    (λ c κs. search needs)
+    full-room
     (λ c. search needs)
     (λ c. search needs)
     (λ c. search needs)
-    (λ c κs. search needs)
+    denied-room
     (λ c. search needs)
     may
     room
+    (λ c. search needs)
+    (λ c. search needs)
     (λ c. search needs)
     (λ c. search needs)
     (λ c. search needs)
@@ -200,13 +239,16 @@ store-key-spec =
     (λ c. search needs)
     (λ c. search needs)
     (λ c. search needs)
+    (λ c. search needs)
+    (λ c. search needs)
     returns-4
     (λ c. search needs)
     (λ c. search needs)
     (λ c. search needs)
     (λ c. search needs)
-    returns-5
     (λ c. search needs)
+    (λ c. search needs)
+    returns-5
     (λ c. search needs)
     (λ c. search needs)
     (λ c. search needs)

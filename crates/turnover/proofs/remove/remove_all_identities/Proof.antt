@@ -36,5 +36,4 @@ remove-all-identities-spec =
     (λ c. search needs)
     (λ c. search needs)
     (λ c. search needs)
-    (λ c. search needs)
     returns)

@@ -10,6 +10,12 @@ use Rattle.turnover.proofs.remove.remove_identity.Tie as tie
 begun : tie.After-cut → tie.Start
 begun c = search
 
+abbrev part-at : tie.After-cut → tie.After-from
+part-at c = search
+
+abbrev read-at : tie.After-cut → tie.After-string
+read-at c = search
+
 returns : tie.Need-returns
 returns c =
     let failed : tie.After-failure = search in
@@ -48,8 +54,8 @@ returns-2 c =
     let place : tie.After-i = search in
     let found : tie.After-find = search in
     let at-cut : tie.After-cut = search in
-    let part : tie.After-from = search in
-    let at-string : tie.After-string = search in
+    let part = part-at at-cut in
+    let at-string = read-at at-cut in
     let a = begun at-cut .args in
     let t = columns (a .numbers .now) (a .readings .now) (a .blob-lens .now) (a .fields-lens .now) (a .comment-lens .now) (a .seconds .now) (a .limited .now) (a .confirm .now) in
     let w = removed .remove .last in
@@ -64,8 +70,8 @@ returns-3 c =
     let told : tie.After-enum-told2 = search in
     let found : tie.After-find = search in
     let at-cut : tie.After-cut = search in
-    let part : tie.After-from = search in
-    let at-string : tie.After-string = search in
+    let part = part-at at-cut in
+    let at-string = read-at at-cut in
     none-held _ _ _ _ _ _ _ (at-string .string .ensures) _ _ _ (part .from .given .1) _ _ (at-cut .cut .ensures .bytes) (found .find .ensures)
     (told .enum-told2 .given .1) (failed .failure2 .ensures)
 
@@ -96,8 +102,9 @@ remove-identity-spec =
     (λ c. search needs)
     (λ c. search needs)
     (λ c. search needs)
-    (λ c. search needs)
     returns-2
+    (λ c. search needs)
+    (λ c. search needs)
     (λ c. search needs)
     (λ c. search needs)
     (λ c. search needs)

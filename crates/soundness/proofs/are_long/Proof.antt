@@ -1,12 +1,12 @@
 -- The definition makes the same tests. Assumes nothing.
-use Rattle.table.specs.Soundness.{eightColumns}
+use Rattle.table.specs.Soundness.{longColumns}
 use Rattle.soundness.proofs.SoundnessLaws.{tests}
-use Rattle.soundness.proofs.are_eight.Statement.{statement}
-use Rattle.soundness.proofs.are_eight.Tie as tie
+use Rattle.soundness.proofs.are_long.Statement.{statement}
+use Rattle.soundness.proofs.are_long.Tie as tie
 
-pub are-eight-spec : {M : Type 1} → statement M
-unfolding eightColumns
-are-eight-spec =
+pub are-long-spec : {M : Type 1} → statement M
+unfolding longColumns
+are-long-spec =
     tie.close
     (tie.spec
     (λ c. search tests depth 16)
