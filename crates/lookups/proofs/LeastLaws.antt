@@ -1,31 +1,29 @@
--- The least number above another, place by place.
+-- The least number above another, entry by entry.
 use Prim.Native.Nat.{ℕ, suc, _-_, _≤_, _<_}
 use mathlib.Core.Path.{_≡_, sym, ap, _∙_}
-use mathlib.Core.Option.{none}
 use mathlib.Core.List.{List}
 use native.Mathlib.Omega.{arith}
-use lib.ListN.{length, drop, getD, drop-of-length-le}
-use lib.Seq.{drop-cons}
-use Rattle.rule.specs.Gateway.{Place}
-use Rattle.table.specs.Meaning.{numberIn}
+use lib.ListN.{length, drop, drop-of-length-le}
+use Rattle.rule.specs.Gateway.{Entry as Key}
+use Rattle.rule.proofs.PositionLaws.{Holds}
+use Rattle.table.proofs.SeekLaws.{drop-entry}
 use Rattle.lookups.specs.Told.{nearer, leastAbove}
 
--- ## The loop, from the last place on
+-- ## The loop, from the last entry on
 
-module _ (after : ℕ) (ps : List Place) (i : ℕ) where
-  pub least-end : length ps ≤ i → leastAbove after (drop i ps) ≡ 0
+module _ (after : ℕ) (ks : List Key) (i : ℕ) where
+  pub least-end : length ks ≤ i → leastAbove after (drop i ks) ≡ 0
   unfolding leastAbove
-  least-end h = rw (drop-of-length-le ps h)
+  least-end h = rw (drop-of-length-le ks h)
 
-  pub least-all : i ≤ 0 → leastAbove after (drop i ps) ≡ leastAbove after ps
+  pub least-all : i ≤ 0 → leastAbove after (drop i ks) ≡ leastAbove after ks
   least-all h = let e : i ≡ 0 = omega arith in rw e
 
-  -- place i - 1 comes to those from i on
-  pub least-step : (n best : ℕ) → 0 < i → i ≤ length ps → n ≡ numberIn (getD ps (i - 1) none) → best ≡ leastAbove after (drop i ps)
-      → nearer after n best ≡ leastAbove after (drop (i - 1) ps)
+  -- entry i - 1 comes to those from i on
+  pub least-step : (k : Key) (n best : ℕ) → 0 < i → Holds ks (i - 1) k → n ≡ k .number → best ≡ leastAbove after (drop i ks)
+      → nearer after n best ≡ leastAbove after (drop (i - 1) ks)
   unfolding leastAbove
-  least-step n best some inside number left =
+  least-step k n best some there number left =
       let behind : suc (i - 1) ≡ i = omega arith in
-      let short : i - 1 < length ps = omega arith in
-      let here : leastAbove after (drop (i - 1) ps) ≡ nearer after (numberIn (getD ps (i - 1) none)) (leastAbove after (drop (suc (i - 1)) ps)) = rw (drop-cons ps (i - 1) none short) in
-      (λ j. nearer after (number j) (left j)) ∙ ap (λ (m : ℕ). nearer after (numberIn (getD ps (i - 1) none)) (leastAbove after (drop m ps))) (sym behind) ∙ sym here
+      let here : leastAbove after (drop (i - 1) ks) ≡ nearer after (k .number) (leastAbove after (drop (suc (i - 1)) ks)) = ap (leastAbove after) (drop-entry ks (i - 1) k there) in
+      (λ j. nearer after (number j) (left j)) ∙ ap (λ (m : ℕ). nearer after (k .number) (leastAbove after (drop m ks))) (sym behind) ∙ sym here

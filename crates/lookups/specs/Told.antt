@@ -1,35 +1,34 @@
 -- What is told of the held keys, over what state and store mean.
 use Prim.Native.Nat.{ℕ, _+_, _-_}
-use mathlib.Core.Bool.{Bool, false, cond}
-use mathlib.Core.Option.{none, some}
+use mathlib.Core.Bool.{Bool, cond}
+use mathlib.Core.Option.{Option, none, some}
 use mathlib.Core.List.{List, [], _∷_}
-use lib.ListN.{length, getD}
+use lib.ListN.{length}
 use lib.Dec.{leb, ltb, eqb}
 use Rattle.keys.specs.declared.constraints.Lifetime.{Lifetime}
 use Rattle.keys.specs.declared.constraints.Lifetime.the-variants.{Forever, For}
 use Rattle.rule.specs.declared.Millis.{Millis}
-use Rattle.rule.specs.Gateway.{Entry as Key, Place, zeroMillis, millisOf, seek, found}
+use Rattle.rule.specs.Gateway.{Entry as Key, zeroMillis, millisOf, entryAt, seek, found}
 use Rattle.table.specs.declared.State.{State}
-use Rattle.table.specs.Meaning.{numberIn, entriesOf, gatewayOf, startOf, fieldsStart, flagOf, limitedFlag, keptComment}
+use Rattle.table.specs.Meaning.{entriesOf, gatewayOf, startOf, flagOf, limitedFlag, keptComment}
 use Rattle.table.specs.Soundness.{soundState}
 use Rattle.lookups.specs.declared.Comment.{Comment}
 use Rattle.lookups.specs.declared.HeldKey.{HeldKey}
 
 -- ## One key
 
--- does a place hold the key with this number?
-abbrev pub hasNumber : ℕ → Place → Bool
-hasNumber n none = false
-hasNumber n (some k) = eqb (k .number) n
+-- has a key this number?
+abbrev pub hasNumber : ℕ → Key → Bool
+hasNumber n k = eqb (k .number) n
 
 -- what is left of a lifetime: "clock minus insertion reading" is used up
 unfoldable pub leftAt : Millis → Millis → Lifetime → Millis
 leftAt clock reading Forever = zeroMillis
 leftAt clock reading (For seconds) = record { count = millisOf seconds .count - (clock .count - reading .count) }
 
--- as the table keeps it
+-- a comment and its length, the rest zero
 unfoldable pub kept : List ℕ → Comment
-kept c = record { bytes = keptComment c .bytes; len = keptComment c .len }
+kept c = record { bytes = keptComment c; len = length c }
 
 unfoldable pub nothing : HeldKey
 nothing = record {
@@ -44,7 +43,7 @@ nothing = record {
   comment = kept [];
 }
 
--- of the key in place i; its blob begins where the place does
+-- of the key at position i; its fields begin where its blob ends
 unfoldable pub toldOf : State → ℕ → Key → HeldKey
 toldOf s i k = record {
   number = k .number;
@@ -53,20 +52,20 @@ toldOf s i k = record {
   left = leftAt (s .clock) (k .reading) (k .lifetime);
   «blob_from» = startOf (entriesOf s) i;
   «blob_to» = startOf (entriesOf s) i + length (k .blob);
-  «fields_from» = fieldsStart (entriesOf s) i;
-  «fields_to» = fieldsStart (entriesOf s) i + length (k .fields);
+  «fields_from» = startOf (entriesOf s) i + length (k .blob);
+  «fields_to» = startOf (entriesOf s) i + length (k .blob) + length (k .fields);
   comment = kept (k .comment);
 }
 
-abbrev pub toldIn : State → ℕ → Place → HeldKey
+abbrev pub toldIn : State → ℕ → Option Key → HeldKey
 toldIn s i none = nothing
 toldIn s i (some k) = toldOf s i k
 
 unfoldable pub keyTold : State → List ℕ → ℕ → HeldKey
 keyTold s x n =
     cond (soundState s x)
-    (found nothing (seek (hasNumber n) 0 (gatewayOf s x .places)) λ i.
-    toldIn s i (getD (gatewayOf s x .places) i none))
+    (found nothing (seek (hasNumber n) 0 (gatewayOf s x .entries)) λ i.
+    toldIn s i (entryAt (gatewayOf s x .entries) i))
     nothing
 
 -- ## The next number
@@ -75,9 +74,9 @@ keyTold s x n =
 unfoldable pub nearer : ℕ → ℕ → ℕ → ℕ
 nearer after n best = cond (leb n after) best (cond (eqb best 0) n (cond (ltb n best) n best))
 
-unfoldable pub leastAbove : ℕ → List Place → ℕ
+unfoldable pub leastAbove : ℕ → List Key → ℕ
 leastAbove after [] = 0
-leastAbove after (p ∷ ps) = nearer after (numberIn p) (leastAbove after ps)
+leastAbove after (k ∷ ks) = nearer after (k .number) (leastAbove after ks)
 
 unfoldable pub nextTold : State → List ℕ → ℕ → ℕ
-nextTold s x after = cond (soundState s x) (leastAbove after (gatewayOf s x .places)) 0
+nextTold s x after = cond (soundState s x) (leastAbove after (gatewayOf s x .entries)) 0

@@ -4,52 +4,39 @@ use crate::HeldKey;
 use rule::Found;
 use rule::Millis;
 use soundness::is_state_sound;
-use table::COMMENTS_SIZE;
 use table::Columns;
 use table::Figures;
 use table::State;
-use table::bytes::copy_in;
+use table::bytes::pad;
 use table::clock::millis_of;
 use table::clock::past;
-use table::comments::comment_bytes;
+use table::entries::count;
+use table::entries::figures_at;
+use table::entries::start_of;
 use table::is_set;
-use table::places::fields_start;
-use table::places::figures_at;
-use table::places::start_of;
 use wire::Seconds;
 use wire::limits;
 ghost use mathlib.Core.Path.{_≡_};
 ghost use mathlib.Core.List.{List};
-ghost use mathlib.Core.Option.{some};
-ghost use Prim.Native.Nat.{ℕ, _≤_, _<_};
-ghost use lib.ListN.{length};
-ghost use Rattle.wire.specs.Limits.{blobLimit, fieldsLimit, commentLimit};
+ghost use Prim.Native.Nat.{ℕ, _+_, _≤_, _<_};
+ghost use lib.ListN.{length, take, drop};
+ghost use Rattle.wire.specs.Limits.{entriesLimit, storeSize, commentLimit};
 ghost use Rattle.rule.specs.Gateway.{Entry as Key, seek};
 ghost use Rattle.rule.specs.Words.{HeldAt};
 ghost use Rattle.table.specs.declared.State.{State};
-ghost use Rattle.table.specs.Entries.{Entry, Eight, figuresAt, entryBy};
-ghost use Rattle.table.specs.Meaning.{limitedLifetime, placeOf, gatewayOf, entryFor};
+ghost use Rattle.table.specs.Entries.{Long, figuresAt, countOf, startIn};
+ghost use Rattle.table.specs.Meaning.{limitedLifetime, entriesOf, gatewayOf, startOf, figuresFor};
 ghost use Rattle.table.specs.Soundness.{Sound};
-ghost use Rattle.lookups.specs.Told.{hasNumber, leftAt, nothing, toldOf, keyTold};
+ghost use Rattle.lookups.specs.Told.{hasNumber, leftAt, kept, nothing, toldOf, keyTold};
 
-// Has a place with this number of its own the number? A free place has no key.
-fn is_numbered(own: u64, number: u64) -> bool
-    ensures { λ r. ⌜ ((e : Entry) (p : List ℕ) → e .number ≡ own → r ≡ hasNumber number (placeOf e p)) ⌝ }
-{
-    if own == 0 {
-        return false;
-    }
-    own == number
-}
-
-// The place that holds the key with this number.
+// The position of the key with this number; no key has the number 0.
 fn find_number(numbers: &[u64], number: u64) -> Found
-    requires { ⌜ length (now numbers) ≡ 8 ⌝ }
-    ensures { λ r. ⌜ ((s : State) (x : List ℕ) → s .columns .numbers ≡ now (numbers .entry) → r ≡ seek (hasNumber number) 0 (gatewayOf s x .places)) ⌝ }
+    ensures { λ r. ⌜ ((s : State) (x : List ℕ) → s .columns .numbers ≡ now (numbers .entry) → r ≡ seek (hasNumber number) 0 (gatewayOf s x .entries)) ⌝ }
 {
+    let n = count(numbers);
     let mut i = 0;
-    while i < 8 {
-        if is_numbered(numbers[i], number) {
+    while i < n {
+        if numbers[i] == number {
             return Found::At(i);
         }
         i += 1;
@@ -74,19 +61,32 @@ fn left_at(reading: Millis, limited: u8, seconds: Seconds, clock: Millis) -> Mil
     }
 }
 
-// A comment out of the state's comments.
-fn copied(bytes: &[u8], len: usize) -> Comment
-    requires { ⌜ length (now bytes) ≡ commentLimit ⌝ }
-    ensures { λ r. ⌜ r ≡ record { bytes = now (bytes .entry); len = len } ⌝ }
+// A comment out of the store.
+fn copied(part: &[u8]) -> Comment
+    requires { ⌜ length (now part) ≤ commentLimit ⌝ }
+    ensures { λ r. ⌜ r ≡ kept (now (part .entry)) ⌝ }
 {
     let mut out = [0u8; limits::COMMENT_LIMIT];
-    copy_in(&mut out[..limits::COMMENT_LIMIT], bytes);
-    Comment { bytes: out, len }
+    pad(&mut out, part);
+    Comment {
+        bytes: out,
+        len: part.len(),
+    }
 }
 
-// The figures of place i.
+// The comment of an entry whose bytes begin at `from`: behind blob and fields.
+fn comment_in(f: Figures, store: &[u8], from: usize) -> Comment
+    requires { ⌜ (from + (f .«blob_len» + (f .«fields_len» + f .«comment_len»)) ≤ length (now store)) × (f .«comment_len» ≤ commentLimit) ⌝ }
+    ensures { λ r. ⌜ r ≡ kept (take (f .«comment_len») (drop (from + (f .«blob_len» + f .«fields_len»)) (now (store .entry)))) ⌝ }
+{
+    let at = from + (f.blob_len + f.fields_len);
+    let end = at + f.comment_len;
+    copied(&store[at..end])
+}
+
+// The figures at index i.
 fn figures_in(t: Columns, i: usize) -> Figures
-    requires { ⌜ (i < 8) × Eight t ⌝ }
+    requires { ⌜ (i < entriesLimit) × Long t ⌝ }
     ensures { λ r. ⌜ r ≡ figuresAt t i ⌝ }
 {
     let numbers = t.numbers;
@@ -98,52 +98,61 @@ fn figures_in(t: Columns, i: usize) -> Figures
     let limited = t.limited;
     let confirm = t.confirm;
     figures_at(
-        &numbers[..8],
-        &readings[..8],
-        &blob_lens[..8],
-        &fields_lens[..8],
-        &comment_lens[..8],
-        &seconds[..8],
-        &limited[..8],
-        &confirm[..8],
+        &numbers,
+        &readings,
+        &blob_lens,
+        &fields_lens,
+        &comment_lens,
+        &seconds,
+        &limited,
+        &confirm,
         i,
     )
 }
 
-// What is told of a key with these figures and this comment, in place i.
-fn told(f: Figures, comment: Comment, clock: Millis, i: usize) -> HeldKey
-    requires { ⌜ (i < 8) × (f .«blob_len» ≤ blobLimit) × (f .«fields_len» ≤ fieldsLimit) ⌝ }
-    ensures { λ r. ⌜ ((s : State) (k : Key) → s .clock ≡ clock → comment .len ≡ f .«comment_len» → entryBy f (comment .bytes) ≡ entryFor (some k) → r ≡ toldOf s i k) ⌝ }
+// Where the bytes of entry i begin.
+fn start_in(t: Columns, i: usize) -> usize
+    requires { ⌜ (i < entriesLimit) × Long t × (startIn (t .«blob_lens») (t .«fields_lens») (t .«comment_lens») i ≤ storeSize) ⌝ }
+    ensures { λ r. ⌜ r ≡ startIn (t .«blob_lens») (t .«fields_lens») (t .«comment_lens») i ⌝ }
+{
+    let blob_lens = t.blob_lens;
+    let fields_lens = t.fields_lens;
+    let comment_lens = t.comment_lens;
+    start_of(&blob_lens, &fields_lens, &comment_lens, i)
+}
+
+// What is told of a key with these figures and this comment, whose bytes begin at `from`.
+fn told(f: Figures, comment: Comment, clock: Millis, from: usize) -> HeldKey
+    requires { ⌜ from + (f .«blob_len» + (f .«fields_len» + f .«comment_len»)) ≤ storeSize ⌝ }
+    ensures { λ r. ⌜ ((s : State) (i : ℕ) (k : Key) → s .clock ≡ clock → f ≡ figuresFor k → comment ≡ kept (k .comment) → from ≡ startOf (entriesOf s) i → r ≡ toldOf s i k) ⌝ }
 {
     let reading = f.reading;
     let seconds = f.seconds;
     let left = left_at(reading, f.limited, seconds, clock);
-    let blob_from = start_of(i);
-    let fields_from = fields_start(i);
+    let fields_from = from + f.blob_len;
     HeldKey {
         number: f.number,
         confirm: f.confirm,
         limited: f.limited,
         left,
-        blob_from,
-        blob_to: blob_from + f.blob_len,
+        blob_from: from,
+        blob_to: fields_from,
         fields_from,
         fields_to: fields_from + f.fields_len,
         comment,
     }
 }
 
-// What is told of the key in place i.
+// What is told of the key at position i.
 fn told_at(state: State, store: &[u8], i: usize) -> HeldKey
-    requires { ⌜ (i < 8) × Sound state (now store) ⌝ }
+    requires { ⌜ (i < countOf (state .columns .numbers)) × Sound state (now store) ⌝ }
     ensures { λ r. ⌜ ((k : Key) → HeldAt (gatewayOf state (now (store .entry))) i k → r ≡ toldOf state i k) ⌝ }
 {
     let t = state.columns;
     let f = figures_in(t, i);
-    let comments = state.comments;
-    let bytes = comment_bytes(&comments[..COMMENTS_SIZE], i);
+    let from = start_in(t, i);
     let clock = state.clock;
-    told(f, copied(bytes, f.comment_len), clock, i)
+    told(f, comment_in(f, store, from), clock, from)
 }
 
 // All zero.
@@ -174,7 +183,7 @@ pub fn key_of(state: State, store: &[u8], number: u64) -> HeldKey
     }
     let t = state.columns;
     let numbers = t.numbers;
-    match find_number(&numbers[..8], number) {
+    match find_number(&numbers, number) {
         Found::At(i) => told_at(state, store, i),
         Found::Nothing => untold(),
     }

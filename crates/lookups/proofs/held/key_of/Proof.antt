@@ -2,7 +2,7 @@
 use borrow.Author.Needs.{needs}
 use borrow.Author.Tests.{not-true, not-false}
 use mathlib.Core.Path.{refl, sym, _∙_}
-use Rattle.lookups.proofs.ToldLaws.{sound-told, key-unsound, key-absent, key-found, numbered-at, place-within}
+use Rattle.lookups.proofs.ToldLaws.{sound-told, key-unsound, key-absent, key-found, numbered-at, position-within}
 use Rattle.lookups.proofs.held.key_of.Statement.{statement}
 use Rattle.lookups.proofs.held.key_of.Tie as tie
 
@@ -21,7 +21,7 @@ told-at-requires c κs =
     let start : tie.Start = search in
     let s = start .args .state in
     let x = start .args .store .now in (
-      place-within s x (start .args .number) _ (sym (sought .find-number .ensures s x refl) ∙ place .i .given .1),
+      position-within s x (start .args .number) _ (sym (sought .find-number .ensures s x refl) ∙ place .i .given .1),
       sound-told s x _ (tested .if1 .left) (at-is-sound .is-state-sound .ensures),
     )
 
