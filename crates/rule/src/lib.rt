@@ -6,7 +6,7 @@ pub struct Millis {
     pub count: u64,
 }
 
-// Where a search over the places ended.
+// Where a search over the entries ended.
 pub enum Found {
     At(usize),
     Nothing,

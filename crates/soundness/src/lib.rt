@@ -1,4 +1,4 @@
-// The soundness test: any columns, any store, read where they lie. Each byte behind the entries is read once, and of each blob its last bytes.
+// The soundness test: any columns, any store, read where they lie. The bytes behind the entries are read, and of each blob its last ones.
 pub mod apart;
 pub mod unused;
 

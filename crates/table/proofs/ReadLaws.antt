@@ -65,9 +65,9 @@ module _ (s : State) (x : List ℕ) (S : Sound s x) where
         room = let e = state-end in let l = S .store-size in omega arith;
       })
 
-  pub state-locked : locked (gatewayOf s x) ≡ ltb 0 (s .lock .len)
+  pub state-locked : ltb 0 (s .lock .len) ≡ locked (gatewayOf s x)
   unfolding gatewayOf
-  state-locked = let h = S .lock .lock-fits in let l = S .lock .record-size in ap (ltb 0) (length-take-le (s .lock .len) (s .lock .bytes) (omega arith))
+  state-locked = let h = S .lock .lock-fits in let l = S .lock .record-size in ap (ltb 0) (sym (length-take-le (s .lock .len) (s .lock .bytes) (omega arith)))
 
 -- ## What stands at one index of any state
 

@@ -176,7 +176,7 @@ pub fn place_for(
     blob: &[u8],
     size: usize,
 ) -> Found
-    requires { ⌜ SoundOf (ShowsParts (now numbers) (now «blob_lens») (now «fields_lens») (now «comment_lens»)) (now store) × (size ≤ storeSize) ⌝ }
+    requires { ⌜ SoundOf (ShowsParts (now numbers) (now «blob_lens») (now «fields_lens») (now «comment_lens»)) (now store) × (size ≤ storeSize) × (length (now blob) ≤ size) ⌝ }
     ensures { λ r. ⌜ ((s : State) (e : Key) → ShowsParts (now (numbers .entry)) (now («blob_lens» .entry)) (now («fields_lens» .entry)) (now («comment_lens» .entry)) s → Sound s (now (store .entry)) → e .blob ≡ now (blob .entry) → lengthsOf e ≡ size → r ≡ placeFor e (gatewayOf s (now (store .entry)) .entries)) ⌝ }
 {
     let end = start_of(blob_lens, fields_lens, comment_lens, limits::ENTRIES_LIMIT);

@@ -1,6 +1,5 @@
 // The gateway's state and its key store: the figures of up to 24 entries in columns, the lock record, the kept clock, the next number; in the store for each
-// entry blob, key fields and comment, behind each other and without gaps. Columns and store are lent to what works on them. Above, only soundness and
-// changes name an offset.
+// entry blob, key fields and comment, behind each other and without gaps. Columns and store are lent to what works on them.
 pub mod bytes;
 pub mod clock;
 pub mod entries;

@@ -4,6 +4,7 @@ use mathlib.Core.Path.{refl, _∙_}
 use Rattle.table.specs.declared.State.{State}
 use Rattle.table.specs.Entries.{columns}
 use Rattle.table.specs.Meaning.{held}
+use Rattle.table.specs.Shown.{ShowsParts}
 use Rattle.table.proofs.ReadLaws.{state-locked}
 use Rattle.requests.proofs.EndSteps.{answering, means-itself}
 use Rattle.server.proofs.RowSteps.{check-lent, served-row, served-asks}
@@ -16,6 +17,10 @@ abbrev lent-state : tie.Start → State
 lent-state start =
     let a = start .args in
     held (columns (a .numbers .now) (a .readings .now) (a .blob-lens .now) (a .fields-lens .now) (a .comment-lens .now) (a .seconds .now) (a .limited .now) (a .confirm .now)) (a .passphrase .now) (a .kept)
+
+-- its columns are its own
+its-own : {s : State} → ShowsParts (s .columns .numbers) (s .columns .«blob_lens») (s .columns .«fields_lens») (s .columns .«comment_lens») s
+its-own = record { numbers-are = refl; blobs-are = refl; fields-are = refl; comments-are = refl }
 
 -- where the function began, which is too far back for a search from its end
 abbrev began : tie.After-row-in → tie.Start
@@ -68,7 +73,7 @@ returns-3 c =
     let start = began row in
     let s = lent-state start in
     served-row s _ _ _ _ _ _ _ _ _ _ (lock .is-locked .ensures ∙ state-locked s _ (start .pre .2)) (row .row-in .ensures) _ (told .enum-told2 .given .1)
-    (listed .request-identities .ensures s (record { numbers-are = refl; blobs-are = refl; fields-are = refl; comments-are = refl }) (start .pre .2) _)
+    (listed .request-identities .ensures s its-own (start .pre .2) _)
 
 returns-4 : tie.Need-returns-4
 returns-4 c =
@@ -82,10 +87,16 @@ returns-4 c =
     (added .add-key .ensures (start .args .passphrase .now) (start .pre .2) _ (check-lent (start .args .answers) _))
 
 try-sign-requires : tie.Need-try-sign-requires
-try-sign-requires c κs = search needs
+try-sign-requires c κs =
+    let row : tie.After-row-in = search in
+    let start = began row in
+    (start .pre .0, start .pre .1, record { state = lent-state start; shows = record { parts = its-own; confirm-is = refl }; sound = start .pre .2 })
 
 request-identities-requires : tie.Need-request-identities-requires
-request-identities-requires c κs = search needs
+request-identities-requires c κs =
+    let row : tie.After-row-in = search in
+    let start = began row in
+    (record { state = lent-state start; shows = its-own; sound = start .pre .2 }, start .pre .0)
 
 lock-requires : tie.Need-lock-requires
 lock-requires c κs =
@@ -132,7 +143,7 @@ returns-7 c =
     let start = began row in
     let s = lent-state start in
     served-row s _ _ _ _ _ _ _ _ _ _ (lock .is-locked .ensures ∙ state-locked s _ (start .pre .2)) (row .row-in .ensures) _ (told .enum-told5 .given .1)
-    (signed .try-sign .ensures s (record { parts = record { numbers-are = refl; blobs-are = refl; fields-are = refl; comments-are = refl }; confirm-is = refl }) (start .pre .2))
+    (signed .try-sign .ensures s (record { parts = its-own; confirm-is = refl }) (start .pre .2))
 
 returns-8 : tie.Need-returns-8
 returns-8 c =

@@ -100,7 +100,7 @@ shown c κs =
     let within : tie.Else1 = search in
     let start = begun at-fits in
     let fits = sym (not-false _ (within .if1 .left)) ∙ fits-told at-fits in
-    (with-parts (given start) (start .args .store .now) (start .args .kept) (start .pre .1), new-short (key start) _ (sized-told at-fits) fits)
+    (with-parts (given start) (start .args .store .now) (start .args .kept) (start .pre .1), new-short (key start) _ (sized-told at-fits) fits, omega arith)
 
 may : tie.Need-put-requires
 unfolding begun
