@@ -1,29 +1,27 @@
 -- What a change leaves of a sound state and its store is what the rule's gateway after it is written as, so it means that gateway.
-use Prim.Native.Nat.{ℕ, zero, suc, _+_, _-_, _≤_, _<_, max}
+use Prim.Native.Nat.{ℕ, zero, suc, _+_, _≤_, _<_}
 use native.Mathlib.Omega.{arith}
-use native.Mathlib.Nat.{not-suc-le-zero, le-of-suc-le-suc}
+use native.Mathlib.Nat.{le-of-suc-le-suc}
 use mathlib.Core.Path.{_≡_, refl, sym, ap, _∙_}
-use mathlib.Core.Bool.{Bool, true, false}
+use mathlib.Core.Bool.{true}
 use mathlib.Core.List.{List, [], _∷_, _++_, map}
-use lib.ListN.{length, drop, getD, set, replicate, length-append}
-use Rattle.wire.specs.Limits.{entriesLimit, storeSize, lastNumber}
+use lib.ListN.{length, drop, set, replicate, length-append}
+use Rattle.wire.specs.Limits.{entriesLimit, storeSize}
 use Rattle.rule.specs.declared.Millis.{Millis}
-use Rattle.rule.specs.declared.Found.the-variants.{At}
-use Rattle.rule.specs.Gateway.{Entry as Key, Gateway, lasting, atClock, later, advance, lengthsOf, allLengths, placeFor, removeAt, putAt, withEntries, without, withoutAll, NewKey, newEntry, withEntry}
+use Rattle.rule.specs.Gateway.{Entry as Key, lasting, atClock, later, advance, removeAt, putAt, withEntries, without, withoutAll, NewKey, newEntry, withEntry}
 use Rattle.rule.specs.Soundness as rule
 use Rattle.rule.proofs.Effects.{Storable}
 use Rattle.rule.proofs.RoomLaws.{has-place, place-inside}
 use Rattle.rule.proofs.SoundLaws.{fit-says, sound-fewer, sound-advance, sound-entry, room-after}
 use Rattle.table.specs.declared.Columns.{Columns}
-use Rattle.table.specs.declared.Figures.{Figures}
 use Rattle.table.specs.declared.Kept.{Kept}
 use Rattle.table.specs.declared.State.{State}
 use Rattle.table.specs.Bytes.{allZero, Zeros}
-use Rattle.table.specs.Entries.{columns, Long, startIn, columnsOf, figuresSet}
-use Rattle.table.specs.Meaning.{size, noFigures, gatewayOf, figuresFor, bytesFor, laid, stateOf, layout, held, withTable}
+use Rattle.table.specs.Entries.{Long, startIn, figuresSet}
+use Rattle.table.specs.Meaning.{gatewayOf, figuresFor, bytesFor, laid, stateOf, layout, held, withTable}
 use Rattle.table.specs.Soundness.{Sound, Means}
-use Rattle.table.specs.Changes.{unmarked, sizesIn, closedParts, closedColumns, dueMarks, bytesPut, PutRoom, made, MayPut, MayPutWith}
-use Rattle.table.specs.Shown.{SoundOf, ShowsTable, SoundWith}
+use Rattle.table.specs.Changes.{unmarked, sizesIn, closedParts, closedColumns, dueMarks, bytesPut, PutRoom, made, MayPut}
+use Rattle.table.specs.Shown.{SoundOf, ShowsTable}
 use Rattle.table.proofs.ByteLaws.{zeros-say, padded-size, padded-rest}
 use Rattle.table.proofs.EntryLaws.{columns-long}
 use Rattle.table.proofs.WritingLaws.{laid-length, sound-meaning, sound-canonical, means-of}

@@ -3,10 +3,10 @@ use Prim.Native.Nat.{ℕ, zero, suc, _+_, _-_, _≤_, _<_}
 use native.Mathlib.Omega.{arith}
 use native.Mathlib.Numerals.{add-one}
 use mathlib.Core.Path.{_≡_, refl, sym, ap, _∙_}
-use mathlib.Core.List.{List, [], _∷_, _++_, append-nil, append-assoc}
-use borrow.Rule.Slice.PartMut.{midOf, putMid, mid-len, post-is}
+use mathlib.Core.List.{List, [], _∷_, _++_, append-assoc}
+use borrow.Rule.Slice.PartMut.{midOf, putMid}
 use lib.ListN.{length, take, drop, getD, set, replicate, length-drop, length-append, length-replicate, List·getD-append, take-append-drop}
-use lib.Seq.{length-take-le, drop-cons, drop-drop, drop-nil, take-suc, take-nil, set-at, getD-take, drop-length, take-paste, drop-paste, length-paste}
+use lib.Seq.{length-take-le, drop-cons, drop-drop, take-suc, take-nil, set-at, getD-take, drop-length, take-paste, drop-paste, length-paste}
 use Rattle.wire.specs.Write.{write}
 use Rattle.wire.proofs.Writing.{write-behind}
 use Rattle.table.specs.Bytes.{Zeros, padded}

@@ -6,7 +6,7 @@ use mathlib.Core.Path.{_≡_, refl, sym, ap, _∙_}
 use mathlib.Core.Bool.{Bool, true, false, cond}
 use mathlib.Core.List.{List, [], _∷_, _++_, map, append-nil, append-assoc}
 use lib.ListN.{length, take, drop, getD, set, replicate, length-append, length-map, length-replicate, take-append-drop, replicate-append-replicate}
-use lib.Seq.{length-take-le, take-all, take-at, drop-at, take-append-le, drop-append-le, take-take, take-nil}
+use lib.Seq.{length-take-le, take-all, take-at, drop-at, take-append-le, take-take, take-nil}
 use Rattle.wire.specs.Limits.{entriesLimit, storeSize}
 use Rattle.wire.specs.Write.{write}
 use Rattle.rule.specs.declared.Millis.{Millis}
@@ -17,7 +17,7 @@ use Rattle.keys.specs.declared.constraints.Lifetime.{Lifetime}
 use Rattle.keys.specs.declared.constraints.Lifetime.the-variants.{Forever, For}
 use Rattle.table.specs.declared.Columns.{Columns}
 use Rattle.table.specs.declared.Figures.{Figures}
-use Rattle.table.specs.Bytes.{Zeros, padded}
+use Rattle.table.specs.Bytes.{padded}
 use Rattle.table.specs.Entries.{columns, figuresAt, upTo, startIn, columnsOf, figuresSet}
 use Rattle.table.specs.Meaning.{size, isSet, limitedLifetime, lifetimeOf, noFigures, flagOf, limitedFlag, keptSeconds, figuresFor, bytesFor, laid}
 use Rattle.table.specs.Changes.{unmarked, unmarkedParts, sizesIn, closed, closedParts, closedColumns, dueMarks, resized, bytesPut}

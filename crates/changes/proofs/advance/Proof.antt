@@ -1,7 +1,5 @@
 -- What is due at the raised clock is gone, and that clock is kept. Assumes nothing.
 use borrow.Author.Needs.{needs}
-use mathlib.Core.Path.{_≡_, refl, _∙_}
-use Rattle.table.specs.declared.Kept.{Kept}
 use Rattle.table.specs.Entries.{columns}
 use Rattle.changes.proofs.ChangeLaws.{advanced}
 use Rattle.changes.proofs.advance.Statement.{statement}

@@ -1,6 +1,6 @@
 -- What is due is marked, and goes; where no mark is set all last. Assumes nothing.
 use borrow.Author.Needs.{needs}
-use mathlib.Core.Path.{refl, sym, _∙_}
+use mathlib.Core.Path.{sym, _∙_}
 use Rattle.table.specs.Entries.{columns}
 use Rattle.changes.proofs.ChangeLaws.{shown-closable, due-gone, none-due}
 use Rattle.changes.proofs.expire.Statement.{statement}

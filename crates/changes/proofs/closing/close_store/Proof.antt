@@ -2,8 +2,7 @@
 use native.Mathlib.Omega.{arith}
 use borrow.Author.Needs.{needs}
 use Prim.Native.Nat.{_-_}
-use mathlib.Core.Path.{_≡_, refl, _∙_}
-use lib.ListN.{length, getD}
+use lib.ListN.{getD}
 use Rattle.wire.specs.Limits.{entriesLimit}
 use Rattle.changes.proofs.ClosingLaws.{sizeAt, start-within, Closing, part-closed, closing-begun, closing-within, closing-step, closing-end}
 use Rattle.changes.proofs.closing.close_store.Statement.{statement}
