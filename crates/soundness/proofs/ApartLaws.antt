@@ -23,7 +23,7 @@ use Rattle.rule.proofs.Cases.{true-not-false}
 use Rattle.rule.proofs.PositionLaws.{some-not-none, same-entry}
 use Rattle.table.specs.declared.Columns.{Columns}
 use Rattle.table.specs.declared.State.{State}
-use Rattle.table.specs.Bytes.{sumOf, among}
+use Rattle.table.specs.Bytes.{among}
 use Rattle.table.specs.Entries.{countOf, upTo, entriesIn, startIn}
 use Rattle.table.specs.Meaning.{view, gatewayOf, held}
 use Rattle.table.specs.Soundness.{shortOf, shortsIn}
@@ -72,30 +72,6 @@ module _ (blobs fields comments : List ℕ) where
       omega arith
 
 -- ## Short numbers
-
-sum-bytes : (l : List ℕ) → Bytes l → sumOf l ≤ 255 * length l
-unfolding sumOf
-sum-bytes [] bytes = omega arith
-sum-bytes (b ∷ l) bytes =
-    let first = bytes 0 in
-    let rest = sum-bytes l (λ i. bytes (suc i)) in
-    omega arith
-
--- the last 32 bytes of a blob, from where they begin
-module _ (blob : List ℕ) (from sum : ℕ) (begins : from ≡ length blob - 32) (is : sum ≡ sumOf (take (length blob - from) (drop from blob))) where
-  sum-last : sum ≡ sumOf (drop from blob)
-  sum-last = is ∙ ap sumOf (all-behind from (length blob) blob refl)
-
-  pub short-is : length blob * 65536 + sum ≡ shortOf blob
-  unfolding shortOf
-  short-is = rw (sum-last, begins)
-
-  pub short-fits : Bytes blob → length blob ≤ storeSize → length blob * 65536 + sum < 4294967296
-  short-fits bytes h =
-      let last : sumOf (drop from blob) ≤ 255 * length (drop from blob) = sum-bytes (drop from blob) (λ i. rw (getD-drop from blob i 0) (bytes (from + i))) in
-      let few = length-drop from blob in
-      let s = sum-last in
-      omega arith
 
 -- one short number more
 module _ (blobs fields comments x : List ℕ) (i at : ℕ) (shorts : List ℕ) (short : ℕ) where

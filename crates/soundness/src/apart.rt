@@ -3,53 +3,32 @@ use rule::Found;
 use table::entries::count;
 use table::entries::find_from;
 use wire::limits;
+use wire::read::join;
 ghost use mathlib.Core.Path.{_≡_};
 ghost use mathlib.Core.Bool.{_||_};
 ghost use mathlib.Core.Option.{some};
-ghost use Prim.Native.Nat.{_+_, _-_, _≤_, _<_};
+ghost use Prim.Native.Nat.{_+_, _≤_, _<_};
 ghost use lib.ListN.{length, take, drop};
 ghost use Rattle.wire.specs.Limits.{entriesLimit, storeSize};
 ghost use Rattle.rule.specs.Gateway.{Entry as Key, entryAt};
 ghost use Rattle.rule.specs.Soundness.{everyEntry, apart, distinct};
 ghost use Rattle.table.specs.declared.State.{State};
-ghost use Rattle.table.specs.Bytes.{sumOf, among};
+ghost use Rattle.table.specs.Bytes.{among};
 ghost use Rattle.table.specs.Entries.{countOf, startIn};
 ghost use Rattle.table.specs.Meaning.{gatewayOf};
 ghost use Rattle.table.specs.Soundness.{shortOf, shortsIn, Housed};
 ghost use Rattle.table.specs.Shown.{ShowsParts};
 
-// The sum of up to 32 bytes.
-fn sum_of(bytes: &[u8]) -> u32
-    requires { ⌜ length (now bytes) ≤ 32 ⌝ }
-    ensures { λ r. ⌜ r ≡ sumOf (now (bytes .entry)) ⌝ }
-{
-    let mut sum: u32 = 0;
-    let mut i = 0;
-    while i < bytes.len() {
-        sum += bytes[i] as u32;
-        i += 1;
-    }
-    sum
-}
-
-// Where the last 32 bytes of n begin, or all of them.
-fn last_from(n: usize) -> usize
-    ensures { λ r. ⌜ r ≡ n - 32 ⌝ }
-{
-    if n < 32 {
-        return 0;
-    }
-    n - 32
-}
-
-// The length, and the sum of the last 32 bytes.
+// What four of the last twelve bytes spell: keys differ there, also those whose blob ends in a text that all have.
 fn short_of(blob: &[u8]) -> u32
-    requires { ⌜ length (now blob) ≤ storeSize ⌝ }
     ensures { λ r. ⌜ r ≡ shortOf (now (blob .entry)) ⌝ }
 {
     let n = blob.len();
-    let from = last_from(n);
-    (n as u32) * 65536 + sum_of(&blob[from..])
+    if n < 12 {
+        return 0;
+    }
+    let at = n - 12;
+    join(blob[at], blob[at + 1], blob[at + 2], blob[at + 3])
 }
 
 // The short number of each of n blobs.

@@ -1,12 +1,12 @@
 -- 01's soundness of a state and its store, test by test, and the facts that the tests say.
-use Prim.Native.Nat.{ℕ, _+_, _*_, _-_, _≤_, _<_}
+use Prim.Native.Nat.{ℕ, _-_, _≤_, _<_}
 use mathlib.Core.Path.{_≡_}
-use mathlib.Core.Bool.{Bool, true, false, _&&_, _||_}
+use mathlib.Core.Bool.{Bool, true, false, _&&_, _||_, cond}
 use mathlib.Core.List.{List, [], _∷_, map}
 use lib.ListN.{length, take, drop, getD}
 use lib.Dec.{leb, ltb, eqb}
 use Rattle.wire.specs.Limits.{entriesLimit, storeSize, blobLimit, fieldsLimit, commentLimit, passphraseLimit, lastNumber}
-use Rattle.wire.specs.Numbers.{within}
+use Rattle.wire.specs.Numbers.{within, beAt}
 use Rattle.wire.specs.declared.Seconds.{Seconds}
 use Rattle.rule.specs.declared.Millis.{Millis}
 use Rattle.rule.specs.Gateway.{Gateway}
@@ -15,7 +15,7 @@ use Rattle.table.specs.declared.Columns.{Columns}
 use Rattle.table.specs.declared.Figures.{Figures}
 use Rattle.table.specs.declared.LockRecord.{LockRecord}
 use Rattle.table.specs.declared.State.{State}
-use Rattle.table.specs.Bytes.{allZero, Zeros, sumOf}
+use Rattle.table.specs.Bytes.{allZero, Zeros}
 use Rattle.table.specs.Entries.{Long, countOf, upTo, entriesIn, startIn}
 use Rattle.table.specs.Meaning.{isSet, entriesOf, view, gatewayOf, endOf}
 
@@ -96,9 +96,9 @@ soundState s x =
     && (soundLock (s .lock)
     && soundKeys (s .clock) (s .next) (s .columns) x)))
 
--- a short number of a blob: blobs whose short numbers differ are not the same
+-- a short number of a blob: what four of its last twelve bytes spell, 0 of a blob that has fewer. Blobs whose short numbers differ are not the same.
 unfoldable pub shortOf : List ℕ → ℕ
-shortOf blob = length blob * 65536 + sumOf (drop (length blob - 32) blob)
+shortOf blob = cond (ltb (length blob) 12) 0 (beAt blob (length blob - 12))
 
 -- .. of the blobs of n entries, by the columns of lengths
 unfoldable pub shortsIn : List ℕ → List ℕ → List ℕ → ℕ → List ℕ → List ℕ

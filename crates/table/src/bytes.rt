@@ -1,4 +1,5 @@
 // Whole parts: zeroed, copied, padded, tested for zero, compared.
+use wire::write::window;
 ghost use mathlib.Core.Path.{_≡_};
 ghost use mathlib.Core.Bool.{_&&_};
 ghost use Prim.Native.Nat.{_+_, _≤_, max};
@@ -60,17 +61,6 @@ fn greatest_byte(a: &[u8], b: &[u8]) -> u8
         i += 1;
     }
     most
-}
-
-// Half of n or more; where there is room a multiple of 32, so that vectors leave no byte over.
-fn window(n: usize) -> usize
-    ensures { λ r. ⌜ (r ≤ n) × (n ≤ r + r) ⌝ }
-{
-    let h = (n / 64 + 1) * 32;
-    if n < h {
-        return n;
-    }
-    h
 }
 
 // The first h bytes and the last h: the windows overlap, and leave no byte out.

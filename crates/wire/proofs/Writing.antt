@@ -1,13 +1,13 @@
 -- Laws of writing a range: byte by byte, one range behind another, and what stays.
 use Prim.Native.Nat.{ℕ, suc, _+_, _-_, _≤_, _<_}
-use mathlib.Core.Path.{_≡_, sym, ap, _∙_}
+use mathlib.Core.Path.{_≡_, refl, sym, ap, _∙_}
 use mathlib.Core.Logic.{_⊎_, ⊎-elim}
 use mathlib.Core.List.{List, [], _∷_, _++_}
 use native.Mathlib.Nat.{add-zero, add-suc, suc-add}
 use native.Mathlib.Numerals.{add-one}
 use native.Mathlib.Omega.{arith}
-use lib.ListN.{length, getD, take, drop, set, length-append, length-take, List·getD-append}
-use lib.Seq.{sets, sets-eq, length-sets, paste, paste-suc, paste-zero, take-length, getD-append-add, getD-take, getD-drop}
+use lib.ListN.{length, getD, take, drop, set, length-append, length-take, length-drop, take-append-drop, List·getD-append}
+use lib.Seq.{sets, sets-eq, length-sets, paste, paste-suc, paste-zero, take-length, length-take-le, take-take, drop-drop, take-append-le, take-append-add, drop-append-add, getD-append-add, getD-take, getD-drop}
 use Rattle.wire.specs.Write.{write}
 
 module _ (l : List ℕ) (at : ℕ) (v : List ℕ) (h : at + length v ≤ length l) where
@@ -94,3 +94,52 @@ module _ (l : List ℕ) (at : ℕ) (v : List ℕ) (h : at + length v ≤ length 
       ∙ getD-append-add (take at l ++ v) (drop (at + length v) l) (i - (at + length v)) 0
       ∙ getD-drop (at + length v) l (i - (at + length v)) 0
       ∙ ap (λ (j : ℕ). getD l j 0) (sym (ap (λ (j : ℕ). j + (i - (at + length v))) n) ∙ e))
+
+-- ## Windows that overlap
+
+module _ (l : List ℕ) (at : ℕ) (t : List ℕ) (room : at + length t ≤ length l) where
+  before : length (take at l) ≡ at
+  before = length-take-le at l (omega arith)
+
+  written-size : length (take at l ++ t) ≡ at + length t
+  written-size = let a = before in simp length-append (omega arith)
+
+  -- what a writer leaves up to a place inside, and behind its bytes
+  write-front : (k : ℕ) → k ≤ length t → take (at + k) (write l at t) ≡ take at l ++ take k t
+  unfolding write
+  write-front k h =
+      let a = before in
+      let n = written-size in
+      let place : at + k ≡ length (take at l) + k = omega arith in
+      take-append-le (at + k) (take at l ++ t) (drop (at + length t) l) (omega arith) ∙ ap (λ (i : ℕ). take i (take at l ++ t)) place ∙ take-append-add (take at l) t k
+
+  write-back : (n : ℕ) → length t ≤ n → drop (at + n) (write l at t) ≡ drop (at + n) l
+  unfolding write
+  write-back n h =
+      let size = written-size in
+      let place : at + n ≡ length (take at l ++ t) + (n - length t) = omega arith in
+      let all : at + length t + (n - length t) ≡ at + n = omega arith in
+      ap (λ (i : ℕ). drop i ((take at l ++ t) ++ drop (at + length t) l)) place ∙ drop-append-add (take at l ++ t) (drop (at + length t) l) (n - length t) ∙ drop-drop (n - length t) (at + length t) l ∙ ap (λ (i : ℕ). drop i l) all
+
+-- a writer looks at what stands before and behind its bytes alone
+write-over : (m o : List ℕ) (at : ℕ) (v : List ℕ) → take at m ≡ take at o → drop (at + length v) m ≡ drop (at + length v) o → write m at v ≡ write o at v
+unfolding write
+write-over m o at v front back = λ j. (front j ++ v) ++ back j
+
+-- the first h bytes and those from `from` on, which overlap, are all of them
+pub windows-written : (l : List ℕ) (at : ℕ) (v m o first last : List ℕ) (h from : ℕ) → from ≤ h → h ≤ length v → at + length v ≤ length l → first ≡ take h v → last ≡ drop from v
+    → m ≡ write l at first → o ≡ write m (at + from) last → o ≡ write l at v
+windows-written l at v m o first last h from inside fits room is-first is-last em eo =
+    let h-size : length (take h v) ≡ h = length-take-le h v fits in
+    let f-size : length (take from v) ≡ from = length-take-le from v (omega arith) in
+    let rest : length (drop from v) ≡ length v - from = length-drop from v in
+    let n : at + from + length (drop from v) ≡ at + length v = omega arith in
+    let fronts : take (at + from) (write l at (take h v)) ≡ take (at + from) (write l at (take from v))
+    = write-front l at (take h v) (omega arith) from (omega arith) ∙ ap (λ (t : List ℕ). take at l ++ t) (take-take from h v inside ∙ sym (take-take from from v (omega arith)))
+    ∙ sym (write-front l at (take from v) (omega arith) from (omega arith)) in
+    let backs : drop (at + from + length (drop from v)) (write l at (take h v)) ≡ drop (at + from + length (drop from v)) (write l at (take from v))
+    = ap (λ (i : ℕ). drop i (write l at (take h v))) n ∙ write-back l at (take h v) (omega arith) (length v) (omega arith)
+    ∙ sym (write-back l at (take from v) (omega arith) (length v) (omega arith)) ∙ ap (λ (i : ℕ). drop i (write l at (take from v))) (sym n) in
+    let one = write-over (write l at (take h v)) (write l at (take from v)) (at + from) (drop from v) fronts backs in
+    let all = write-behind l at (take from v) (write l at (take from v)) (at + from) (drop from v) (write (write l at (take from v)) (at + from) (drop from v)) refl refl (omega arith) (omega arith) in
+    eo ∙ (λ j. write (em j) (at + from) (is-last j)) ∙ (λ j. write (write l at (is-first j)) (at + from) (drop from v)) ∙ one ∙ all ∙ ap (write l at) (take-append-drop from v)

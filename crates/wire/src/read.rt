@@ -31,7 +31,7 @@ pub enum Part {
 }
 
 // The number that four bytes spell, the highest first.
-fn join(a: u8, b: u8, c: u8, d: u8) -> u32
+pub fn join(a: u8, b: u8, c: u8, d: u8) -> u32
     ensures { λ r. ⌜ r ≡ be a b c d ⌝ }
 {
     (((a as u32) * 256 + (b as u32)) * 256 + (c as u32)) * 256 + (d as u32)

@@ -27,7 +27,18 @@ pub fn put_number(out: &mut [u8], at: usize, n: u32) -> usize
     at + 4
 }
 
-pub fn put_bytes(out: &mut [u8], at: usize, v: &[u8]) -> usize
+// Half of n or more; where there is room a multiple of 32, so that vectors leave no byte over.
+pub fn window(n: usize) -> usize
+    ensures { λ r. ⌜ (r ≤ n) × (n ≤ r + r) ⌝ }
+{
+    let h = (n / 64 + 1) * 32;
+    if n < h {
+        return n;
+    }
+    h
+}
+
+fn copy_bytes(out: &mut [u8], at: usize, v: &[u8]) -> usize
     requires { ⌜ at + length (now v) ≤ length (now out) ⌝ }
     ensures { λ r. ⌜ (r ≡ at + length (now (v .entry))) × (now (out .exit) ≡ write (now (out .entry)) at (now (v .entry))) ⌝ }
 {
@@ -37,6 +48,21 @@ pub fn put_bytes(out: &mut [u8], at: usize, v: &[u8]) -> usize
         i += 1;
     }
     at + i
+}
+
+// The first h bytes and the last h: the windows overlap, and leave no byte out.
+pub fn put_bytes(out: &mut [u8], at: usize, v: &[u8]) -> usize
+    requires { ⌜ at + length (now v) ≤ length (now out) ⌝ }
+    ensures { λ r. ⌜ (r ≡ at + length (now (v .entry))) × (now (out .exit) ≡ write (now (out .entry)) at (now (v .entry))) ⌝ }
+{
+    let n = v.len();
+    if n < 32 {
+        return copy_bytes(out, at, v);
+    }
+    let h = window(n);
+    let from = n - h;
+    copy_bytes(out, at, &v[..h]);
+    copy_bytes(out, at + from, &v[from..])
 }
 
 pub fn put_string(out: &mut [u8], at: usize, v: &[u8]) -> usize

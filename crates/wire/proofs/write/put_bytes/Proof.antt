@@ -1,62 +1,60 @@
--- After i turns the first i bytes are written. The measure is what is left of them. Assumes nothing.
-use borrow.Author.Needs.{needs}
+-- Two windows that leave no byte out are the whole; fewer than 32 bytes are written one by one. Assumes nothing.
 use native.Mathlib.Omega.{arith}
-use Prim.Native.Nat.{_≤_, _-_}
-use mathlib.Core.Path.{_≡_, refl}
-use lib.ListN.{length, length-set}
-use Rattle.wire.proofs.Writing.{copied, copied-none, copied-more, copied-all}
+use borrow.Author.Needs.{needs}
+use mathlib.Core.Path.{_≡_, refl, sym, ap}
+use lib.ListN.{length, take, drop, length-drop}
+use lib.Seq.{length-take-le, take-all}
+use Prim.Native.Nat.{_-_}
+use Rattle.wire.proofs.Writing.{windows-written}
 use Rattle.wire.proofs.write.put_bytes.Statement.{statement}
 use Rattle.wire.proofs.write.put_bytes.Tie as tie
 
-abbrev Inv-loop : tie.InvT-loop
-Inv-loop out₀ at v i₀ out i = (i ≤ length v) × (out ≡ copied out₀ at v i) × (length out ≡ length out₀)
+front : tie.Need-slice-aggregate-copy-bytes
+front c =
+    let start : tie.Start = search in
+    let half : tie.After-window = search in
+    sym (length-take-le _ (start .args .v .now) (half .window .ensures .0))
 
-abbrev μ-loop : tie.MeasureT-loop
-μ-loop out₀ at v i₀ out i = length v - i
+room : tie.Need-copy-bytes-requires-2
+room c κs =
+    let start : tie.Start = search in
+    let half : tie.After-window = search in
+    let size = length-take-le _ (start .args .v .now) (half .window .ensures .0) in
+    let fits = half .window .ensures .0 in
+    let all = start .pre in
+    omega arith
 
-loop-holds : tie.Need-loop-holds Inv-loop μ-loop
-loop-holds c = (search needs, copied-none _ _ _, refl)
-
-shared-slice-read-out : tie.Need-shared-slice-read-out Inv-loop μ-loop
-shared-slice-read-out c = omega arith
-
-add-out : tie.Need-add-out Inv-loop μ-loop
-add-out c = omega arith
-
-slice-write-out : tie.Need-slice-write-out Inv-loop μ-loop
-slice-write-out c = omega arith
-
-add-i : tie.Need-add-i Inv-loop μ-loop
-add-i c = omega arith
-
-loop-less : tie.Need-loop-less Inv-loop μ-loop
-loop-less c = omega arith
-
-loop-again : tie.Need-loop-again Inv-loop μ-loop
-loop-again c = (omega arith, copied-more _ _ _ _ _ (c .before .before .loop .inv .1) (omega arith) (omega arith), simp length-set (omega arith))
-
-add-result : tie.Need-add-result Inv-loop μ-loop
-add-result c = omega arith
-
-same-length : tie.Need-same-length Inv-loop μ-loop
-same-length c = omega arith
-
-returns : tie.Need-returns Inv-loop μ-loop
-returns c = (omega arith, copied-all _ _ _ _ _ (c .before .loop .inv .1) (omega arith))
-
+returns-2 : tie.Need-returns-2
+returns-2 c =
+    let start : tie.Start = search in
+    let half : tie.After-window = search in
+    let first : tie.After-copy-bytes2 = search in
+    let last : tie.After-copy-bytes3 = search in
+    let v = start .args .v .now in
+    let h = half .window .result in
+    let fits = half .window .ensures .0 in
+    let twice = half .window .ensures .1 in
+    let room = start .pre in
+    let rest = length-drop (length v - h) v in
+    let behind = take-all (length v - (length v - h)) (drop (length v - h) v) (omega arith) in
+    let end = last .copy-bytes3 .ensures .0 in
+    let size : length (take (length v - (length v - h)) (drop (length v - h) v)) ≡ h = omega (arith, ap length behind, rest) in
+    (omega arith, windows-written _ (start .args .at) v _ _ _ _ h (length v - h) (omega arith) fits room refl behind (first .copy-bytes2 .ensures .1) (last .copy-bytes3 .ensures .1))
 pub put-bytes-spec : {M : Type 1} → statement M
 put-bytes-spec =
     tie.close
     (tie.spec
-    Inv-loop
-    μ-loop
-    loop-holds
-    shared-slice-read-out
-    add-out
-    slice-write-out
-    add-i
-    loop-less
-    loop-again
-    add-result
-    same-length
-    returns)
+    (λ c κs. search needs)
+    (λ c. search needs)
+    (λ c. search needs)
+    (λ c κs. search needs)
+    (λ c. search needs)
+    front
+    room
+    (λ c. search needs)
+    (λ c. search needs)
+    (λ c. search needs)
+    (λ c. search needs)
+    (λ c κs. search needs)
+    (λ c. search needs)
+    returns-2)

@@ -1,8 +1,8 @@
 -- What is left of n behind its multiples of 64 is below 64, so twice the half of the next one is n or more. Assumes nothing.
 use borrow.Author.Needs.{needs}
 use native.Mathlib.Omega.{arith}
-use Rattle.table.proofs.bytes.window.Statement.{statement}
-use Rattle.table.proofs.bytes.window.Tie as tie
+use Rattle.wire.proofs.write.window.Statement.{statement}
+use Rattle.wire.proofs.write.window.Tie as tie
 
 returns : tie.Need-returns
 returns c = (omega arith, omega arith)
