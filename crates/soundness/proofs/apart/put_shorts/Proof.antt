@@ -3,7 +3,7 @@ use borrow.Author.Needs.{needs}
 use native.Mathlib.Omega.{arith}
 use Prim.Native.Nat.{_≤_, _-_}
 use mathlib.Core.Path.{_≡_, refl, sym}
-use lib.ListN.{length, take, length-set, length-take, length-drop}
+use lib.ListN.{length, take, length-set, length-drop}
 use Rattle.table.specs.Entries.{startIn}
 use Rattle.table.specs.Soundness.{shortsIn}
 use Rattle.table.proofs.EntryLaws.{start-none}
@@ -45,12 +45,6 @@ part-short-of-end c =
     let a = start .args in
     let inside = part-inside (a .blob-lens .now) (a .fields-lens .now) (a .comment-lens .now) (turn .loop .i) (a .n) (omega arith) in
     omega arith
-
-short-of-requires : tie.Need-short-of-requires Inv-loop μ-loop
-short-of-requires c κs =
-    let start : tie.Start Inv-loop μ-loop = search in
-    let whole = start .pre .6 in
-    simp (length-take, length-drop) (omega arith)
 
 add-at : tie.Need-add-at Inv-loop μ-loop
 add-at c =
@@ -104,7 +98,7 @@ put-shorts-spec =
     sub-short-of
     part-short-of-start
     part-short-of-end
-    short-of-requires
+    (λ c κs. search needs)
     (λ c. search needs)
     (λ c. search needs)
     (λ c. search needs)

@@ -19,4 +19,16 @@ returns-2 c =
     rw (le-ltb _ 12 (longer .if1 .left)) (c .join .ensures)
 
 pub short-of-spec : {M : Type 1} → statement M
-short-of-spec = ?
+short-of-spec =
+    tie.close
+    (tie.spec
+    returns
+    (λ c. search needs)
+    (λ c. search needs)
+    (λ c. search needs)
+    (λ c. search needs)
+    (λ c. search needs)
+    (λ c. search needs)
+    (λ c. search needs)
+    (λ c κs. search needs)
+    returns-2)
