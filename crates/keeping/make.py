@@ -158,11 +158,11 @@ def soundness_claims():
     yield 'a comment longer than 255 bytes: unsound', setting + [state_with(COMMENT, 255, 1, place=2), state_with(COMMENT, 256, 0, place=2)]
     yield 'an empty blob, empty key fields: unsound', setting + [state_with(BLOB, 0, 0, place=2), state_with(FIELDS, 0, 0, place=2)]
     yield 'lengths that overflow when added up: unsound', setting + [
-        state_with(part, value, 0, place=place) for part in (BLOB, FIELDS, COMMENT) for place in (0, 2, 3) for value in (-1, -end)]
+        state_with(part, value, 0, place=place) for part in (BLOB, FIELDS, COMMENT) for place in (0, 2, 3) for value in (-1, -20)]
     yield 'a byte behind the end not zero: unsound', setting + [
         byte_with(end, 1, 0), byte_with(end + 1, 1, 0), byte_with(32767, 1, 0), state_with(COMMENT, 4, 0, place=2), state_with(COMMENT, 0, 0)]
-    yield 'a field of an unused entry not zero: unsound', setting + [state_with(part, 1, 0, place=place) for part in COLUMNS for place in (3, 4, 23)]
-    yield 'a number of 0 before the last entry, and at it: unsound', setting + [state_with(NUMBER, 0, 0, place=place) for place in (0, 1, 2)]
+    yield 'a field of an unused entry, or of one behind it, not zero: unsound', setting + [state_with(part, 1, 0, place=place) for part in COLUMNS for place in (3, 4, 23)]
+    yield 'a number of 0 where entries end later: unsound', setting + [state_with(NUMBER, 0, 0, place=place) for place in (0, 1, 2)]
     yield 'two equal insertion numbers: unsound', setting + [
         state_with(NUMBER, 1, 0, place=1), state_with(NUMBER, 1, 0, place=2), state_with(NUMBER, 2, 0, place=2), state_with(NUMBER, 2, 0)]
     yield 'an insertion number not below the next: unsound', setting + [state_with(NUMBER, 4, 0), state_with(NUMBER, 5, 0), state_with(NEXT, 3, 0)]

@@ -1,6 +1,6 @@
 -- Within the limits the search tells where the key goes. Assumes nothing.
 use borrow.Author.Needs.{needs}
-use mathlib.Core.Path.{_≡_, sym}
+use mathlib.Core.Path.{sym}
 use lib.ListN.{length}
 use Prim.Native.Nat.{_+_}
 use Rattle.rule.specs.Rule.{brought}
