@@ -1,7 +1,6 @@
 // One value of a state or a store is set, and the whole tested for soundness.
 use soundness::is_state_sound;
 use table::Columns;
-use table::LockRecord;
 use table::State;
 use wire::limits;
 use wire::read::cut;
@@ -22,77 +21,55 @@ fn byte_of(value: u32) -> u8 {
     255
 }
 
-// The parts of an entry are 1 to 7, and 12 its comment's length.
-fn damaged_columns(t: Columns, part: u8, place: usize, value: u32) -> Columns {
-    if 8 <= place {
-        return t;
+// From 2^31 on a value is counted down from 2^64, so that there are lengths whose sum overflows.
+fn length_of(value: u32) -> usize {
+    if value < 0x8000_0000 {
+        return value as usize;
     }
-    let number = value as u64;
-    let length = value as usize;
-    let byte = byte_of(value);
-    let mut numbers = t.numbers;
-    let mut readings = t.readings;
-    let mut blob_lens = t.blob_lens;
-    let mut fields_lens = t.fields_lens;
-    let mut comment_lens = t.comment_lens;
-    let mut seconds = t.seconds;
-    let mut limited = t.limited;
-    let mut confirm = t.confirm;
-    match part {
-        1 => {
-            numbers[place] = number;
-        }
-        2 => {
-            readings[place] = number;
-        }
-        3 => {
-            limited[place] = byte;
-        }
-        4 => {
-            seconds[place] = value;
-        }
-        5 => {
-            confirm[place] = byte;
-        }
-        6 => {
-            blob_lens[place] = length;
-        }
-        12 => {
-            comment_lens[place] = length;
-        }
-        _ => {
-            fields_lens[place] = length;
-        }
-    }
-    Columns {
-        numbers,
-        readings,
-        blob_lens,
-        fields_lens,
-        comment_lens,
-        seconds,
-        limited,
-        confirm,
-    }
+    0xFFFF_FFFF_0000_0000 + value as usize
 }
 
-fn with_columns(state: State, part: u8, place: usize, value: u32) -> State {
-    let mut out = state;
-    out.columns = damaged_columns(state.columns, part, place, value);
+// The parts are those that are asked for, 1 to 8.
+fn damaged_columns(t: Columns, part: u8, i: usize, value: u32) -> Columns {
+    let mut out = t;
+    if limits::ENTRIES_LIMIT <= i {
+        return out;
+    }
+    let number = value as u64;
+    let length = length_of(value);
+    let byte = byte_of(value);
+    match part {
+        1 => {
+            out.numbers[i] = number;
+        }
+        2 => {
+            out.readings[i] = number;
+        }
+        3 => {
+            out.limited[i] = byte;
+        }
+        4 => {
+            out.seconds[i] = value;
+        }
+        5 => {
+            out.confirm[i] = byte;
+        }
+        6 => {
+            out.blob_lens[i] = length;
+        }
+        7 => {
+            out.fields_lens[i] = length;
+        }
+        _ => {
+            out.comment_lens[i] = length;
+        }
+    }
     out
 }
 
-fn with_comment_byte(state: State, place: usize, i: usize, value: u8) -> State {
-    if 8 <= place {
-        return state;
-    }
-    if limits::COMMENT_LIMIT <= i {
-        return state;
-    }
-    let mut comments = state.comments;
-    comments[place * limits::COMMENT_LIMIT + i] = value;
+fn with_columns(state: State, part: u8, i: usize, value: u32) -> State {
     let mut out = state;
-    out.comments = comments;
+    out.columns = damaged_columns(state.columns, part, i, value);
     out
 }
 
@@ -100,38 +77,31 @@ fn with_passphrase_byte(state: State, place: usize, value: u32) -> State {
     if limits::PASSPHRASE_LIMIT <= place {
         return state;
     }
-    let mut bytes = state.lock.bytes;
-    bytes[place] = byte_of(value);
-    let lock = LockRecord {
-        bytes,
-        len: state.lock.len,
-    };
+    let byte = byte_of(value);
+    let mut lock = state.lock;
+    lock.bytes[place] = byte;
     let mut out = state;
     out.lock = lock;
     out
 }
 
-// Behind an entry's parts: the passphrase's length and bytes, the clock, the next number; and a byte of a comment, by 256 times its place
-// and the byte.
+// Behind the columns' parts: the passphrase's length and bytes, the clock, the next number.
 fn damaged(state: State, part: u8, place: usize, value: u32) -> State {
     let number = value as u64;
-    let length = value as usize;
+    let length = length_of(value);
     let mut out = state;
     match part {
-        8 => {
+        9 => {
             out.lock.len = length;
         }
-        9 => {
+        10 => {
             return with_passphrase_byte(state, place, value);
         }
-        10 => {
+        11 => {
             out.clock.count = number;
         }
-        11 => {
+        12 => {
             out.next = number;
-        }
-        13 => {
-            return with_comment_byte(state, place, length / 256, (value % 256) as u8);
         }
         _ => {
             return with_columns(state, part, place, value);

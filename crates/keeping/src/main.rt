@@ -1,9 +1,9 @@
 // Keys put, found, expired and removed, and a state damaged in each way: each line is a claim, with how many of its steps agree.
 // make.py writes the input.
 mod acts;
+mod asks;
 mod damage;
 mod judge;
-mod lent;
 mod steps;
 
 use judge::begun;
