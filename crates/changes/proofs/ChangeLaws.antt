@@ -25,7 +25,7 @@ use Rattle.table.specs.Shown.{SoundOf, ShowsTable}
 use Rattle.table.proofs.ByteLaws.{zeros-say, padded-size, padded-rest}
 use Rattle.table.proofs.EntryLaws.{columns-long}
 use Rattle.table.proofs.WritingLaws.{laid-length, sound-meaning, sound-canonical, means-of}
-use Rattle.changes.proofs.ClosingLaws.{due-length}
+use Rattle.gaps.proofs.ClosingLaws.{due-length}
 use Rattle.changes.proofs.WrittenLaws.{tableOf, storeOf, few-figures, size-shown, end-shown, unmarked-fewer, all-marked, none-marked, one-marked, due-lasting, columns-closed, store-closed, columns-put, put-size, store-put}
 
 -- ## A sound state is written as its keys are

@@ -1,5 +1,3 @@
 -- The laws that the proofs of functions cite.
-pub mod ClosingLaws
-pub mod OpeningLaws
 pub mod WrittenLaws
 pub mod ChangeLaws

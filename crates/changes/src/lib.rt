@@ -1,11 +1,8 @@
 // Changing the entries of a sound state: keys go on time or on request, and new ones come. Only a call that has tested soundness comes here.
-pub mod closing;
-pub mod opening;
-
-use closing::close;
+use gaps::closing::close;
+use gaps::opening::put_bytes;
 use keys::addition::Carried;
 use keys::constraints::Lifetime;
-use opening::put_bytes;
 use rule::Millis;
 use table::Figures;
 use table::Kept;

@@ -8,7 +8,7 @@ use lib.ListN.{length, take, drop, length-set}
 use Rattle.wire.specs.Limits.{entriesLimit}
 use Rattle.table.specs.Changes.{dueMarks}
 use Rattle.table.proofs.ByteLaws.{copy-more, copy-end}
-use Rattle.changes.proofs.ClosingLaws.{due-length, due-at}
+use Rattle.gaps.proofs.ClosingLaws.{due-length, due-at}
 use Rattle.changes.proofs.mark_due.Statement.{statement}
 use Rattle.changes.proofs.mark_due.Tie as tie
 

@@ -40,6 +40,7 @@ returns-2 c =
     let end = last .copy-bytes3 .ensures .0 in
     let size : length (take (length v - (length v - h)) (drop (length v - h) v)) ≡ h = omega (arith, ap length behind, rest) in
     (omega arith, windows-written _ (start .args .at) v _ _ _ _ h (length v - h) (omega arith) fits room refl behind (first .copy-bytes2 .ensures .1) (last .copy-bytes3 .ensures .1))
+
 pub put-bytes-spec : {M : Type 1} → statement M
 put-bytes-spec =
     tie.close
