@@ -10,7 +10,7 @@ fresh agent and followed by a list.
 
 Each request is called first without an answer, then with one answer more for each question, until it lands. The rule below, written from document
 01 and not from the Rattle code, says which question must come (class, part, insertion number, hash) and how the request must land; what it says
-must be what russh answered, the signature too, which is made here from the key's type and the data. A list's items stand in place order, each with
+must be what russh answered, the signature too, which is made here from the key's type and the data. A list's items stand in list order, each with
 the comment of its add; russh's come in any order, and without. Gate and confirmation say yes. The key check says yes, but in the cases that 01
 leaves to it, where it says what russh's library said.
 
@@ -102,20 +102,23 @@ def lifetime(b):
 
 
 class Entry:
-    def __init__(self, number, blob, comment, due, confirm):
-        self.number, self.blob, self.comment, self.due, self.confirm = number, blob, comment, due, confirm
+    def __init__(self, number, blob, fields, comment, due, confirm):
+        self.number, self.blob, self.fields, self.comment, self.due, self.confirm = number, blob, fields, comment, due, confirm
+
+    def size(self):
+        return len(self.blob) + len(self.fields) + len(self.comment)
 
 
 class Gateway:
     def __init__(self):
-        self.places, self.next, self.lock, self.clock = [None] * 8, 1, b'', 0
+        self.entries, self.next, self.lock, self.clock = [], 1, b'', 0
 
     def advance(self, clock):
         self.clock = clock
-        self.places = [None if e and e.due is not None and e.due <= clock else e for e in self.places]
+        self.entries = [e for e in self.entries if e.due is None or e.due > clock]
 
     def held(self, blob):
-        return next((i for i, e in enumerate(self.places) if e and e.blob == blob), None)
+        return next((i for i, e in enumerate(self.entries) if e.blob == blob), None)
 
 
 def rule(gateway, payload):
@@ -133,7 +136,7 @@ def rule(gateway, payload):
 
 def listing(gateway, _):
     yield from ()
-    held = [e for e in gateway.places if e]
+    held = gateway.entries
     return b'\x0c' + struct.pack('>I', len(held)) + b''.join(string(e.blob) + string(e.comment) for e in held)
 
 
@@ -146,27 +149,30 @@ def add(gateway, payload):
         raise Fault
     seconds, confirm = lifetime(payload[behind:]) if payload[0] == 25 else (None, False)
     need(len(blob) <= 1024 and end - 1 <= 3072 and len(comment) <= 255)
-    place = gateway.held(blob)
-    if place is None:
-        need(None in gateway.places)
-        place = gateway.places.index(None)
+    entry = Entry(gateway.next, blob, payload[1:end], comment, None if seconds is None else gateway.clock + 1000 * seconds, confirm)
+    others = [e for e in gateway.entries if e.blob != blob]
+    need(len(others) < 24 and sum(e.size() for e in others) + entry.size() <= 32768)
     need((yield 'check', 1, end))
-    gateway.places[place] = Entry(gateway.next, blob, comment, None if seconds is None else gateway.clock + 1000 * seconds, confirm)
+    position = gateway.held(blob)
+    if position is None:
+        gateway.entries.append(entry)
+    else:
+        gateway.entries[position] = entry
     gateway.next += 1
     return SUCCESS
 
 
 def remove(gateway, payload):
     yield from ()
-    place = gateway.held(string_at(payload, 1)[0])
-    need(place is not None)
-    gateway.places[place] = None
+    position = gateway.held(string_at(payload, 1)[0])
+    need(position is not None)
+    del gateway.entries[position]
     return SUCCESS
 
 
 def remove_all(gateway, _):
     yield from ()
-    gateway.places = [None] * 8
+    gateway.entries = []
     return SUCCESS
 
 
@@ -175,9 +181,9 @@ def sign(gateway, payload):
         blob, at = string_at(payload, 1)
     except Fault:
         return CLOSE
-    place = gateway.held(blob)
-    need(place is not None)
-    entry = gateway.places[place]
+    position = gateway.held(blob)
+    need(position is not None)
+    entry = gateway.entries[position]
     if entry.confirm:
         need((yield 'confirm', entry.number))
     try:
@@ -223,7 +229,7 @@ def answer(gateway, payload, question, check):
     kind, *values = question
     if kind == 'sign':
         number, start, end, hash = values
-        entry = next(e for e in gateway.places if e and e.number == number)
+        entry = next(e for e in gateway.entries if e.number == number)
         signature = scripted_signature(entry.blob, payload[start:end], hash)
         return signature, {'signature': 2, 'signature_number': number, 'blob': signature}
     if kind == 'confirm':
@@ -244,7 +250,7 @@ def say(text):
 
 def record(payload, clock, lent):
     *values, signature = lent.values()
-    records.append(b'\1' + struct.pack('>QBBBBQQIII', clock, *values, 10305, len(payload), len(signature)) + payload + signature)
+    records.append(b'\1' + struct.pack('>QBBBBQQIII', clock, *values, 30897, len(payload), len(signature)) + payload + signature)
 
 
 def serve(gateway, payload, clock, check):
