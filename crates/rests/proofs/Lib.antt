@@ -1,0 +1,2 @@
+-- The proof of what is promised.
+pub mod RestLaws

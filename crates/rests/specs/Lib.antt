@@ -1,0 +1,2 @@
+-- The statement of what is promised.
+pub mod Promises
