@@ -181,7 +181,7 @@ def soundness_claims():
 
 
 def blob_claims():
-    """Blobs are first told apart by their length and the sum of their last 32 bytes."""
+    """Blobs are first told apart by four of their last twelve bytes."""
     yield 'two equal blobs: unsound; of the same sum, or longer: sound', [
         put(A, 0), put(B, 1), put(C, 2), byte_with(14, 3, 0), byte_with(26, 3, 0), byte_with(26, 4, 0), byte_with(12, 0, 1), byte_with(24, 0, 1),
         state_with(BLOB, 4, 1, place=1)]
