@@ -8,3 +8,4 @@ pub mod Lists
 pub mod Lift
 pub mod FirstLaws
 pub mod FirstRuns
+pub mod InnerLaws
