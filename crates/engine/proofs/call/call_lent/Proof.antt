@@ -57,6 +57,6 @@ call-lent-spec =
     (λ c. search needs)
     returns-3
     inner-lent-requires
-    (λ c. let r : tie.After-inner-lent = search in r .inner-lent .kept .1 .1 .1 .1 .1 .1 .1 .1 .1 .1 .0)
-    (λ c. let r : tie.After-inner-lent = search in r .inner-lent .kept .1 .1 .1 .1 .1 .1 .1 .1 .1 .1 .1 .1 .1 .1 .1 .0)
+    (λ c. search needs)
+    (λ c. search needs)
     returns-4)

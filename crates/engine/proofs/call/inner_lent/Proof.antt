@@ -46,7 +46,7 @@ returns c =
     let start : tie.Start = search in
     let a = start .args in
     inner-meets _ _ _ _ _ _ _ _ _ _ _ (start .pre)
-    (refuses-1 _ _ _ _ _ _ _ _ (c .before .if1 .taken) (refused-as (columns (a .numbers .now) (a .readings .now) (a .blob-lens .now) (a .fields-lens .now) (a .comment-lens .now) (a .seconds .now) (a .limited .now) (a .confirm .now)) (a .passphrase .now) _ _ _ (c .refused .ensures)))
+    (refuses-1 _ _ _ _ _ _ _ _ (c .before .if1 .taken) (refused-as (lent-state start .columns) (a .passphrase .now) _ _ _ (c .refused .ensures)))
 
 returns-2 : tie.Need-returns-2
 returns-2 c =
@@ -55,7 +55,7 @@ returns-2 c =
     let start : tie.Start = search in
     let a = start .args in
     inner-meets _ _ _ _ _ _ _ _ _ _ _ (start .pre)
-    (refuses-4 _ _ _ _ _ _ _ (room .if1 .left) (start .pre) _ (short .if2 .taken) (refused-as (columns (a .numbers .now) (a .readings .now) (a .blob-lens .now) (a .fields-lens .now) (a .comment-lens .now) (a .seconds .now) (a .limited .now) (a .confirm .now)) (a .passphrase .now) _ _ _ (c .refused2 .ensures)))
+    (refuses-4 _ _ _ _ _ _ _ (room .if1 .left) (start .pre) _ (short .if2 .taken) (refused-as (lent-state start .columns) (a .passphrase .now) _ _ _ (c .refused2 .ensures)))
 
 returns-3 : tie.Need-returns-3
 returns-3 c =
@@ -67,7 +67,7 @@ returns-3 c =
     let a = start .args in
     inner-meets _ _ _ _ _ _ _ _ _ _ _ (start .pre)
     (refuses-5 _ _ _ _ _ _ _ (room .if1 .left) (start .pre) _ (short .if2 .left) (counted .lent-length .ensures) _ (lent .if3 .taken)
-    (refused-as (columns (a .numbers .now) (a .readings .now) (a .blob-lens .now) (a .fields-lens .now) (a .comment-lens .now) (a .seconds .now) (a .limited .now) (a .confirm .now)) (a .passphrase .now) _ _ _ (c .refused3 .ensures)))
+    (refused-as (lent-state start .columns) (a .passphrase .now) _ _ _ (c .refused3 .ensures)))
 
 advance-requires : tie.Need-advance-requires
 advance-requires c κs =

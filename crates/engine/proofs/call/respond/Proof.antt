@@ -200,14 +200,14 @@ respond-spec =
     (λ c. search needs)
     (λ c. search needs)
     returns-3
-    (λ c. let r : tie.After-add-key = search in r .add-key .kept .1 .1 .1 .1 .1 .1 .1 .1 .1 .0)
-    (λ c. let r : tie.After-add-key = search in r .add-key .kept .1 .1 .1 .1 .1 .1 .1 .1 .1 .1 .1 .1 .1 .0)
+    (λ c. search needs)
+    (λ c. search needs)
     returns-4
-    (λ c. let r : tie.After-remove-identity = search in r .remove-identity .kept .1 .1 .1 .1 .1 .1 .1 .1 .0)
-    (λ c. let r : tie.After-remove-identity = search in r .remove-identity .kept .1 .1 .1 .1 .1 .1 .1 .1 .1 .1 .0)
+    (λ c. search needs)
+    (λ c. search needs)
     returns-5
-    (λ c. let r : tie.After-remove-all-identities = search in r .remove-all-identities .kept .1 .1 .1 .1 .1 .1 .1 .1 .0)
-    (λ c. let r : tie.After-remove-all-identities = search in r .remove-all-identities .kept .1 .1 .1 .1 .1 .1 .1 .1 .1 .0)
+    (λ c. search needs)
+    (λ c. search needs)
     returns-6
     (λ c. search needs)
     (λ c. search needs)
