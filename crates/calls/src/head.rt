@@ -1,5 +1,5 @@
 // What is read of a record before its bytes: a length, or the head of a call, 40 bytes.
-use gateway::flat::FlatAnswers;
+use flat::FlatAnswers;
 use libc::STDIN_FILENO;
 use rule::Millis;
 use wire::read::Cursor;

@@ -11,8 +11,8 @@ mod head;
 mod say;
 
 use byvalue::call;
-use gateway::flat::answers_of;
-use gateway::flat::flat_of;
+use flat::answers_of;
+use flat::flat_of;
 use head::Head;
 use head::Headed;
 use head::Length;

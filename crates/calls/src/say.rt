@@ -1,5 +1,5 @@
 // What is written: one line for each outcome and text.
-use gateway::flat::FlatOutcome;
+use flat::FlatOutcome;
 use libc::STDOUT_FILENO;
 use wire::limits;
 use wire::read::cut;

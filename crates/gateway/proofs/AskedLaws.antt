@@ -27,8 +27,8 @@ use Rattle.requests.proofs.OutcomeLaws.{outcomes-apart}
 use Rattle.server.specs.Calls.{callOf}
 use Rattle.server.specs.Runs.{Step, ByCall, asCall}
 use Rattle.server.proofs.Leavings.{step-ends}
-use Rattle.gateway.specs.declared.flat.FlatOutcome.{FlatOutcome}
-use Rattle.gateway.specs.Flat.{answersOf, flatOf}
+use Rattle.flat.specs.declared.FlatOutcome.{FlatOutcome}
+use Rattle.flat.specs.Flat.{answersOf, flatOf}
 use Rattle.gateway.specs.Promises.{AskedTold, AskedIsTold}
 
 -- a held key with this number; with Confirm, where one was asked for it

@@ -18,9 +18,10 @@ use Rattle.server.specs.Calls.{callOf, Meets}
 use Rattle.server.specs.Runs.{Step, ByCall, asCall}
 use Rattle.server.proofs.Leavings.{step-ends}
 use Rattle.server.proofs.Lift.{code-promises}
-use Rattle.gateway.specs.Flat.{saidOf, confirmedOf, signedOf, answersOf, flatOf}
-use Rattle.gateway.specs.Promises.{flatValues, ByExport, ExportPromises, gateYes, TellsBits, FlagsTold}
-use Rattle.gateway.proofs.FlatLaws.{same-values}
+use Rattle.flat.specs.Flat.{saidOf, confirmedOf, signedOf, answersOf, flatOf}
+use Rattle.flat.specs.Promises.{flatValues}
+use Rattle.gateway.specs.Promises.{ByExport, ExportPromises, gateYes, TellsBits, FlagsTold}
+use Rattle.flat.proofs.FlatLaws.{same-values}
 
 -- ## Runs
 

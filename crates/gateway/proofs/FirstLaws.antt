@@ -1,9 +1,9 @@
--- The flat values of a first call say what they stand for, case by case; what it gave meets the contract of `first_call`, so all that is promised of that
+-- What an exported first call gave meets the contract of `first_call`, so all that is promised of that
 -- holds of it; and the parts that it names lie in the connection's bytes, since they lie in the payload. Assumes nothing.
 use Prim.Native.Nat.{ℕ, _+_}
 use mathlib.Core.Path.{_≡_, refl, sym, ap, _∙_, subst}
 use mathlib.Core.Logic.{inl, inr}
-use mathlib.Core.List.{List, [], _∷_}
+use mathlib.Core.List.{List, []}
 use native.Mathlib.Omega.{arith}
 use lib.ListN.{length}
 use Rattle.wire.specs.declared.frame.Split.{Split}
@@ -15,36 +15,17 @@ use Rattle.table.specs.declared.State.{State}
 use Rattle.requests.specs.declared.Outcome.{Outcome}
 use Rattle.requests.specs.declared.Outcome.the-variants.{Gate, Check, Confirm, Sign, Reply, Close}
 use Rattle.requests.specs.declared.Outcome.the-variants as outcome
-use Rattle.server.specs.declared.first.First.the-variants.{MoreNeeded, TooLong, Refused, Began}
+use Rattle.server.specs.declared.first.First.the-variants.{MoreNeeded, TooLong, Refused}
 use Rattle.server.specs.Calls.{callOf}
 use Rattle.server.specs.First.{nothingLent, firstIn, firstBy, firstOf}
 use Rattle.server.specs.FirstPromises.{FirstStep, ByFirst}
-use Rattle.server.proofs.FirstLaws.{firsts-apart}
 use Rattle.server.proofs.FirstRuns.{first-promises}
-use Rattle.gateway.specs.Flat.{numbered, flatOf, flatFirst}
-use Rattle.gateway.specs.Promises.{flatFirstValues, SameFirstValues, FlatFirstApart, FlatFirstUnused, ByExport, ByFirstExport, FirstExportPromises, NamesWithin, FirstUnusedZero, FirstFields, FirstsTell, CallPartsLie}
-use Rattle.gateway.proofs.FlatLaws.{same-values, flat-unused}
+use Rattle.flat.specs.Flat.{numbered, flatOf, flatFirst}
+use Rattle.flat.specs.Promises.{flatFirstValues, FirstUnusedZero}
+use Rattle.gateway.specs.Promises.{ByExport, ByFirstExport, FirstExportPromises, NamesWithin, FirstFields, FirstsTell, CallPartsLie}
+use Rattle.flat.proofs.FlatLaws.{same-first-values, flat-first-unused}
 use Rattle.gateway.proofs.WithinLaws.{call-names-within, calls-name-within}
 use Rattle.gateway.proofs.ExportLaws.{export-calls}
-
--- ## Its values
-
-pub same-first-values : SameFirstValues
-unfolding flatFirst
-same-first-values MoreNeeded = refl
-same-first-values TooLong = refl
-same-first-values (Refused n) = refl
-same-first-values (Began used o) = ap (λ (vs : List ℕ). 3 ∷ used ∷ vs) (same-values o)
-
-pub flat-first-apart : FlatFirstApart
-flat-first-apart a b e = firsts-apart a b (sym (same-first-values a) ∙ ap flatFirstValues e ∙ same-first-values b)
-
-pub flat-first-unused : FlatFirstUnused
-unfolding flatFirst
-flat-first-unused MoreNeeded = record { used = λ _. refl; outcome = λ _. refl; refused = λ never. absurd (omega (arith, never)); begun = λ never. absurd (omega (arith, never)) }
-flat-first-unused TooLong = record { used = λ _. refl; outcome = λ _. refl; refused = λ never. absurd (omega (arith, never)); begun = λ never. absurd (omega (arith, never)) }
-flat-first-unused (Refused n) = record { used = λ _. refl; outcome = λ never. absurd (omega (arith, never)); refused = λ _. refl; begun = λ never. absurd (omega (arith, never)) }
-flat-first-unused (Began used o) = record { used = λ never. absurd (never refl); outcome = λ never. absurd (omega (arith, never)); refused = λ never. absurd (omega (arith, never)); begun = λ _. flat-unused o }
 
 -- ## Runs
 

@@ -1,6 +1,4 @@
 -- The laws that the proofs of functions cite, and the proofs of what is promised.
-pub mod FlatSteps
-pub mod FlatLaws
 pub mod WithinLaws
 pub mod ExportLaws
 pub mod AskedLaws

@@ -36,9 +36,10 @@ use Rattle.requests.specs.declared.Outcome.the-variants.{Refused}
 use Rattle.requests.specs.Outcomes.{lentOf, code}
 use Rattle.requests.specs.Ends.{Done, laidOut}
 use Rattle.server.specs.Calls.{callOf}
-use Rattle.gateway.specs.Flat.{answersOf, flatOf}
-use Rattle.gateway.specs.Promises.{UnusedZero, NamesWithin, CallsNameWithin}
-use Rattle.gateway.proofs.FlatLaws.{flat-unused}
+use Rattle.flat.specs.Flat.{answersOf, flatOf}
+use Rattle.flat.specs.Promises.{UnusedZero}
+use Rattle.gateway.specs.Promises.{NamesWithin, CallsNameWithin}
+use Rattle.flat.proofs.FlatLaws.{flat-unused}
 
 -- ## What a plan asks
 

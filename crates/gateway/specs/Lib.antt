@@ -1,3 +1,3 @@
 -- The definitions that contracts cite, and the statements of what is promised.
-pub mod Flat
+pub mod Exports
 pub mod Promises

@@ -1,12 +1,12 @@
 // What C and Rust link. include/key_agent.h says what the other side must keep.
-use crate::flat::FlatAnswers;
-use crate::flat::FlatFirst;
-use crate::flat::FlatOutcome;
-use crate::flat::FlatSplit;
-use crate::flat::answers_of;
-use crate::flat::first_of;
-use crate::flat::flat_of;
-use crate::flat::split;
+use flat::FlatAnswers;
+use flat::FlatFirst;
+use flat::FlatOutcome;
+use flat::FlatSplit;
+use flat::answers_of;
+use flat::first_of;
+use flat::flat_of;
+use flat::split;
 use lending::serve;
 use lending::serve_first;
 use lookups::HeldKey;
@@ -21,7 +21,8 @@ ghost use Rattle.rule.specs.Gateway.{fresh as freshGateway};
 ghost use Rattle.table.specs.Meaning.{stateOf};
 ghost use Rattle.table.specs.Soundness.{soundState};
 ghost use Rattle.lookups.specs.Told.{keyTold, nextTold};
-ghost use Rattle.gateway.specs.Flat.{FlatMeets, FlatFirstMeets, flatSplit};
+ghost use Rattle.flat.specs.Flat.{flatSplit};
+ghost use Rattle.gateway.specs.Exports.{FlatMeets, FlatFirstMeets};
 
 #[no_mangle]
 pub extern "C" fn key_agent_fresh() -> State

@@ -39,13 +39,13 @@ use denote.Triple.Walked.{says, Stays, gave-ref, gave-slice, stay-dropped, walkO
 use denote.Exit.{yes}
 use denote.Signature.{plain, shrSliceOf}
 use Rattle.server.specs.Calls.{Meets as CallMeets}
-use Rattle.gateway.specs.Flat.{answersOf, flatOf}
+use Rattle.flat.specs.Flat.{answersOf, flatOf}
 use Rattle.table.specs.declared.State.{State}
 use Rattle.requests.specs.declared.Outcome.{Outcome}
 use Rattle.requests.specs.declared.Answers.{Answers}
 use Rattle.rule.specs.declared.Millis.{Millis}
-use Rattle.gateway.specs.declared.flat.FlatAnswers.{FlatAnswers}
-use Rattle.gateway.specs.declared.flat.FlatOutcome.{FlatOutcome}
+use Rattle.flat.specs.declared.FlatAnswers.{FlatAnswers}
+use Rattle.flat.specs.declared.FlatOutcome.{FlatOutcome}
 use Rattle.table.proofs.State as State′
 use Rattle.requests.proofs.Outcome as Outcome′
 use Rattle.requests.proofs.Outcome.Laws as Outcome″
@@ -53,22 +53,22 @@ use Rattle.requests.proofs.Answers as Answers′
 use Rattle.requests.proofs.Answers.Laws as Answers″
 use Rattle.rule.proofs.Millis as Millis′
 use Rattle.rule.proofs.Millis.Laws as Millis″
-use Rattle.gateway.proofs.flat.FlatAnswers as FlatAnswers′
-use Rattle.gateway.proofs.flat.FlatAnswers.Laws as FlatAnswers″
-use Rattle.gateway.proofs.flat.FlatOutcome as FlatOutcome′
-use Rattle.gateway.proofs.flat.FlatOutcome.Laws as FlatOutcome″
-use Rattle.gateway.proofs.flat.answers_of as answers-of
-use Rattle.gateway.proofs.flat.answers_of.Symbol as answers-of-def
-use Rattle.gateway.proofs.flat.answers_of.Symbol.{name as #answers-of}
-use Rattle.gateway.proofs.flat.answers_of.Met as answers-of-thm
+use Rattle.flat.proofs.FlatAnswers as FlatAnswers′
+use Rattle.flat.proofs.FlatAnswers.Laws as FlatAnswers″
+use Rattle.flat.proofs.FlatOutcome as FlatOutcome′
+use Rattle.flat.proofs.FlatOutcome.Laws as FlatOutcome″
+use Rattle.flat.proofs.answers_of as answers-of
+use Rattle.flat.proofs.answers_of.Symbol as answers-of-def
+use Rattle.flat.proofs.answers_of.Symbol.{name as #answers-of}
+use Rattle.flat.proofs.answers_of.Met as answers-of-thm
 use Rattle.lending.proofs.serve as serve
 use Rattle.lending.proofs.serve.Symbol as serve-def
 use Rattle.lending.proofs.serve.Symbol.{name as #serve}
 use Rattle.lending.proofs.serve.Met as serve-thm
-use Rattle.gateway.proofs.flat.flat_of as flat-of
-use Rattle.gateway.proofs.flat.flat_of.Symbol as flat-of-def
-use Rattle.gateway.proofs.flat.flat_of.Symbol.{name as #flat-of}
-use Rattle.gateway.proofs.flat.flat_of.Met as flat-of-thm
+use Rattle.flat.proofs.flat_of as flat-of
+use Rattle.flat.proofs.flat_of.Symbol as flat-of-def
+use Rattle.flat.proofs.flat_of.Symbol.{name as #flat-of}
+use Rattle.flat.proofs.flat_of.Met as flat-of-thm
 use Rattle.gateway.proofs.exports.key_agent_call.Key.{name as #key-agent-call}
 use Rattle.gateway.proofs.exports.key_agent_call as call′
 use Rattle.gateway.proofs.exports.key_agent_call.Statement as stated
@@ -252,6 +252,6 @@ key-agent-call-spec 𝓤 H 𝓜 𝓖 𝓡 =
     entered 𝓤 H (tripleOf 𝓤 H (𝓖 .A) call′.signature (call′.spec 𝓤 H (𝓖 .A) (𝓜 .mem) (𝓡 .run)))
     (tables 𝓤 H 𝓜 𝓡 code.env .C) (tables 𝓤 H 𝓜 𝓡 code.env .Λ) #key-agent-call code.function (code.unfolded 𝓤 H 𝓜 𝓡)
     (meets 𝓤 H (𝓖 .A) (givenOf 𝓤 H 𝓜 𝓖) (𝓜 .mem) (𝓡 .run) (tablesOf 𝓤 H 𝓜 (tables 𝓤 H 𝓜 𝓡 code.env))
-    (cited 𝓤 H (Answering 𝓤 H (𝓖 .A) (𝓜 .mem) (𝓡 .run)) 𝓜 𝓡 code.env #answers-of answers-of-def.routine code.calls-gateway·flat·answers-of (answers-of-thm.met 𝓤 H 𝓜 𝓖 𝓡))
+    (cited 𝓤 H (Answering 𝓤 H (𝓖 .A) (𝓜 .mem) (𝓡 .run)) 𝓜 𝓡 code.env #answers-of answers-of-def.routine code.calls-flat·answers-of (answers-of-thm.met 𝓤 H 𝓜 𝓖 𝓡))
     (cited 𝓤 H (Serve 𝓤 H (𝓖 .A) (𝓜 .mem) (𝓡 .run)) 𝓜 𝓡 code.env #serve serve-def.routine code.calls-lending·serve (serve-thm.met 𝓤 H 𝓜 𝓖 𝓡))
-    (cited 𝓤 H (Flattening 𝓤 H (𝓖 .A) (𝓜 .mem) (𝓡 .run)) 𝓜 𝓡 code.env #flat-of flat-of-def.routine code.calls-gateway·flat·flat-of (flat-of-thm.met 𝓤 H 𝓜 𝓖 𝓡)))
+    (cited 𝓤 H (Flattening 𝓤 H (𝓖 .A) (𝓜 .mem) (𝓡 .run)) 𝓜 𝓡 code.env #flat-of flat-of-def.routine code.calls-flat·flat-of (flat-of-thm.met 𝓤 H 𝓜 𝓖 𝓡)))

@@ -39,26 +39,26 @@ use denote.Triple.Walked.{says, Stays, gave-ref, gave-slice, stay-dropped, walkO
 use denote.Exit.{yes}
 use denote.Signature.{plain, shrSliceOf}
 use Rattle.server.specs.First.{FirstMeets}
-use Rattle.gateway.specs.Flat.{flatFirst}
+use Rattle.flat.specs.Flat.{flatFirst}
 use Rattle.table.specs.declared.State.{State}
 use Rattle.server.specs.declared.first.First.{First}
 use Rattle.rule.specs.declared.Millis.{Millis}
-use Rattle.gateway.specs.declared.flat.FlatFirst.{FlatFirst}
+use Rattle.flat.specs.declared.FlatFirst.{FlatFirst}
 use Rattle.table.proofs.State as State′
 use Rattle.server.proofs.first.First as First′
 use Rattle.server.proofs.first.First.Laws as First″
 use Rattle.rule.proofs.Millis as Millis′
 use Rattle.rule.proofs.Millis.Laws as Millis″
-use Rattle.gateway.proofs.flat.FlatFirst as FlatFirst′
-use Rattle.gateway.proofs.flat.FlatFirst.Laws as FlatFirst″
+use Rattle.flat.proofs.FlatFirst as FlatFirst′
+use Rattle.flat.proofs.FlatFirst.Laws as FlatFirst″
 use Rattle.lending.proofs.serve_first as serve-first
 use Rattle.lending.proofs.serve_first.Symbol as serve-first-def
 use Rattle.lending.proofs.serve_first.Symbol.{name as #serve-first}
 use Rattle.lending.proofs.serve_first.Met as serve-first-thm
-use Rattle.gateway.proofs.flat.first_of as first-of
-use Rattle.gateway.proofs.flat.first_of.Symbol as first-of-def
-use Rattle.gateway.proofs.flat.first_of.Symbol.{name as #first-of}
-use Rattle.gateway.proofs.flat.first_of.Met as first-of-thm
+use Rattle.flat.proofs.first_of as first-of
+use Rattle.flat.proofs.first_of.Symbol as first-of-def
+use Rattle.flat.proofs.first_of.Symbol.{name as #first-of}
+use Rattle.flat.proofs.first_of.Met as first-of-thm
 use Rattle.gateway.proofs.exports.key_agent_first.Key.{name as #key-agent-first}
 use Rattle.gateway.proofs.exports.key_agent_first as first′
 use Rattle.gateway.proofs.exports.key_agent_first.Statement as stated
@@ -206,4 +206,4 @@ key-agent-first-spec 𝓤 H 𝓜 𝓖 𝓡 =
     (tables 𝓤 H 𝓜 𝓡 code.env .C) (tables 𝓤 H 𝓜 𝓡 code.env .Λ) #key-agent-first code.function (code.unfolded 𝓤 H 𝓜 𝓡)
     (meets 𝓤 H (𝓖 .A) (givenOf 𝓤 H 𝓜 𝓖) (𝓜 .mem) (𝓡 .run) (tablesOf 𝓤 H 𝓜 (tables 𝓤 H 𝓜 𝓡 code.env))
     (cited 𝓤 H (Serve 𝓤 H (𝓖 .A) (𝓜 .mem) (𝓡 .run)) 𝓜 𝓡 code.env #serve-first serve-first-def.routine code.calls-lending·serve-first (serve-first-thm.met 𝓤 H 𝓜 𝓖 𝓡))
-    (cited 𝓤 H (Flattening 𝓤 H (𝓖 .A) (𝓜 .mem) (𝓡 .run)) 𝓜 𝓡 code.env #first-of first-of-def.routine code.calls-gateway·flat·first-of (first-of-thm.met 𝓤 H 𝓜 𝓖 𝓡)))
+    (cited 𝓤 H (Flattening 𝓤 H (𝓖 .A) (𝓜 .mem) (𝓡 .run)) 𝓜 𝓡 code.env #first-of first-of-def.routine code.calls-flat·first-of (first-of-thm.met 𝓤 H 𝓜 𝓖 𝓡)))

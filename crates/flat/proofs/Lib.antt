@@ -1,0 +1,3 @@
+-- The laws that the proofs of functions cite, and the proofs of what is promised.
+pub mod FlatSteps
+pub mod FlatLaws
