@@ -48,7 +48,7 @@ flat-first-unused (Began used o) = record { used = λ never. absurd (never refl)
 
 -- ## Runs
 
-export-first : (state : State) (store : List ℕ) (f : FirstStep) → ByFirstExport state store f → ByFirst state store f
+pub export-first : (state : State) (store : List ℕ) (f : FirstStep) → ByFirstExport state store f → ByFirst state store f
 export-first state store f x =
     let first = firstOf state store (f .bytes) (f .reading) (f .buffer) .first in
     record {

@@ -1,6 +1,7 @@
 -- What the flat values stand for: 01's numbers and values in the place of each enum.
 use Prim.Native.Nat.{ℕ}
 use mathlib.Core.Path.{_≡_}
+use mathlib.Core.Logic.{_≢_}
 use mathlib.Core.Bool.{true, false, cond}
 use mathlib.Core.List.{List}
 use lib.Dec.{eqb}
@@ -9,6 +10,7 @@ use Rattle.wire.specs.declared.frame.Split.the-variants.{MoreNeeded, TooLong, F
 use Rattle.wire.specs.Frames.{splitOf}
 use Rattle.rule.specs.declared.Millis.{Millis}
 use Rattle.table.specs.declared.State.{State}
+use Rattle.table.specs.Soundness.{Sound}
 use Rattle.requests.specs.declared.Said.{Said}
 use Rattle.requests.specs.declared.Said.the-variants as said
 use Rattle.requests.specs.declared.Confirmed.{Confirmed}
@@ -82,6 +84,13 @@ module _ (state : State) (store payload : List ℕ) (reading : Millis) (answers 
     pub store-is : storeAfter ≡ called .store
     pub reply-is : reply ≡ called .reply
 
+  -- the inner call's (#113), which requires a sound state and store: it leaves a sound one too, and refuses neither the store nor the state
+  pub record FlatInnerMeets (outcome : FlatOutcome) (after : State) (storeAfter reply : List ℕ) : Type 0 where
+    pub meets : FlatMeets outcome after storeAfter reply
+    pub sound : Sound after storeAfter  -- what the next inner call requires
+    pub never-2 : outcome ≢ numbered 0 2
+    pub never-3 : outcome ≢ numbered 0 3
+
 -- ## The split: 0 more needed, 1 too long, 2 a whole frame; where its payload lies
 
 unfoldable pub splitAs : Split → FlatSplit
@@ -114,3 +123,9 @@ module _ (state : State) (store bytes : List ℕ) (reading : Millis) (buffer : L
     pub state-is : after ≡ firstDone .state
     pub store-is : storeAfter ≡ firstDone .store
     pub reply-is : reply ≡ firstDone .reply
+
+  pub record FlatInnerFirstMeets (first : FlatFirst) (after : State) (storeAfter reply : List ℕ) : Type 0 where
+    pub meets : FlatFirstMeets first after storeAfter reply
+    pub sound : Sound after storeAfter
+    pub never-2 : first ≢ unbegunFirst 2 2
+    pub never-3 : first ≢ unbegunFirst 2 3
