@@ -35,15 +35,15 @@ ghost use Rattle.server.specs.Inner.{InnerMeets};
 
 // The request served on the present state, its clock raised.
 fn respond(
-    numbers: &mut [u64],
-    readings: &mut [u64],
-    blob_lens: &mut [usize],
-    fields_lens: &mut [usize],
-    comment_lens: &mut [usize],
-    seconds: &mut [u32],
-    limited: &mut [u8],
-    confirm: &mut [u8],
-    passphrase: &mut [u8],
+    numbers: &mut [u64; limits::ENTRIES_LIMIT],
+    readings: &mut [u64; limits::ENTRIES_LIMIT],
+    blob_lens: &mut [usize; limits::ENTRIES_LIMIT],
+    fields_lens: &mut [usize; limits::ENTRIES_LIMIT],
+    comment_lens: &mut [usize; limits::ENTRIES_LIMIT],
+    seconds: &mut [u32; limits::ENTRIES_LIMIT],
+    limited: &mut [u8; limits::ENTRIES_LIMIT],
+    confirm: &mut [u8; limits::ENTRIES_LIMIT],
+    passphrase: &mut [u8; limits::PASSPHRASE_LIMIT],
     kept: Kept,
     store: &mut [u8],
     payload: &[u8],
@@ -153,17 +153,18 @@ fn refused(number: u8, kept: Kept) -> Landed
     }
 }
 
-// A call on a state and store that are known to be sound, as `call_core` finds out first: refusals 2 and 3 cannot occur.
-fn call_sound(
-    numbers: &mut [u64],
-    readings: &mut [u64],
-    blob_lens: &mut [usize],
-    fields_lens: &mut [usize],
-    comment_lens: &mut [usize],
-    seconds: &mut [u32],
-    limited: &mut [u8],
-    confirm: &mut [u8],
-    passphrase: &mut [u8],
+// The inner call (#113), over the lent arrays of a sound state: nothing is tested that a sound state has. Its `requires` is met by
+// `call_lent`, which has tested, and by the Rust crate's Gateway, whose state only ever comes from the core.
+pub fn inner_lent(
+    numbers: &mut [u64; limits::ENTRIES_LIMIT],
+    readings: &mut [u64; limits::ENTRIES_LIMIT],
+    blob_lens: &mut [usize; limits::ENTRIES_LIMIT],
+    fields_lens: &mut [usize; limits::ENTRIES_LIMIT],
+    comment_lens: &mut [usize; limits::ENTRIES_LIMIT],
+    seconds: &mut [u32; limits::ENTRIES_LIMIT],
+    limited: &mut [u8; limits::ENTRIES_LIMIT],
+    confirm: &mut [u8; limits::ENTRIES_LIMIT],
+    passphrase: &mut [u8; limits::PASSPHRASE_LIMIT],
     kept: Kept,
     store: &mut [u8],
     payload: &[u8],
@@ -173,7 +174,7 @@ fn call_sound(
     reply: &mut [u8],
 ) -> Landed
     requires { ⌜ Sound (held (columns (now numbers) (now readings) (now «blob_lens») (now «fields_lens») (now «comment_lens») (now seconds) (now limited) (now confirm)) (now passphrase) kept) (now store) ⌝ }
-    ensures { λ r. ⌜ Meets (held (columns (now (numbers .entry)) (now (readings .entry)) (now («blob_lens» .entry)) (now («fields_lens» .entry)) (now («comment_lens» .entry)) (now (seconds .entry)) (now (limited .entry)) (now (confirm .entry))) (now (passphrase .entry)) kept) (now (store .entry)) (now (payload .entry)) reading answers (now (signature .entry)) (now (reply .entry)) (r .outcome) (held (columns (now (numbers .exit)) (now (readings .exit)) (now («blob_lens» .exit)) (now («fields_lens» .exit)) (now («comment_lens» .exit)) (now (seconds .exit)) (now (limited .exit)) (now (confirm .exit))) (now (passphrase .exit)) (r .kept)) (now (store .exit)) (now (reply .exit)) ⌝ }
+    ensures { λ r. ⌜ InnerMeets (held (columns (now (numbers .entry)) (now (readings .entry)) (now («blob_lens» .entry)) (now («fields_lens» .entry)) (now («comment_lens» .entry)) (now (seconds .entry)) (now (limited .entry)) (now (confirm .entry))) (now (passphrase .entry)) kept) (now (store .entry)) (now (payload .entry)) reading answers (now (signature .entry)) (now (reply .entry)) (r .outcome) (held (columns (now (numbers .exit)) (now (readings .exit)) (now («blob_lens» .exit)) (now («fields_lens» .exit)) (now («comment_lens» .exit)) (now (seconds .exit)) (now (limited .exit)) (now (confirm .exit))) (now (passphrase .exit)) (r .kept)) (now (store .exit)) (now (reply .exit)) ⌝ }
 {
     if reply.len() < limits::REPLY_ROOM {
         return refused(1, kept);
@@ -217,17 +218,17 @@ fn call_sound(
     )
 }
 
-// The core: columns and passphrase are lent, and what is no column goes by value.
-fn call_core(
-    numbers: &mut [u64],
-    readings: &mut [u64],
-    blob_lens: &mut [usize],
-    fields_lens: &mut [usize],
-    comment_lens: &mut [usize],
-    seconds: &mut [u32],
-    limited: &mut [u8],
-    confirm: &mut [u8],
-    passphrase: &mut [u8],
+// One call over the lent arrays of a state; what is no array goes by value and comes back. Outcome, state, store and reply buffer are what `callOf` says.
+pub fn call_lent(
+    numbers: &mut [u64; limits::ENTRIES_LIMIT],
+    readings: &mut [u64; limits::ENTRIES_LIMIT],
+    blob_lens: &mut [usize; limits::ENTRIES_LIMIT],
+    fields_lens: &mut [usize; limits::ENTRIES_LIMIT],
+    comment_lens: &mut [usize; limits::ENTRIES_LIMIT],
+    seconds: &mut [u32; limits::ENTRIES_LIMIT],
+    limited: &mut [u8; limits::ENTRIES_LIMIT],
+    confirm: &mut [u8; limits::ENTRIES_LIMIT],
+    passphrase: &mut [u8; limits::PASSPHRASE_LIMIT],
     kept: Kept,
     store: &mut [u8],
     payload: &[u8],
@@ -259,91 +260,7 @@ fn call_core(
     ) {
         return refused(3, kept);
     }
-    call_sound(
-        numbers,
-        readings,
-        blob_lens,
-        fields_lens,
-        comment_lens,
-        seconds,
-        limited,
-        confirm,
-        passphrase,
-        kept,
-        store,
-        payload,
-        reading,
-        answers,
-        signature,
-        reply,
-    )
-}
-
-// One call over the lent arrays of a state; what is no array goes by value and comes back. Outcome, state, store and reply buffer are what `callOf` says.
-pub fn call_lent(
-    numbers: &mut [u64; limits::ENTRIES_LIMIT],
-    readings: &mut [u64; limits::ENTRIES_LIMIT],
-    blob_lens: &mut [usize; limits::ENTRIES_LIMIT],
-    fields_lens: &mut [usize; limits::ENTRIES_LIMIT],
-    comment_lens: &mut [usize; limits::ENTRIES_LIMIT],
-    seconds: &mut [u32; limits::ENTRIES_LIMIT],
-    limited: &mut [u8; limits::ENTRIES_LIMIT],
-    confirm: &mut [u8; limits::ENTRIES_LIMIT],
-    passphrase: &mut [u8; limits::PASSPHRASE_LIMIT],
-    kept: Kept,
-    store: &mut [u8],
-    payload: &[u8],
-    reading: Millis,
-    answers: Answers,
-    signature: &[u8],
-    reply: &mut [u8],
-) -> Landed
-    ensures { λ r. ⌜ Meets (held (columns (now (numbers .entry)) (now (readings .entry)) (now («blob_lens» .entry)) (now («fields_lens» .entry)) (now («comment_lens» .entry)) (now (seconds .entry)) (now (limited .entry)) (now (confirm .entry))) (now (passphrase .entry)) kept) (now (store .entry)) (now (payload .entry)) reading answers (now (signature .entry)) (now (reply .entry)) (r .outcome) (held (columns (now (numbers .exit)) (now (readings .exit)) (now («blob_lens» .exit)) (now («fields_lens» .exit)) (now («comment_lens» .exit)) (now (seconds .exit)) (now (limited .exit)) (now (confirm .exit))) (now (passphrase .exit)) (r .kept)) (now (store .exit)) (now (reply .exit)) ⌝ }
-{
-    call_core(
-        numbers,
-        readings,
-        blob_lens,
-        fields_lens,
-        comment_lens,
-        seconds,
-        limited,
-        confirm,
-        passphrase,
-        kept,
-        store,
-        payload,
-        reading,
-        answers,
-        signature,
-        reply,
-    )
-}
-
-// The inner call (#113), over the lent arrays of a sound state: nothing is tested that a sound state has. Its `requires` is met by
-// `call_lent`, which has tested, and by the Rust crate's Gateway, whose state only ever comes from the core.
-pub fn inner_lent(
-    numbers: &mut [u64; limits::ENTRIES_LIMIT],
-    readings: &mut [u64; limits::ENTRIES_LIMIT],
-    blob_lens: &mut [usize; limits::ENTRIES_LIMIT],
-    fields_lens: &mut [usize; limits::ENTRIES_LIMIT],
-    comment_lens: &mut [usize; limits::ENTRIES_LIMIT],
-    seconds: &mut [u32; limits::ENTRIES_LIMIT],
-    limited: &mut [u8; limits::ENTRIES_LIMIT],
-    confirm: &mut [u8; limits::ENTRIES_LIMIT],
-    passphrase: &mut [u8; limits::PASSPHRASE_LIMIT],
-    kept: Kept,
-    store: &mut [u8],
-    payload: &[u8],
-    reading: Millis,
-    answers: Answers,
-    signature: &[u8],
-    reply: &mut [u8],
-) -> Landed
-    requires { ⌜ Sound (held (columns (now numbers) (now readings) (now «blob_lens») (now «fields_lens») (now «comment_lens») (now seconds) (now limited) (now confirm)) (now passphrase) kept) (now store) ⌝ }
-    ensures { λ r. ⌜ InnerMeets (held (columns (now (numbers .entry)) (now (readings .entry)) (now («blob_lens» .entry)) (now («fields_lens» .entry)) (now («comment_lens» .entry)) (now (seconds .entry)) (now (limited .entry)) (now (confirm .entry))) (now (passphrase .entry)) kept) (now (store .entry)) (now (payload .entry)) reading answers (now (signature .entry)) (now (reply .entry)) (r .outcome) (held (columns (now (numbers .exit)) (now (readings .exit)) (now («blob_lens» .exit)) (now («fields_lens» .exit)) (now («comment_lens» .exit)) (now (seconds .exit)) (now (limited .exit)) (now (confirm .exit))) (now (passphrase .exit)) (r .kept)) (now (store .exit)) (now (reply .exit)) ⌝ }
-{
-    call_sound(
+    inner_lent(
         numbers,
         readings,
         blob_lens,

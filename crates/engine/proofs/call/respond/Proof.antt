@@ -26,6 +26,10 @@ its-own = record { numbers-are = refl; blobs-are = refl; fields-are = refl; comm
 abbrev began : tie.After-row-in → tie.Start
 began c = search
 
+-- and the row of an added key
+abbrev told-at : tie.After-add-key → tie.After-constrained
+told-at c = search
+
 add-key-requires : tie.Need-add-key-requires
 add-key-requires c κs =
     let row : tie.After-row-in = search in
@@ -78,7 +82,7 @@ returns-3 c =
 returns-4 : tie.Need-returns-4
 returns-4 c =
     let added : tie.After-add-key = search in
-    let told : tie.After-constrained = search in
+    let told = told-at added in
     let row : tie.After-row-in = search in
     let lock : tie.After-is-locked = search in
     let start = began row in
@@ -195,55 +199,20 @@ respond-spec =
     returns-2
     (λ c. search needs)
     (λ c. search needs)
-    (λ c. search needs)
-    (λ c. search needs)
-    (λ c. search needs)
-    (λ c. search needs)
     returns-3
-    (λ c. let r : tie.After-add-key = search in r .add-key .kept .0)
-    (λ c. let r : tie.After-add-key = search in r .add-key .kept .1 .0)
-    (λ c. let r : tie.After-add-key = search in r .add-key .kept .1 .1 .0)
-    (λ c. let r : tie.After-add-key = search in r .add-key .kept .1 .1 .1 .0)
-    (λ c. let r : tie.After-add-key = search in r .add-key .kept .1 .1 .1 .1 .0)
-    (λ c. let r : tie.After-add-key = search in r .add-key .kept .1 .1 .1 .1 .1 .0)
-    (λ c. let r : tie.After-add-key = search in r .add-key .kept .1 .1 .1 .1 .1 .1 .0)
-    (λ c. let r : tie.After-add-key = search in r .add-key .kept .1 .1 .1 .1 .1 .1 .1 .0)
-    (λ c. let r : tie.After-add-key = search in r .add-key .kept .1 .1 .1 .1 .1 .1 .1 .1 .1 .0)
-    (λ c. let r : tie.After-add-key = search in r .add-key .kept .1 .1 .1 .1 .1 .1 .1 .1 .1 .1 .1 .1 .1 .0)
+    (λ c. search needs)
+    (λ c. search needs)
     returns-4
-    (λ c. let r : tie.After-remove-identity = search in r .remove-identity .kept .0)
-    (λ c. let r : tie.After-remove-identity = search in r .remove-identity .kept .1 .0)
-    (λ c. let r : tie.After-remove-identity = search in r .remove-identity .kept .1 .1 .0)
-    (λ c. let r : tie.After-remove-identity = search in r .remove-identity .kept .1 .1 .1 .0)
-    (λ c. let r : tie.After-remove-identity = search in r .remove-identity .kept .1 .1 .1 .1 .0)
-    (λ c. let r : tie.After-remove-identity = search in r .remove-identity .kept .1 .1 .1 .1 .1 .0)
-    (λ c. let r : tie.After-remove-identity = search in r .remove-identity .kept .1 .1 .1 .1 .1 .1 .0)
-    (λ c. let r : tie.After-remove-identity = search in r .remove-identity .kept .1 .1 .1 .1 .1 .1 .1 .0)
-    (λ c. let r : tie.After-remove-identity = search in r .remove-identity .kept .1 .1 .1 .1 .1 .1 .1 .1 .0)
-    (λ c. let r : tie.After-remove-identity = search in r .remove-identity .kept .1 .1 .1 .1 .1 .1 .1 .1 .1 .1 .0)
+    (λ c. search needs)
+    (λ c. search needs)
     returns-5
-    (λ c. let r : tie.After-remove-all-identities = search in r .remove-all-identities .kept .0)
-    (λ c. let r : tie.After-remove-all-identities = search in r .remove-all-identities .kept .1 .0)
-    (λ c. let r : tie.After-remove-all-identities = search in r .remove-all-identities .kept .1 .1 .0)
-    (λ c. let r : tie.After-remove-all-identities = search in r .remove-all-identities .kept .1 .1 .1 .0)
-    (λ c. let r : tie.After-remove-all-identities = search in r .remove-all-identities .kept .1 .1 .1 .1 .0)
-    (λ c. let r : tie.After-remove-all-identities = search in r .remove-all-identities .kept .1 .1 .1 .1 .1 .0)
-    (λ c. let r : tie.After-remove-all-identities = search in r .remove-all-identities .kept .1 .1 .1 .1 .1 .1 .0)
-    (λ c. let r : tie.After-remove-all-identities = search in r .remove-all-identities .kept .1 .1 .1 .1 .1 .1 .1 .0)
-    (λ c. let r : tie.After-remove-all-identities = search in r .remove-all-identities .kept .1 .1 .1 .1 .1 .1 .1 .1 .0)
-    (λ c. let r : tie.After-remove-all-identities = search in r .remove-all-identities .kept .1 .1 .1 .1 .1 .1 .1 .1 .1 .0)
+    (λ c. search needs)
+    (λ c. search needs)
     returns-6
-    (λ c. search needs)
-    (λ c. search needs)
-    (λ c. search needs)
-    (λ c. search needs)
-    (λ c. search needs)
     (λ c. search needs)
     (λ c. search needs)
     returns-7
     (λ c. search needs)
-    (λ c. search needs)
     returns-8
-    (λ c. search needs)
     (λ c. search needs)
     returns-9)

@@ -1,9 +1,9 @@
--- Refusals 1 to 3 by their tests; past them the state is sound, and the rest is `call_sound`'s. Assumes nothing.
+-- Refusals 1 to 3 by their tests; past them the state is sound, and the rest is `inner_lent`'s. Assumes nothing.
 use Rattle.table.specs.Entries.{columns}
 use Rattle.server.proofs.CallLaws.{refused-as, refuses-1, refuses-2, refuses-3, sound-told}
 use borrow.Author.Needs.{needs}
-use Rattle.engine.proofs.call.call_core.Statement.{statement}
-use Rattle.engine.proofs.call.call_core.Tie as tie
+use Rattle.engine.proofs.call.call_lent.Statement.{statement}
+use Rattle.engine.proofs.call.call_lent.Tie as tie
 
 -- what is too far back for a search from the function's end
 abbrev began : tie.Else2 → tie.Start
@@ -33,14 +33,19 @@ returns-3 c =
     let a = start .args in
     refuses-3 _ _ _ _ _ _ _ _ _ (sized .before .if1 .left) (sized .if2 .left) (tested .if3 .taken) (asked .is-sound .ensures) (refused-as (columns (a .numbers .now) (a .readings .now) (a .blob-lens .now) (a .fields-lens .now) (a .comment-lens .now) (a .seconds .now) (a .limited .now) (a .confirm .now)) (a .passphrase .now) _ _ _ (c .refused3 .ensures))
 
-call-sound-requires : tie.Need-call-sound-requires
-call-sound-requires c κs =
+inner-lent-requires : tie.Need-inner-lent-requires
+inner-lent-requires c κs =
     let tested : tie.Else3 = search in
     let asked : tie.After-is-sound = search in
     sound-told _ _ _ (tested .if3 .left) (asked .is-sound .ensures)
 
-pub call-core-spec : {M : Type 1} → statement M
-call-core-spec =
+returns-4 : tie.Need-returns-4
+returns-4 c =
+    let called : tie.After-inner-lent = search in
+    called .inner-lent .ensures .meets
+
+pub call-lent-spec : {M : Type 1} → statement M
+call-lent-spec =
     tie.close
     (tie.spec
     (λ c κs. search needs)
@@ -50,26 +55,8 @@ call-core-spec =
     (λ c κs. search needs)
     (λ c κs. search needs)
     (λ c. search needs)
-    (λ c. search needs)
-    (λ c. search needs)
-    (λ c. search needs)
-    (λ c. search needs)
-    (λ c. search needs)
-    (λ c. search needs)
-    (λ c. search needs)
-    (λ c. search needs)
-    (λ c. search needs)
     returns-3
-    call-sound-requires
-    (λ c. let r : tie.After-call-sound = search in r .call-sound .kept .0)
-    (λ c. let r : tie.After-call-sound = search in r .call-sound .kept .1 .0)
-    (λ c. let r : tie.After-call-sound = search in r .call-sound .kept .1 .1 .0)
-    (λ c. let r : tie.After-call-sound = search in r .call-sound .kept .1 .1 .1 .0)
-    (λ c. let r : tie.After-call-sound = search in r .call-sound .kept .1 .1 .1 .1 .0)
-    (λ c. let r : tie.After-call-sound = search in r .call-sound .kept .1 .1 .1 .1 .1 .0)
-    (λ c. let r : tie.After-call-sound = search in r .call-sound .kept .1 .1 .1 .1 .1 .1 .0)
-    (λ c. let r : tie.After-call-sound = search in r .call-sound .kept .1 .1 .1 .1 .1 .1 .1 .0)
-    (λ c. let r : tie.After-call-sound = search in r .call-sound .kept .1 .1 .1 .1 .1 .1 .1 .1 .0)
-    (λ c. let r : tie.After-call-sound = search in r .call-sound .kept .1 .1 .1 .1 .1 .1 .1 .1 .1 .1 .0)
-    (λ c. let r : tie.After-call-sound = search in r .call-sound .kept .1 .1 .1 .1 .1 .1 .1 .1 .1 .1 .1 .1 .1 .1 .1 .0)
-    (λ c. search needs))
+    inner-lent-requires
+    (λ c. search needs)
+    (λ c. search needs)
+    returns-4)
