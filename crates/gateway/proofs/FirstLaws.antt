@@ -29,7 +29,7 @@ use Rattle.gateway.proofs.ExportLaws.{export-calls}
 
 -- ## Runs
 
-export-first : (state : State) (store : List ℕ) (f : FirstStep) → ByFirstExport state store f → ByFirst state store f
+pub export-first : (state : State) (store : List ℕ) (f : FirstStep) → ByFirstExport state store f → ByFirst state store f
 export-first state store f x =
     let first = firstOf state store (f .bytes) (f .reading) (f .buffer) .first in
     record {

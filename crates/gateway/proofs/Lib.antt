@@ -3,3 +3,4 @@ pub mod WithinLaws
 pub mod ExportLaws
 pub mod AskedLaws
 pub mod FirstLaws
+pub mod InnerLaws

@@ -1,4 +1,5 @@
--- What the exported calls promise, as statements; the proofs are in proofs/WithinLaws.antt, ExportLaws.antt, AskedLaws.antt and FirstLaws.antt.
+-- What the exported calls promise, as statements; the proofs are in proofs/WithinLaws.antt, ExportLaws.antt, AskedLaws.antt, FirstLaws.antt and
+-- InnerLaws.antt.
 use Prim.Native.Nat.{ℕ, _+_, _≤_}
 use mathlib.Core.Path.{_≡_}
 use mathlib.Core.Logic.{_⊎_, _≢_}
@@ -16,12 +17,13 @@ use Rattle.table.specs.Soundness.{Sound, Means}
 use Rattle.lookups.specs.Told.{keyTold}
 use Rattle.server.specs.Runs.{Step, CodePromises}
 use Rattle.server.specs.FirstPromises.{FirstStep, FirstPromises}
+use Rattle.server.specs.InnerPromises.{InnerPromises}
 use Rattle.flat.specs.declared.FlatAnswers.{FlatAnswers}
 use Rattle.flat.specs.declared.FlatOutcome.{FlatOutcome}
 use Rattle.flat.specs.declared.FlatFirst.{FlatFirst}
 use Rattle.flat.specs.Flat.{answersOf}
 use Rattle.flat.specs.Promises.{flatValues, UnusedZero, flatFirstValues, FirstUnusedZero}
-use Rattle.gateway.specs.Exports.{FlatMeets, FlatFirstMeets}
+use Rattle.gateway.specs.Exports.{FlatMeets, FlatInnerMeets, FlatFirstMeets, FlatInnerFirstMeets}
 
 -- ## What an outcome names
 
@@ -123,3 +125,30 @@ CallPartsLie =
     → splitNumber (splitOf bytes) ≡ 2
     → FlatMeets state store (framePayload bytes) reading answers signature buffer outcome after storeAfter reply → outcome .kind ≢ 5
     → LiesIn bytes (outcome .from) (outcome .to) × (4 + outcome .to ≤ 4 + length (framePayload bytes))
+
+-- ## The inner calls (#113)
+
+-- a step gave what meets the contract of `key_agent_inner_call`
+pub record GaveInnerExport (state : State) (store : List ℕ) (k : Step) : Type 0 where
+  pub answers : FlatAnswers
+  pub outcome : FlatOutcome
+  pub answers-are : k .answers ≡ answersOf answers
+  pub ended-is : k .gave .ended ≡ flatValues outcome
+  pub meets : FlatInnerMeets state store (k .payload) (k .reading) answers (k .signature) (k .buffer) outcome (k .gave .state) (k .gave .store) (k .gave .reply)
+
+-- .. of `key_agent_inner_first`
+pub record GaveInnerFirstExport (state : State) (store : List ℕ) (f : FirstStep) : Type 0 where
+  pub first : FlatFirst
+  pub ended-is : f .gave .ended ≡ flatFirstValues first
+  pub meets : FlatInnerFirstMeets state store (f .bytes) (f .reading) (f .buffer) first (f .gave .state) (f .gave .store) (f .gave .reply)
+
+-- they require a sound state and store: on another nothing is known of what they gave
+abbrev pub ByInnerExport : State → List ℕ → Step → Type 0
+ByInnerExport state store k = Sound state store → GaveInnerExport state store k
+
+abbrev pub ByInnerFirstExport : State → List ℕ → FirstStep → Type 0
+ByInnerFirstExport state store f = Sound state store → GaveInnerFirstExport state store f
+
+-- a run that starts with an exported outer call or from fresh and goes on with exported inner ones equals the run of outer ones, byte for byte
+abbrev pub InnerExportPromises : Type 0
+InnerExportPromises = InnerPromises ByFirstExport ByExport ByInnerFirstExport ByInnerExport

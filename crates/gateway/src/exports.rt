@@ -7,6 +7,8 @@ use flat::answers_of;
 use flat::first_of;
 use flat::flat_of;
 use flat::split;
+use inner::serve_first_inner;
+use inner::serve_inner;
 use lending::serve;
 use lending::serve_first;
 use lookups::HeldKey;
@@ -19,10 +21,10 @@ use table::fresh;
 ghost use mathlib.Core.Path.{_≡_};
 ghost use Rattle.rule.specs.Gateway.{fresh as freshGateway};
 ghost use Rattle.table.specs.Meaning.{stateOf};
-ghost use Rattle.table.specs.Soundness.{soundState};
+ghost use Rattle.table.specs.Soundness.{soundState, Sound};
 ghost use Rattle.lookups.specs.Told.{keyTold, nextTold};
 ghost use Rattle.flat.specs.Flat.{flatSplit};
-ghost use Rattle.gateway.specs.Exports.{FlatMeets, FlatFirstMeets};
+ghost use Rattle.gateway.specs.Exports.{FlatMeets, FlatFirstMeets, FlatInnerMeets, FlatInnerFirstMeets};
 
 #[no_mangle]
 pub extern "C" fn key_agent_fresh() -> State
@@ -68,6 +70,41 @@ pub extern "C" fn key_agent_first(
     ensures { λ r. ⌜ FlatFirstMeets (now (state .entry)) (now (store .entry)) (now (bytes .entry)) reading (now (reply .entry)) r (now (state .exit)) (now (store .exit)) (now (reply .exit)) ⌝ }
 {
     let first = serve_first(state, store, bytes, reading, reply);
+    first_of(first)
+}
+
+// The inner calls (#113) test neither state nor store, and are not in the C header: the Rust crate alone declares them, behind a type whose state and
+// store only ever come from the core.
+#[no_mangle]
+pub extern "C" fn key_agent_inner_call(
+    state: &mut State,
+    store: &mut [u8],
+    payload: &[u8],
+    reading: Millis,
+    answers: FlatAnswers,
+    signature: &[u8],
+    reply: &mut [u8],
+) -> FlatOutcome
+    requires { ⌜ Sound (now state) (now store) ⌝ }
+    ensures { λ r. ⌜ FlatInnerMeets (now (state .entry)) (now (store .entry)) (now (payload .entry)) reading answers (now (signature .entry)) (now (reply .entry)) r (now (state .exit)) (now (store .exit)) (now (reply .exit)) ⌝ }
+{
+    let lent = answers_of(answers);
+    let outcome = serve_inner(state, store, payload, reading, lent, signature, reply);
+    flat_of(outcome)
+}
+
+#[no_mangle]
+pub extern "C" fn key_agent_inner_first(
+    state: &mut State,
+    store: &mut [u8],
+    bytes: &[u8],
+    reading: Millis,
+    reply: &mut [u8],
+) -> FlatFirst
+    requires { ⌜ Sound (now state) (now store) ⌝ }
+    ensures { λ r. ⌜ FlatInnerFirstMeets (now (state .entry)) (now (store .entry)) (now (bytes .entry)) reading (now (reply .entry)) r (now (state .exit)) (now (store .exit)) (now (reply .exit)) ⌝ }
+{
+    let first = serve_first_inner(state, store, bytes, reading, reply);
     first_of(first)
 }
 

@@ -189,7 +189,7 @@ module _ (state : State) (store : List ℕ) (f : FirstStep) (m : ByFirst state s
       by (split.Frame from to) e = whole (ap splitNumber e)
 
   -- a number above 1 comes of a whole frame alone
-  whole-told : (n : ℕ) (values : List ℕ) → 1 < n → FirstEnded (n ∷ values) f → Whole f
+  pub whole-told : (n : ℕ) (values : List ℕ) → 1 < n → FirstEnded (n ∷ values) f → Whole f
   whole-told n values above e =
       by-split
       (λ o. absurd (omega (arith, ap (λ (vs : List ℕ). getD vs 0 0) (sym (o .told) ∙ e))))

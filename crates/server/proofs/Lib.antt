@@ -9,3 +9,4 @@ pub mod Lift
 pub mod FirstLaws
 pub mod FirstRuns
 pub mod InnerLaws
+pub mod InnerRuns

@@ -17,7 +17,7 @@ use Rattle.server.specs.First.{FirstMeets}
 -- the contract of every form of the inner call
 pub record InnerMeets (state : State) (store payload : List ℕ) (reading : Millis) (answers : Answers) (signature buffer : List ℕ) (outcome : Outcome) (after : State) (storeAfter reply : List ℕ) : Type 0 where
   pub meets : Meets state store payload reading answers signature buffer outcome after storeAfter reply
-  pub sound : Sound after storeAfter
+  pub sound : Sound after storeAfter  -- what the next inner call requires
   pub never-2 : outcome ≢ Refused 2
   pub never-3 : outcome ≢ Refused 3
 

@@ -5,3 +5,4 @@ pub mod Inner
 pub mod Rows
 pub mod Runs
 pub mod FirstPromises
+pub mod InnerPromises
