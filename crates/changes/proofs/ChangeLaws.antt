@@ -5,10 +5,11 @@ use native.Mathlib.Nat.{le-of-suc-le-suc}
 use mathlib.Core.Path.{_≡_, refl, sym, ap, _∙_}
 use mathlib.Core.Bool.{true}
 use mathlib.Core.List.{List, [], _∷_, _++_, map}
-use lib.ListN.{length, drop, set, replicate, length-append}
+use lib.ListN.{length, getD, drop, set, replicate, length-append, length-replicate}
+use lib.Seq.{ext-getD}
 use Rattle.wire.specs.Limits.{entriesLimit, storeSize}
 use Rattle.rule.specs.declared.Millis.{Millis}
-use Rattle.rule.specs.Gateway.{Entry as Key, lasting, atClock, later, advance, removeAt, putAt, withEntries, without, withoutAll, NewKey, newEntry, withEntry}
+use Rattle.rule.specs.Gateway.{Entry as Key, dueAt, lasting, atClock, later, advance, removeAt, putAt, withEntries, without, withoutAll, NewKey, newEntry, withEntry}
 use Rattle.rule.specs.Soundness as rule
 use Rattle.rule.proofs.Effects.{Storable}
 use Rattle.rule.proofs.RoomLaws.{has-place, place-inside}
@@ -18,14 +19,14 @@ use Rattle.table.specs.declared.Kept.{Kept}
 use Rattle.table.specs.declared.State.{State}
 use Rattle.table.specs.Bytes.{allZero, Zeros}
 use Rattle.table.specs.Entries.{Long, startIn, figuresSet}
-use Rattle.table.specs.Meaning.{gatewayOf, figuresFor, bytesFor, laid, stateOf, layout, held, withTable}
+use Rattle.table.specs.Meaning.{flagOf, limitedLifetime, gatewayOf, figuresFor, bytesFor, laid, stateOf, layout, held, withTable}
 use Rattle.table.specs.Soundness.{Sound, Means}
 use Rattle.table.specs.Changes.{unmarked, sizesIn, closedParts, closedColumns, dueMarks, bytesPut, PutRoom, made, MayPut}
 use Rattle.table.specs.Shown.{SoundOf, ShowsTable}
 use Rattle.table.proofs.ByteLaws.{zeros-say, padded-size, padded-rest}
 use Rattle.table.proofs.EntryLaws.{columns-long}
 use Rattle.table.proofs.WritingLaws.{laid-length, sound-meaning, sound-canonical, means-of}
-use Rattle.gaps.proofs.ClosingLaws.{due-length}
+use Rattle.gaps.proofs.ClosingLaws.{due-length, due-at}
 use Rattle.changes.proofs.WrittenLaws.{tableOf, storeOf, few-figures, size-shown, end-shown, unmarked-fewer, all-marked, none-marked, one-marked, due-lasting, columns-closed, store-closed, columns-put, put-size, store-put}
 
 -- ## A sound state is written as its keys are
@@ -126,6 +127,25 @@ none-due clock t x marks due none s shows S =
     let zeros : marks ≡ replicate entriesLimit 0 = zeros-say marks .0 none ∙ ap (λ (n : ℕ). replicate n 0) long in
     let all : lasting clock ks ≡ ks = sym (due-stay clock t s x marks due shows S) ∙ ap (λ (ms : List ℕ). unmarked ms ks) zeros ∙ none-marked entriesLimit ks (sound-written s x S .few) in
     rw (all, ← shows) (record { gateway = refl; sound = S })
+
+-- where no flag of a lifetime is set no mark is
+zero-at : (n i : ℕ) → _≡_ {A = ℕ} (getD (replicate n 0) i 0) 0
+zero-at zero i = refl
+zero-at (suc n) zero = refl
+zero-at (suc n) (suc i) = zero-at n i
+
+unlimited-unmarked : (clock : Millis) (readings seconds limited : List ℕ) → allZero limited ≡ true → Zeros (dueMarks clock readings seconds limited)
+unfolding dueAt
+unlimited-unmarked clock readings seconds limited none =
+    let marks = dueMarks clock readings seconds limited in
+    let long = due-length clock readings seconds limited in
+    let unset : (i : ℕ) → getD limited i 0 ≡ 0 = λ i. ap (λ (l : List ℕ). getD l i 0) (zeros-say limited .0 none) ∙ zero-at (length limited) i in
+    ext-getD 0 marks (replicate (length marks) 0) (sym (length-replicate (length marks) 0))
+    (λ i h. due-at clock readings seconds limited i (omega arith) ∙ ap (λ (f : ℕ). flagOf (dueAt clock (record { count = getD readings i 0 }) (limitedLifetime f (record { count = getD seconds i 0 })))) (unset i) ∙ sym (zero-at (length marks) i))
+
+pub none-limited : (clock : Millis) (t : Columns) (x : List ℕ) → allZero (t .limited) ≡ true
+    → (s : State) → s .columns ≡ t → Sound s x → Means (withTable t s) x (withEntries (lasting clock (gatewayOf s x .entries)) (gatewayOf s x))
+none-limited clock t x none = none-due clock t x _ refl (zeros-say _ .1 (unlimited-unmarked clock (t .readings) (t .seconds) (t .limited) none))
 
 -- ## The clock
 

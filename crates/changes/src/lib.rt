@@ -111,7 +111,7 @@ fn mark_due(marks: &mut [u8], readings: &[u64], seconds: &[u32], limited: &[u8],
     }
 }
 
-// What is due at the clock goes. Where nothing is, nothing is written.
+// What is due at the clock goes. Where nothing is, nothing is written; where no entry has a lifetime, none is asked.
 fn expire(
     numbers: &mut [u64],
     readings: &mut [u64],
@@ -127,6 +127,9 @@ fn expire(
     requires { ⌜ SoundOf (ShowsTable (columns (now numbers) (now readings) (now «blob_lens») (now «fields_lens») (now «comment_lens») (now seconds) (now limited) (now confirm))) (now store) ⌝ }
     ensures { λ r. ⌜ ((s : State) → s .columns ≡ (columns (now (numbers .entry)) (now (readings .entry)) (now («blob_lens» .entry)) (now («fields_lens» .entry)) (now («comment_lens» .entry)) (now (seconds .entry)) (now (limited .entry)) (now (confirm .entry))) → Sound s (now (store .entry)) → Means (withTable (columns (now (numbers .exit)) (now (readings .exit)) (now («blob_lens» .exit)) (now («fields_lens» .exit)) (now («comment_lens» .exit)) (now (seconds .exit)) (now (limited .exit)) (now (confirm .exit))) s) (now (store .exit)) (withEntries (lasting clock (gatewayOf s (now (store .entry)) .entries)) (gatewayOf s (now (store .entry))))) ⌝ }
 {
+    if is_zero(limited) {
+        return;
+    }
     let mut marks = [0u8; limits::ENTRIES_LIMIT];
     mark_due(&mut marks, readings, seconds, limited, clock);
     if is_zero(&marks) {

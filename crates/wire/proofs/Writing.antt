@@ -7,7 +7,7 @@ use native.Mathlib.Nat.{add-zero, add-suc, suc-add}
 use native.Mathlib.Numerals.{add-one}
 use native.Mathlib.Omega.{arith}
 use lib.ListN.{length, getD, take, drop, set, length-append, length-take, length-drop, take-append-drop, List·getD-append}
-use lib.Seq.{sets, sets-eq, length-sets, paste, paste-suc, paste-zero, take-length, length-take-le, take-take, drop-drop, take-append-le, take-append-add, drop-append-add, getD-append-add, getD-take, getD-drop}
+use lib.Seq.{sets, sets-eq, length-sets, paste, paste-suc, paste-zero, take-length, take-all, take-suc, take-suc-set, length-take-le, take-take, take-add, drop-drop, take-append-le, take-append-add, drop-append-add, getD-append-add, getD-take, getD-drop}
 use Rattle.wire.specs.Write.{write}
 
 module _ (l : List ℕ) (at : ℕ) (v : List ℕ) (h : at + length v ≤ length l) where
@@ -127,9 +127,9 @@ unfolding write
 write-over m o at v front back = λ j. (front j ++ v) ++ back j
 
 -- the first h bytes and those from `from` on, which overlap, are all of them
-pub windows-written : (l : List ℕ) (at : ℕ) (v m o first last : List ℕ) (h from : ℕ) → from ≤ h → h ≤ length v → at + length v ≤ length l → first ≡ take h v → last ≡ drop from v
-    → m ≡ write l at first → o ≡ write m (at + from) last → o ≡ write l at v
-windows-written l at v m o first last h from inside fits room is-first is-last em eo =
+windows-written : (l : List ℕ) (at : ℕ) (v m o last : List ℕ) (h from : ℕ) → from ≤ h → h ≤ length v → at + length v ≤ length l → last ≡ drop from v
+    → m ≡ write l at (take h v) → o ≡ write m (at + from) last → o ≡ write l at v
+windows-written l at v m o last h from inside fits room is-last em eo =
     let h-size : length (take h v) ≡ h = length-take-le h v fits in
     let f-size : length (take from v) ≡ from = length-take-le from v (omega arith) in
     let rest : length (drop from v) ≡ length v - from = length-drop from v in
@@ -142,4 +142,33 @@ windows-written l at v m o first last h from inside fits room is-first is-last e
     ∙ sym (write-back l at (take from v) (omega arith) (length v) (omega arith)) ∙ ap (λ (i : ℕ). drop i (write l at (take from v))) (sym n) in
     let one = write-over (write l at (take h v)) (write l at (take from v)) (at + from) (drop from v) fronts backs in
     let all = write-behind l at (take from v) (write l at (take from v)) (at + from) (drop from v) (write (write l at (take from v)) (at + from) (drop from v)) refl refl (omega arith) (omega arith) in
-    eo ∙ (λ j. write (em j) (at + from) (is-last j)) ∙ (λ j. write (write l at (is-first j)) (at + from) (drop from v)) ∙ one ∙ all ∙ ap (write l at) (take-append-drop from v)
+    eo ∙ (λ j. write (em j) (at + from) (is-last j)) ∙ one ∙ all ∙ ap (write l at) (take-append-drop from v)
+
+-- ## Block by block
+
+module _ (v : List ℕ) (at : ℕ) (b : List ℕ) (i : ℕ) (front : take i b ≡ take i (drop at v)) where
+  -- a loop that fetches a block: one more byte of it is there
+  pub block-more : i < length b → at + i < length v → take (i + 1) (set b i (getD v (at + i) 0)) ≡ take (i + 1) (drop at v)
+  block-more inside fits =
+      let size : length (drop at v) ≡ length v - at = length-drop at v in
+      rw (add-one i, take-suc-set b i (getD v (at + i) 0) inside, take-suc (drop at v) i 0 (omega arith), getD-drop at v i 0, front) refl
+
+  pub block-whole : length b ≡ i → b ≡ take i (drop at v)
+  block-whole all = sym (take-all i b (omega arith)) ∙ front
+
+pub write-none : (l : List ℕ) (at : ℕ) → l ≡ write l at []
+unfolding write
+write-none l at = paste-zero l at []
+
+module _ (w : ℕ) (l : List ℕ) (at : ℕ) (v m b o : List ℕ) (i : ℕ) (before : m ≡ write l at (take i v)) (size : length b ≡ w) (room : at + length v ≤ length l) where
+  -- the bytes before i are written, and a block behind them
+  pub blocks-more : b ≡ take w (drop i v) → o ≡ write m (at + i) b → i + w ≤ length v → o ≡ write l at (take (i + w) v)
+  blocks-more block written fits =
+      let front : length (take i v) ≡ i = length-take-le i v (omega arith) in
+      write-behind l at (take i v) m (at + i) b o before written (omega arith) (omega arith) ∙ ap (λ (b : List ℕ). write l at (take i v ++ b)) block ∙ ap (write l at) (sym (take-add i w v))
+
+  -- the last block overlaps the one before
+  pub blocks-all : (last n : ℕ) → b ≡ take w (drop last v) → o ≡ write m n b → n ≡ at + last → last + w ≡ length v → last ≤ i → i ≤ length v → o ≡ write l at v
+  blocks-all last n block written place ends near inside =
+      let rest : length (drop last v) ≡ length v - last = length-drop last v in
+      windows-written l at v m o b i last near inside room (block ∙ take-all w (drop last v) (omega arith)) before (written ∙ ap (λ (n : ℕ). write m n b) place)

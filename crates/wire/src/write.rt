@@ -4,7 +4,7 @@
 ghost use mathlib.Core.Path.{_≡_};
 ghost use mathlib.Core.List.{[], _∷_};
 ghost use Prim.Native.Nat.{_+_, _≤_, _<_, _^_};
-ghost use lib.ListN.{length};
+ghost use lib.ListN.{length, take, drop};
 ghost use Rattle.wire.specs.Numbers.{be32};
 ghost use Rattle.wire.specs.Write.{string, write};
 
@@ -50,19 +50,71 @@ fn copy_bytes(out: &mut [u8], at: usize, v: &[u8]) -> usize
     at + i
 }
 
-// The first h bytes and the last h: the windows overlap, and leave no byte out.
+// A block on its way through a local array: the array cannot overlap what is written, so the block moves whole, with no test.
+fn block_8(v: &[u8], at: usize) -> [u8; 8]
+    requires { ⌜ at + 8 ≤ length (now v) ⌝ }
+    ensures { λ r. ⌜ (length r ≡ 8) × (r ≡ take 8 (drop at (now (v .entry)))) ⌝ }
+{
+    let mut b = [0u8; 8];
+    let mut i = 0;
+    while i < 8 {
+        b[i] = v[at + i];
+        i += 1;
+    }
+    b
+}
+
+fn block_32(v: &[u8], at: usize) -> [u8; 32]
+    requires { ⌜ at + 32 ≤ length (now v) ⌝ }
+    ensures { λ r. ⌜ (length r ≡ 32) × (r ≡ take 32 (drop at (now (v .entry)))) ⌝ }
+{
+    let mut b = [0u8; 32];
+    let mut i = 0;
+    while i < 32 {
+        b[i] = v[at + i];
+        i += 1;
+    }
+    b
+}
+
+// Block by block, and the last bytes as a block that overlaps the one before, so that none is moved alone.
+fn put_by_8(out: &mut [u8], at: usize, v: &[u8]) -> usize
+    requires { ⌜ (8 ≤ length (now v)) × (at + length (now v) ≤ length (now out)) ⌝ }
+    ensures { λ r. ⌜ (r ≡ at + length (now (v .entry))) × (now (out .exit) ≡ write (now (out .entry)) at (now (v .entry))) ⌝ }
+{
+    let n = v.len();
+    let mut i = 0;
+    while i + 8 < n {
+        copy_bytes(out, at + i, &block_8(v, i));
+        i += 8;
+    }
+    copy_bytes(out, at + n - 8, &block_8(v, n - 8))
+}
+
+fn put_by_32(out: &mut [u8], at: usize, v: &[u8]) -> usize
+    requires { ⌜ (32 ≤ length (now v)) × (at + length (now v) ≤ length (now out)) ⌝ }
+    ensures { λ r. ⌜ (r ≡ at + length (now (v .entry))) × (now (out .exit) ≡ write (now (out .entry)) at (now (v .entry))) ⌝ }
+{
+    let n = v.len();
+    let mut i = 0;
+    while i + 32 < n {
+        copy_bytes(out, at + i, &block_32(v, i));
+        i += 32;
+    }
+    copy_bytes(out, at + n - 32, &block_32(v, n - 32))
+}
+
 pub fn put_bytes(out: &mut [u8], at: usize, v: &[u8]) -> usize
     requires { ⌜ at + length (now v) ≤ length (now out) ⌝ }
     ensures { λ r. ⌜ (r ≡ at + length (now (v .entry))) × (now (out .exit) ≡ write (now (out .entry)) at (now (v .entry))) ⌝ }
 {
-    let n = v.len();
-    if n < 32 {
+    if v.len() < 8 {
         return copy_bytes(out, at, v);
     }
-    let h = window(n);
-    let from = n - h;
-    copy_bytes(out, at, &v[..h]);
-    copy_bytes(out, at + from, &v[from..])
+    if v.len() < 32 {
+        return put_by_8(out, at, v);
+    }
+    put_by_32(out, at, v)
 }
 
 pub fn put_string(out: &mut [u8], at: usize, v: &[u8]) -> usize
