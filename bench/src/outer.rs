@@ -53,9 +53,8 @@ impl Outer {
     pub fn asked(&mut self, frame: &[u8], sign: impl Fn(&[u8]) -> Vec<u8>) {
         let (s, r) = (&mut self.store[..], &mut self.reply[..]);
         // SAFETY: as above.
-        let first = unsafe {
-            raw::key_agent_first(&mut *self.state, s.as_mut_ptr(), s.len(), frame.as_ptr(), frame.len(), 5, r.as_mut_ptr(), r.len())
-        };
+        let first =
+            unsafe { raw::key_agent_first(&mut *self.state, s.as_mut_ptr(), s.len(), frame.as_ptr(), frame.len(), 5, r.as_mut_ptr(), r.len()) };
         assert!(first.kind == 3);
         let (payload, mut o, mut a, mut made) = (&frame[4..first.used], first.outcome, FlatAnswers::default(), vec![]);
         loop {
