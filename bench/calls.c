@@ -1,15 +1,20 @@
-/* calls SET REQUEST CALLS: a gateway holds the keys of SET, with comments of ten bytes, and REQUEST lands CALLS times, each by one call with all
- * answers lent, each on the same state but for lock, which is a LOCK and an UNLOCK in turn. Prints how many bytes of other entries one call moves.
- * Without words: the sets; with one: the requests. Status 0 where every reply was the one that the request asks for. */
+/* calls SET REQUEST CALLS: a gateway holds the keys of SET, with comments of ten bytes, and REQUEST is made CALLS times in each of four ways: by one
+ * call with all answers lent, and by a first call on its frame, each from outside and inner; always on the same state. Each way stands between
+ * `began` and `ended`, and is named before it; behind it is printed how many bytes of other entries one call moves.
+ * Without words: the sets; with one: the requests. Status 0 where every reply was the one that the request asks for, and an inner call comes to the
+ * same outcome, state, store and reply as the one from outside. */
 #include "keys.h"
 #include <stdio.h>
-#include <stdlib.h>
+
+/* which the header does not have: this program's states come from the core alone */
+__typeof__(key_agent_call) key_agent_inner_call;
+__typeof__(key_agent_first) key_agent_inner_first;
 
 enum { FAILURE = 5, SUCCESS = 6, LIST = 11, LISTED = 12, SIGN = 13, SIGNED = 14, ADD = 17, REMOVE = 18, LOCK = 22, UNLOCK = 23, CONSTRAINED = 25 };
 
 static key_agent_state state, kept;
 uint8_t store[KEY_AGENT_STORE_BYTES];
-static uint8_t kept_store[KEY_AGENT_STORE_BYTES], reply[KEY_AGENT_REPLY_BYTES], signature[100], payload[4096];
+static uint8_t kept_store[KEY_AGENT_STORE_BYTES], reply[KEY_AGENT_REPLY_BYTES], signature[100], frame[4100], *const payload = frame + 4;
 static size_t size; /* of the payload */
 static uint64_t reading;
 static key keys[MOST_KEYS];
@@ -45,13 +50,24 @@ static void remove_key(const key *k) {
     string(k->blob, k->blob_len);
 }
 
-__attribute__((noinline)) void began(void) { __asm__ volatile(""); }
+/* not the same code, which could be one function */
+__attribute__((noinline)) void began(void) { __asm__ volatile("" ::"r"(1)); }
+__attribute__((noinline)) void ended(void) { __asm__ volatile("" ::"r"(2)); }
 
-static int answer(void) {
+static int answer(__typeof__(key_agent_call) *call) {
     key_agent_answers answers = {KEY_AGENT_YES, KEY_AGENT_YES, KEY_AGENT_YES, KEY_AGENT_YES, state.next - 1, state.next - 1};
-    key_agent_outcome o = key_agent_call(&state, store, sizeof store, payload, size, (key_agent_millis){reading}, answers, signature,
-                                         sizeof signature, reply, sizeof reply);
+    key_agent_outcome o =
+        call(&state, store, sizeof store, payload, size, (key_agent_millis){reading}, answers, signature, sizeof signature, reply, sizeof reply);
     return o.kind == KEY_AGENT_REPLY ? reply[4] : 0;
+}
+
+/* 0 where a question is open */
+static int answer_first(__typeof__(key_agent_first) *first) {
+    const uint8_t length[4] = {0, 0, (uint8_t)(size >> 8), (uint8_t)size};
+    memcpy(frame, length, 4);
+    key_agent_first_result f = first(&state, store, sizeof store, frame, size + 4, (key_agent_millis){reading}, reply, sizeof reply);
+    if (f.kind != KEY_AGENT_FIRST_BEGAN || f.used != size + 4) return -1;
+    return f.outcome.kind == KEY_AGENT_REPLY ? reply[4] : f.outcome.kind == KEY_AGENT_ASK_GATE ? 0 : -1;
 }
 
 /* Every second key, from the first on, has a lifetime of a second where `limited` says so. */
@@ -65,7 +81,7 @@ static int hold(int limited) {
             memcpy(payload + size, lifetime, 5);
             size += 5;
         }
-        if (answer() != SUCCESS) return 0;
+        if (answer(key_agent_call) != SUCCESS) return 0;
     }
     return 1;
 }
@@ -100,6 +116,7 @@ static int ask(const char *request) {
     if (!strcmp(request, "sign")) return sign(last), SIGNED;
     if (!strcmp(request, "add")) return add(ADD, last, COMMENT), SUCCESS;
     if (!strcmp(request, "lock")) return begin(LOCK), string("ab", 2), SUCCESS;
+    if (!strcmp(request, "unlock")) return begin(UNLOCK), string("ab", 2), SUCCESS;
     if (!strcmp(request, "empty")) return size = 0, FAILURE;
     if (!strcmp(request, "remove-last")) return remove_key(last), SUCCESS;
     if (!strcmp(request, "remove-first")) return remove_key(first), SUCCESS;
@@ -109,24 +126,59 @@ static int ask(const char *request) {
     return 0;
 }
 
+static void restore(void) {
+    state = kept;
+    memcpy(store, kept_store, sizeof store);
+}
+
+/* What a call left behind, kept for the inner one to come to the same. */
+static int is_same(int is_inner) {
+    static key_agent_state before;
+    static uint8_t before_store[KEY_AGENT_STORE_BYTES], before_reply[KEY_AGENT_REPLY_BYTES];
+    if (is_inner)
+        return !memcmp(&before, &state, sizeof state) && !memcmp(before_store, store, sizeof store) && !memcmp(before_reply, reply, sizeof reply);
+    before = state;
+    memcpy(before_store, store, sizeof store);
+    memcpy(before_reply, reply, sizeof reply);
+    return 1;
+}
+
+static const char *const WAYS[4] = {"call", "inner_call", "first", "inner_first"};
+
+static int make(int way) {
+    switch (way) {
+    case 0: return answer(key_agent_call);
+    case 1: return answer(key_agent_inner_call);
+    case 2: return answer_first(key_agent_first);
+    default: return answer_first(key_agent_inner_first);
+    }
+}
+
 int main(int n, char **word) {
     if (n < 4) {
         if (n == 1)
             for (const char *const *set = SETS; *set; set++) puts(*set);
-        if (n == 2) puts("list sign add lock empty remove-last remove-first longer-first shorter-first expire");
+        if (n == 2) puts("list sign add lock unlock empty remove-last remove-first longer-first shorter-first expire");
         return n > 2;
     }
+    setvbuf(stdout, 0, _IONBF, 0);
     held = make_set(keys, word[1]);
     if (!held || !hold(!strcmp(word[2], "expire"))) return 3;
-    int wanted = ask(word[2]), locks = !strcmp(word[2], "lock");
+    if (!strcmp(word[2], "unlock") && (ask("lock") != SUCCESS || answer(key_agent_call) != SUCCESS)) return 3;
+    int wanted = ask(word[2]);
+    if (!wanted) return 3;
     kept = state;
     memcpy(kept_store, store, sizeof store);
-    began();
-    for (long i = 0, calls = atol(word[3]); i < calls; i++) {
-        if (locks) payload[0] = i % 2 ? UNLOCK : LOCK;
-        else state = kept, memcpy(store, kept_store, sizeof store);
-        if (!wanted || answer() != wanted) return 4;
+    for (int way = 0; way < 4; way++) {
+        printf("way %s\n", WAYS[way]);
+        began();
+        for (long i = 0, calls = atol(word[3]); i < calls; i++) {
+            restore();
+            if (make(way) != (way > 1 && size ? 0 : wanted)) return 4;
+        }
+        ended();
+        if (!is_same(way % 2)) return 5;
+        printf("moved %zu\n", moved());
     }
-    printf("%zu\n", moved());
     return 0;
 }

@@ -1,6 +1,7 @@
 /* Sets of keys to hold, from a fixed seed: fields and blobs of true lengths, in which the numbers are chance (the core does not look whether they
- * fit). As many as are held at once with comments of ten bytes, 24 at most. */
+ * fit). How many of which; of those that need more room than 24 take, as many as are held at once with comments of ten bytes. */
 #include "key_agent.h"
+#include <stdlib.h>
 #include <string.h>
 
 enum { MOST_KEYS = 24, COMMENT = 10 };
@@ -9,7 +10,8 @@ typedef struct {
     size_t fields_len, blob_len;
 } key;
 
-static const char *const SETS[] = {"ed25519", "p256", "rsa-2048", "rsa-3072", "rsa-4096", "mixed", 0};
+static const char *const SETS[] = {"8-ed25519", "8-p256", "8-rsa-2048", "8-mixed", "24-ed25519", "24-p256",
+                                   "24-rsa-2048", "18-rsa-3072", "13-rsa-4096", "24-mixed", 0};
 static const char *const MIX[12] = {"ed25519", "p256", "rsa-2048", "ed25519", "p256", "rsa-3072",
                                     "ed25519", "p256", "rsa-2048", "p384", "p521", "rsa-4096"};
 
@@ -90,11 +92,12 @@ static int make_key(key *k, const char *kind) {
 
 /* How many keys of the set are held; 0 for a name that is none. */
 static size_t make_set(key keys[MOST_KEYS], const char *set) {
-    size_t n = 0, used = 0;
-    for (; n < MOST_KEYS; n++) {
-        if (!make_key(&keys[n], strcmp(set, "mixed") ? set : MIX[n % 12])) return 0;
+    char *kind;
+    size_t count = strtoul(set, &kind, 10), used = 0;
+    if (*kind++ != '-' || count > MOST_KEYS) return 0;
+    for (size_t n = 0; n < count; n++) {
+        if (!make_key(&keys[n], strcmp(kind, "mixed") ? kind : MIX[n % 12])) return 0;
         used += keys[n].blob_len + keys[n].fields_len + COMMENT;
-        if (used > KEY_AGENT_STORE_BYTES) break;
     }
-    return n;
+    return used > KEY_AGENT_STORE_BYTES ? 0 : count;
 }

@@ -4,8 +4,10 @@
  *
  *   NAME TIMES INSTRUCTIONS WRITTEN
  *
- * Counted is what is behind the first call of the program's function `began`; a function counts again only once it has returned.
- * Words: began=ADDRESS, NAME=ADDRESS (hexadecimal), up to eight; memory=ADDRESS, size=BYTES (decimal) for the part. */
+ * Counted is what is behind the first call of the program's function `began`; a function counts again only once it has returned. Where `ended` is
+ * named, the lines are written at each call of it, and the next counts begin at the next call of `began`. Where a function is named `measured`, the
+ * others count inside it alone; it is named before them.
+ * Words: began=ADDRESS, ended=ADDRESS, NAME=ADDRESS (hexadecimal), up to eight; memory=ADDRESS, size=BYTES (decimal) for the part. */
 #include <stdint.h>
 #include <stdio.h>
 #include <stdlib.h>
@@ -39,16 +41,29 @@ typedef struct {
 
 static function functions[MOST];
 static int count;
-static uint64_t began, memory, size;
+static const function *measured;
+static uint64_t began, ended, memory, size;
+static _Bool counting;
 static uint64_t behind; /* the block that was executed last: a call is its last instruction */
+
+static void tell(void) {
+    for (function *f = functions; f < functions + count; f++) {
+        if (f->back) fprintf(stderr, "within: %s has not returned\n", f->name);
+        else
+            fprintf(stderr, "%s %llu %llu %llu\n", f->name, (unsigned long long)f->times, (unsigned long long)f->instructions,
+                    (unsigned long long)f->written);
+        f->times = f->instructions = f->written = 0;
+    }
+}
 
 static void executed(unsigned cpu, void *data) {
     (void)cpu;
     const block *b = data;
-    if (b->from == began) began = 0;
-    for (function *f = functions; !began && f < functions + count; f++) {
+    if (b->from == began) counting = 1;
+    if (ended && b->from == ended) counting = 0, tell();
+    for (function *f = functions; counting && f < functions + count; f++) {
         if (b->from == f->back) f->back = 0;
-        if (b->from == f->entry && !f->back) f->back = behind, f->times++;
+        if (b->from == f->entry && !f->back && (!measured || f == measured || measured->back)) f->back = behind, f->times++;
         if (f->back) f->instructions += b->instructions;
     }
     behind = b->to;
@@ -73,13 +88,9 @@ static void translated(qemu_plugin_id_t id, struct qemu_plugin_tb *tb) {
         qemu_plugin_register_vcpu_mem_cb(qemu_plugin_tb_get_insn(tb, i), written, NO_REGISTERS, WRITES, 0);
 }
 
-static void tell(qemu_plugin_id_t id, void *unused) {
+static void at_end(qemu_plugin_id_t id, void *unused) {
     (void)id, (void)unused;
-    for (function *f = functions; f < functions + count; f++)
-        if (f->back) fprintf(stderr, "within: %s has not returned\n", f->name);
-        else
-            fprintf(stderr, "%s %llu %llu %llu\n", f->name, (unsigned long long)f->times, (unsigned long long)f->instructions,
-                    (unsigned long long)f->written);
+    if (!ended) tell();
 }
 
 int qemu_plugin_install(qemu_plugin_id_t id, const void *info, int words, char **given) {
@@ -89,15 +100,17 @@ int qemu_plugin_install(qemu_plugin_id_t id, const void *info, int words, char *
         if (!value) return 1;
         size_t n = (size_t)(value++ - given[i]);
         if (n == 5 && !memcmp(given[i], "began", n)) began = strtoull(value, 0, 16);
+        else if (n == 5 && !memcmp(given[i], "ended", n)) ended = strtoull(value, 0, 16);
         else if (n == 6 && !memcmp(given[i], "memory", n)) memory = strtoull(value, 0, 16);
         else if (n == 4 && !memcmp(given[i], "size", n)) size = strtoull(value, 0, 10);
         else if (count == MOST || n >= sizeof functions[0].name) return 1;
         else {
             memcpy(functions[count].name, given[i], n);
+            if (!strcmp(functions[count].name, "measured")) measured = &functions[count];
             functions[count++].entry = strtoull(value, 0, 16);
         }
     }
     qemu_plugin_register_vcpu_tb_trans_cb(id, translated);
-    qemu_plugin_register_atexit_cb(id, tell, 0);
+    qemu_plugin_register_atexit_cb(id, at_end, 0);
     return 0;
 }

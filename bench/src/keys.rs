@@ -3,7 +3,11 @@
 #[path = "../../differential/src/ed25519.rs"]
 mod ed25519;
 
-pub const SETS: [&str; 6] = ["ed25519", "p256", "rsa-2048", "rsa-3072", "rsa-4096", "mixed"];
+/// How many of which; of those that need more room than 24 take, as many as are held.
+#[rustfmt::skip]
+pub const SETS: [&str; 10] = [
+    "8-ed25519", "8-p256", "8-rsa-2048", "8-mixed", "24-ed25519", "24-p256", "24-rsa-2048", "18-rsa-3072", "13-rsa-4096", "24-mixed",
+];
 const MIX: [&str; 12] = ["ed25519", "p256", "rsa-2048", "ed25519", "p256", "rsa-3072", "ed25519", "p256", "rsa-2048", "p384", "p521", "rsa-4096"];
 /// Of ten bytes.
 pub const COMMENT: &[u8] = b"technician";
@@ -75,19 +79,11 @@ impl Chance {
     }
 }
 
-/// As many keys as are held at once, 24 at most.
 pub fn set(name: &str) -> Vec<Key> {
+    let (count, kind) = name.split_once('-').expect("COUNT-KIND");
     let mut chance = Chance(112);
-    let mut left = crate::table::STORE;
-    let mut keys = Vec::new();
-    for i in 0..crate::table::ENTRIES {
-        let key = chance.key(if name == "mixed" { MIX[i % MIX.len()] } else { name });
-        let len = key.blob.len() + key.fields.len() + COMMENT.len();
-        if len > left {
-            break;
-        }
-        left -= len;
-        keys.push(key);
-    }
+    let keys: Vec<_> = (0..count.parse().expect("COUNT")).map(|i| chance.key(if kind == "mixed" { MIX[i % MIX.len()] } else { kind })).collect();
+    let bytes: usize = keys.iter().map(|k| k.blob.len() + k.fields.len() + COMMENT.len()).sum();
+    assert!(keys.len() <= crate::table::ENTRIES && bytes <= crate::table::STORE, "{name} are not held at once");
     keys
 }

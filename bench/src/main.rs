@@ -1,9 +1,11 @@
-//! bench agree: do all sides give the same replies? bench times ROUNDS: nanoseconds per request of the sides, alternating. bench count SET WORK SIDE:
-//! one side alone, for counting from outside what is inside `measured`, behind `began`. Without words: each SET WORK SIDE.
-//! Sides: core (the proved library), table (the same table in Rust), russh (the unchanged `respond`). `core` and `table`: one call on the payload with
-//! all answers lent. `..-asked`: the calls of the loop, each question answered as it comes; the core's first one is from the frame. `signer`: the
-//! signer that russh has here, alone.
+//! bench agree: do all sides give the same replies? bench times ROUNDS: nanoseconds per request of the sides, alternating. bench count SET: each work
+//! by each side, for counting from outside what is inside `measured`, between `began` and `ended`. Without words: the sets.
+//! Sides: inner (the proved library's inner calls, through the crate), outer (its calls from outside, as C has them), table (the same table in Rust,
+//! with its test at each call), bare (that without), russh (the unchanged `respond`). Of the first four: one call on the payload with all answers lent.
+//! `..-asked`: the calls of the loop, each question answered as it comes; the library's first one is from the frame. `signer`: the signer that russh has
+//! here, alone; `own`: that of the other sides.
 mod keys;
+mod outer;
 mod table;
 use agent_oracle::keys::agent::server::probe::Probe;
 use agent_oracle::keys::ssh_key::{encoding::Decode, private::KeypairData, PrivateKey};
@@ -11,16 +13,17 @@ use agent_oracle::keys::PrivateKeyWithHashAlg;
 use agent_oracle::scripted;
 use key_agent::{split, Answers, First, Gateway, Numbered, Outcome, Payload, Question, Reply};
 use keys::{s, Key, COMMENT, SETS};
+use outer::Outer;
 use std::hint::black_box;
 use std::sync::Arc;
 use std::time::Instant;
 
-const WORKS: [&str; 8] = ["is_sound", "list", "sign", "add", "lock+unlock", "empty", "remove+add", "longer+shorter"];
-const SIDES: [&str; 5] = ["core", "table", "core-asked", "table-asked", "russh"];
+const WORKS: [&str; 9] = ["is_sound", "list", "sign", "add", "lock", "unlock", "empty", "remove+add", "longer+shorter"];
+const SIDES: [&str; 9] = ["inner", "outer", "table", "bare", "inner-asked", "outer-asked", "table-asked", "bare-asked", "russh"];
 fn sides(work: &str) -> Vec<&'static str> {
     match work {
-        "is_sound" => vec!["core-sound", "table-sound"],
-        "sign" => [&SIDES[..], &["signer"]].concat(),
+        "is_sound" => vec!["outer-sound", "table-sound"],
+        "sign" => [&SIDES[..], &["signer", "own"]].concat(),
         _ => SIDES.to_vec(),
     }
 }
@@ -28,21 +31,27 @@ fn sides(work: &str) -> Vec<&'static str> {
 fn add(key: &Key, comment: &[u8]) -> Vec<u8> {
     [&[17][..], &key.fields, &s(comment)].concat()
 }
-/// The frames of a work, behind which the state is as before: `add` replaces the last key by itself, `remove+add` removes and adds each key in turn,
-/// always the first, `longer+shorter` replaces the first by itself with a comment of another length.
-fn work(name: &str, keys: &[Key]) -> Vec<Vec<u8>> {
+/// A frame that is measured, or one that only goes with it.
+struct Step {
+    frame: Vec<u8>,
+    is_measured: bool,
+}
+/// The frames of a work, behind which the state is as before: `lock` and `unlock` go with each other, `add` replaces the last key by itself,
+/// `remove+add` removes and adds each key in turn, always the first, `longer+shorter` replaces the first by itself with a comment of another length.
+fn work(name: &str, keys: &[Key]) -> Vec<Step> {
     let (first, last) = (&keys[0], &keys[keys.len() - 1]);
     let payloads = match name {
         "list" => vec![vec![11]],
         "sign" => vec![[vec![13], s(&last.blob), s(&DATA), vec![0; 4]].concat()],
         "add" => vec![add(last, COMMENT)],
-        "lock+unlock" => vec![[vec![22], s(b"ab")].concat(), [vec![23], s(b"ab")].concat()],
+        "lock" | "unlock" => vec![[vec![22], s(b"ab")].concat(), [vec![23], s(b"ab")].concat()],
         "empty" | "is_sound" => vec![vec![]],
         "remove+add" => keys.iter().flat_map(|k| [[vec![18], s(&k.blob)].concat(), add(k, COMMENT)]).collect(),
         "longer+shorter" => vec![add(first, &[COMMENT, COMMENT].concat()), add(first, COMMENT)],
         _ => panic!("unknown work {name}"),
     };
-    payloads.iter().map(|p| s(p)).collect()
+    let goes_with = |p: &Vec<u8>| matches!((name, p.first()), ("lock", Some(23)) | ("unlock", Some(22)));
+    payloads.iter().map(|p| Step { frame: s(p), is_measured: !goes_with(p) }).collect()
 }
 fn payload(frame: &[u8]) -> Payload<'_> {
     split(frame).payload().expect("a whole frame")
@@ -51,36 +60,53 @@ fn payload(frame: &[u8]) -> Payload<'_> {
 const DATA: [u8; 200] = [7; 200];
 /// A signature as the oracle's `scripted` signer makes it.
 fn signature(kind: &[u8], data: &[u8]) -> Vec<u8> {
-    [s(kind), s(data)].concat()
+    let mut all = Vec::with_capacity(8 + kind.len() + data.len());
+    for part in [kind, data] {
+        all.extend_from_slice(&(part.len() as u32).to_be_bytes());
+        all.extend_from_slice(part);
+    }
+    all
 }
 
 /// `lent`: the last key's signature and number. `kind`: its type.
 enum Side {
-    Core { g: Gateway, reply: Reply, lent: Vec<u8>, number: u64 },
-    CoreAsked { g: Gateway, reply: Reply, kind: &'static [u8] },
-    CoreSound { g: Gateway },
+    Inner { g: Gateway, reply: Reply, lent: Vec<u8>, number: u64 },
+    InnerAsked { g: Gateway, reply: Reply, kind: &'static [u8] },
+    Outer { o: Outer, lent: Vec<u8>, number: u64 },
+    OuterAsked { o: Outer, kind: &'static [u8] },
+    OuterSound { o: Outer },
     Table { t: table::Table, reply: Vec<u8>, lent: Vec<u8>, number: u64 },
     TableAsked { t: table::Table, reply: Vec<u8>, kind: &'static [u8] },
     TableSound { t: table::Table },
     Russh { p: Probe, reply: Vec<u8> },
     Signer { key: PrivateKeyWithHashAlg },
+    Own { kind: &'static [u8] },
 }
 impl Side {
     /// With these keys held.
     fn new(name: &str, keys: &[Key]) -> Side {
         let last = &keys[keys.len() - 1];
         let (kind, lent, number) = (last.kind, signature(last.kind, &DATA), keys.len() as u64);
-        let buffer = || vec![0; key_agent::REPLY_LEN];
+        let table = || (table::Table::new(!name.starts_with("bare")), vec![0; key_agent::REPLY_LEN]);
         let mut side = match name {
-            "core" | "core-sound" => Side::Core { g: Gateway::new(), reply: Reply::new(), lent, number },
-            "core-asked" => Side::CoreAsked { g: Gateway::new(), reply: Reply::new(), kind },
-            "table" | "table-sound" => Side::Table { t: table::Table::new(), reply: buffer(), lent, number },
-            "table-asked" => Side::TableAsked { t: table::Table::new(), reply: buffer(), kind },
+            "inner" => Side::Inner { g: Gateway::new(), reply: Reply::new(), lent, number },
+            "inner-asked" => Side::InnerAsked { g: Gateway::new(), reply: Reply::new(), kind },
+            "outer" | "outer-sound" => Side::Outer { o: Outer::new(), lent, number },
+            "outer-asked" => Side::OuterAsked { o: Outer::new(), kind },
+            "table" | "bare" | "table-sound" => {
+                let (t, reply) = table();
+                Side::Table { t, reply, lent, number }
+            }
+            "table-asked" | "bare-asked" => {
+                let (t, reply) = table();
+                Side::TableAsked { t, reply, kind }
+            }
             "russh" => Side::Russh { p: Probe::new(), reply: Vec::new() },
             "signer" => {
                 let key = PrivateKey::new(KeypairData::decode(&mut &last.fields[..]).expect("a key"), "").expect("a key");
                 return Side::Signer { key: PrivateKeyWithHashAlg::new(Arc::new(key), None) };
             }
+            "own" => return Side::Own { kind },
             _ => panic!("unknown side {name}"),
         };
         for key in keys {
@@ -89,31 +115,32 @@ impl Side {
             assert_eq!(side.reply(), [0, 0, 0, 1, 6], "{name}");
         }
         match (name, side) {
-            ("core-sound", Side::Core { g, .. }) => Side::CoreSound { g },
+            ("outer-sound", Side::Outer { o, .. }) => Side::OuterSound { o },
             ("table-sound", Side::Table { t, .. }) => Side::TableSound { t },
             (_, side) => side,
         }
     }
     fn reply(&self) -> Vec<u8> {
         match self {
-            Side::Core { reply, .. } | Side::CoreAsked { reply, .. } => reply.bytes().to_vec(),
+            Side::Inner { reply, .. } | Side::InnerAsked { reply, .. } => reply.bytes().to_vec(),
+            Side::Outer { o, .. } | Side::OuterAsked { o, .. } => o.reply().to_vec(),
             Side::Table { reply, .. } | Side::TableAsked { reply, .. } => {
                 reply[..4 + u32::from_be_bytes(reply[..4].try_into().unwrap()) as usize].to_vec()
             }
             Side::Russh { reply, .. } => reply.clone(),
-            Side::CoreSound { .. } | Side::TableSound { .. } | Side::Signer { .. } => vec![],
+            Side::OuterSound { .. } | Side::TableSound { .. } | Side::Signer { .. } | Side::Own { .. } => vec![],
         }
     }
     /// One request, to its landing.
     #[inline(never)]
     fn serve(&mut self, frame: &[u8], p: Payload<'_>) {
         match self {
-            Side::Core { g, reply, lent, number } => {
+            Side::Inner { g, reply, lent, number } => {
                 let signature = Some(Numbered { number: *number, answer: Some(&lent[..]) });
                 let a = Answers { gate: Some(true), check: Some(true), confirmation: None, signature };
-                assert_eq!(g.call(p, 5, &a, reply), Outcome::Reply);
+                assert!(matches!(g.call(p, 5, &a, reply), Outcome::Reply));
             }
-            Side::CoreAsked { g, reply, kind } => {
+            Side::InnerAsked { g, reply, kind } => {
                 let (mut gate, mut check, mut made) = (None, None, None::<(u64, Vec<u8>)>);
                 let (p, mut outcome) = match g.first(frame, 5, reply) {
                     First::Began { payload, outcome, .. } => (payload, outcome),
@@ -131,6 +158,8 @@ impl Side {
                     outcome = g.call(p, 5, &Answers { gate, check, confirmation: None, signature }, reply);
                 }
             }
+            Side::Outer { o, lent, number } => o.call(p.bytes(), *number, lent),
+            Side::OuterAsked { o, kind } => o.asked(frame, |data| signature(kind, data)),
             Side::Table { t, reply, lent, number } => {
                 let a = table::Answers { gate: Some(true), check: Some(true), confirmation: None, signature: Some((*number, Some(lent))) };
                 assert!(matches!(t.call(p.bytes(), 5, a, reply), table::Outcome::Reply(_)));
@@ -150,31 +179,68 @@ impl Side {
             }
             Side::Russh { p: probe, reply } => assert!(probe.call(p.bytes(), reply)),
             Side::Signer { key } => drop(black_box(scripted::sign_with_hash_alg(key, black_box(&DATA)))),
-            Side::CoreSound { g } => assert!(black_box(&*g).is_sound()),
+            Side::Own { kind } => drop(black_box(signature(kind, black_box(&DATA)))),
+            Side::OuterSound { o } => assert!(black_box(&*o).is_sound()),
             Side::TableSound { t } => assert!(black_box(&*t).is_sound()),
+        }
+    }
+    /// Throws away what the scripted signer keeps for `siglog`.
+    fn tidy(&self, p: Payload<'_>) {
+        if matches!(self, Side::Russh { .. } | Side::Signer { .. }) && p.bytes().first() == Some(&13) {
+            scripted::LOG.lock().unwrap().clear();
         }
     }
 }
 
+// not the same code, which would be one function
 #[no_mangle]
 #[inline(never)]
 fn began() {
-    black_box(());
+    black_box(1);
+}
+#[no_mangle]
+#[inline(never)]
+fn ended() {
+    black_box(2);
 }
 #[no_mangle]
 #[inline(never)]
 fn measured(side: &mut Side, frame: &[u8], p: Payload<'_>) {
     side.serve(frame, p);
 }
+type Prepared<'a> = (&'a Step, Payload<'a>);
+fn prepared(steps: &[Step]) -> Vec<Prepared<'_>> {
+    steps.iter().map(|step| (step, payload(&step.frame))).collect()
+}
 /// The work once.
-fn once(side: &mut Side, frames: &[(&Vec<u8>, Payload<'_>)]) {
-    for (frame, p) in frames {
-        measured(side, black_box(frame), black_box(*p));
-        // what the scripted signer keeps for `siglog`
-        if matches!(side, Side::Russh { .. } | Side::Signer { .. }) && p.bytes().first() == Some(&13) {
-            scripted::LOG.lock().unwrap().clear();
+fn once(side: &mut Side, steps: &[Prepared<'_>]) {
+    for (step, p) in steps {
+        if step.is_measured {
+            measured(side, black_box(&step.frame), black_box(*p));
+        } else {
+            side.serve(&step.frame, *p);
+        }
+        side.tidy(*p);
+    }
+}
+/// Nanoseconds of the measured part of the work, which is one step of several: each is timed for itself, less what looking at the clock takes.
+fn once_apart(side: &mut Side, steps: &[Prepared<'_>]) -> f64 {
+    let mut sum = 0.0;
+    for (step, p) in steps {
+        if step.is_measured {
+            let start = Instant::now();
+            measured(side, black_box(&step.frame), black_box(*p));
+            sum += start.elapsed().as_nanos() as f64;
+        } else {
+            side.serve(&step.frame, *p);
         }
     }
+    sum
+}
+fn clock() -> f64 {
+    let mut all: Vec<_> = (0..10_001).map(|_| Instant::now().elapsed().as_nanos()).collect();
+    all.sort_unstable();
+    all[all.len() / 2] as f64
 }
 
 /// Of a list what russh has of it: its blobs, in any order, and no comment.
@@ -194,12 +260,12 @@ fn without_comments(r: &[u8]) -> Vec<Vec<u8>> {
     blobs.sort();
     blobs
 }
-/// All sides give the same replies, and the same list behind each; the core and the table to the last byte.
+/// All sides give the same replies, and the same list behind each; all but russh to the last byte.
 fn agree() {
     for set in SETS {
         let keys = keys::set(set);
         for w in &WORKS[1..] {
-            let frames: Vec<_> = work(w, &keys).into_iter().flat_map(|f| [f, s(&[11])]).collect();
+            let frames: Vec<_> = work(w, &keys).into_iter().flat_map(|step| [step.frame, s(&[11])]).collect();
             let replies = |name| {
                 let mut side = Side::new(name, &keys);
                 let one = |f: &Vec<u8>| {
@@ -209,29 +275,35 @@ fn agree() {
                 frames.iter().map(one).collect::<Vec<_>>()
             };
             let all = SIDES.map(replies);
-            assert!(all[1..4].iter().all(|r| r == &all[0]), "{set}, {w}");
+            let (russh, ours) = all.split_last().unwrap();
+            assert!(ours.iter().all(|r| r == &ours[0]), "{set}, {w}");
             let blank = |replies: &[Vec<u8>]| replies.iter().map(|r| without_comments(r)).collect::<Vec<_>>();
-            assert_eq!(blank(&all[0]), blank(&all[4]), "{set}, {w}");
+            assert_eq!(blank(&ours[0]), blank(russh), "{set}, {w}");
         }
     }
 }
 
 fn times(rounds: usize) {
     const REQUESTS: usize = 200;
+    let clock = clock();
     for set in SETS {
         let keys = keys::set(set);
         for w in WORKS {
-            let frames = work(w, &keys);
-            let p: Vec<_> = frames.iter().map(|f| (f, payload(f))).collect();
-            let times_each = REQUESTS.div_ceil(p.len());
+            let steps = work(w, &keys);
+            let p = prepared(&steps);
+            let counted = p.iter().filter(|(step, _)| step.is_measured).count();
+            let times_each = REQUESTS.div_ceil(counted);
             let mut sides: Vec<_> = sides(w).into_iter().map(|n| (n, Side::new(n, &keys), Vec::new())).collect();
             for _ in 0..rounds {
                 for (_, side, t) in &mut sides {
                     let start = Instant::now();
-                    for _ in 0..times_each {
-                        once(side, &p);
-                    }
-                    t.push(start.elapsed().as_nanos() as f64 / (times_each * p.len()) as f64);
+                    let all = if counted == p.len() {
+                        (0..times_each).for_each(|_| once(side, &p));
+                        start.elapsed().as_nanos() as f64
+                    } else {
+                        (0..times_each).map(|_| once_apart(side, &p) - clock).sum()
+                    };
+                    t.push(all / (times_each * counted) as f64);
                 }
             }
             for (name, _, t) in &mut sides {
@@ -243,15 +315,21 @@ fn times(rounds: usize) {
 }
 
 /// Once before it counts: what is bound or grows at the first request drops out.
-fn count(set: &str, w: &str, side: &str) {
+fn count(set: &str) {
     let keys = keys::set(set);
-    let frames = work(w, &keys);
-    let p: Vec<_> = frames.iter().map(|f| (f, payload(f))).collect();
-    let mut side = Side::new(side, &keys);
-    once(&mut side, &p);
-    began();
-    for _ in 0..20usize.div_ceil(p.len()) {
-        once(&mut side, &p);
+    for w in WORKS {
+        let steps = work(w, &keys);
+        let p = prepared(&steps);
+        for name in sides(w) {
+            let mut side = Side::new(name, &keys);
+            once(&mut side, &p);
+            println!("{set} {w} {name}");
+            began();
+            for _ in 0..20usize.div_ceil(p.len()) {
+                once(&mut side, &p);
+            }
+            ended();
+        }
     }
 }
 
@@ -261,10 +339,10 @@ fn main() {
     match a[..] {
         ["agree"] => agree(),
         ["times", rounds] => times(rounds.parse().expect("ROUNDS")),
-        ["count", set, work, side] => count(set, work, side),
-        [] => SETS.iter().for_each(|set| WORKS.iter().for_each(|w| sides(w).iter().for_each(|side| println!("{set} {w} {side}")))),
+        ["count", set] => count(set),
+        [] => SETS.iter().for_each(|set| println!("{set}")),
         _ => {
-            eprintln!("usage: bench agree | bench times ROUNDS | bench count SET WORK SIDE");
+            eprintln!("usage: bench agree | bench times ROUNDS | bench count SET");
             std::process::exit(2);
         }
     }

@@ -1,4 +1,5 @@
 //! The core behind the oracle's script language, and what the comparison needs beside it.
+pub mod both;
 pub mod ed25519;
 pub mod held;
 pub mod requests;

@@ -1,8 +1,9 @@
 //! The core as a program that answers scripts: the host of a gateway, with connections, questions left open, a clock that is moved, the key
 //! check that ssh-key makes and the signer that the oracle `scripted` has.
+use crate::both::Both;
 use crate::held::{Addition, Held};
 use crate::{ed25519, hex, items, sorted, string, strings, unhex};
-use key_agent::{split, Answers, First, Gateway, Hash, Numbered, Outcome, Payload, Question, Reply};
+use key_agent::{split, Answers, First, Hash, Numbered, Outcome, Payload, Question, Reply};
 use std::collections::{HashMap, VecDeque};
 
 /// Does the library take these key fields, which 01 has parsed? The Rust's check is what its key decoder does beyond 01: an Ed25519 seed must
@@ -80,7 +81,7 @@ struct Conn {
 }
 
 pub struct World {
-    pub gateway: Gateway,
+    pub gateway: Both,
     pub clock: u64,
     pub landings: Vec<Landing>,
     /// Check and signature wait for `ans` too.
@@ -92,7 +93,7 @@ pub struct World {
     /// Listed comments that were compared: all, empty ones, those with bytes beyond ASCII, those of 255 bytes.
     pub listed: [u64; 4],
     /// Where the core has not followed the rule by which keys are held: lists in another order or with other comments, a key taken or about to be
-    /// taken for which there is no room, other bytes of a held key.
+    /// taken for which there is no room, other bytes of a held key; and where an inner call and one from outside came to different things.
     pub wrong: Vec<String>,
     held: Held,
     /// Held keys whose bytes were compared with what their adds carried.
@@ -120,7 +121,7 @@ impl Default for World {
 impl World {
     pub fn new() -> World {
         World {
-            gateway: Gateway::new(),
+            gateway: Both::new(),
             clock: 0,
             landings: Vec::new(),
             hold: false,
@@ -190,7 +191,9 @@ impl World {
             return "wait".into();
         }
         let was_locked = self.gateway.is_locked();
-        match self.gateway.first(&c.bytes, self.clock, &mut self.reply) {
+        let first = self.gateway.first(&c.bytes, self.clock, &mut self.reply);
+        self.wrong.append(&mut self.gateway.wrong);
+        match first {
             First::MoreNeeded => "wait".into(),
             First::TooLong => {
                 self.conns.remove(name);
@@ -277,6 +280,7 @@ impl World {
             let (was_locked, outcome) = first.take().unwrap_or_else(|| {
                 (self.gateway.is_locked(), self.gateway.call(r.payload(), self.clock, &r.answers(), &mut self.reply))
             });
+            self.wrong.append(&mut self.gateway.wrong);
             let q = match outcome {
                 Outcome::Asks(q) => q,
                 Outcome::Refused(why) => panic!("{why}"),

@@ -93,6 +93,7 @@ impl Class {
         }
     }
 
+    #[inline]
     fn of(number: u64) -> Class {
         match number {
             1 => Class::RequestKeys,
@@ -102,7 +103,7 @@ impl Class {
             5 => Class::Sign,
             6 => Class::Lock,
             7 => Class::Unlock,
-            _ => unreachable!("the core knows seven classes"),
+            _ => never("class", 0, number),
         }
     }
 }
@@ -118,6 +119,18 @@ pub enum Hash {
     Sha512,
 }
 
+impl Hash {
+    #[inline]
+    fn of(bits: u16) -> Hash {
+        match bits {
+            0 => Hash::None,
+            256 => Hash::Sha256,
+            512 => Hash::Sha512,
+            _ => never("hash", 0, bits.into()),
+        }
+    }
+}
+
 /// The payload of a request: a whole frame without its length in front. [`Gateway::first`] and [`split`] cut it out of a connection's bytes, and
 /// nothing else makes one but the empty one. Never longer than [`MAX_PAYLOAD`].
 #[derive(Clone, Copy, Default, PartialEq, Eq)]
@@ -125,6 +138,7 @@ pub struct Payload<'a>(&'a [u8]);
 
 impl<'a> Payload<'a> {
     /// Its bytes, for as long as those that it was cut out of.
+    #[inline]
     pub fn bytes(self) -> &'a [u8] {
         self.0
     }
@@ -134,6 +148,7 @@ impl<'a> Payload<'a> {
     /// # Panics
     ///
     /// Where the part is another payload's and this one is too short for it. Of one that is long enough it gives what stands there.
+    #[inline]
     pub fn part(self, part: &Part) -> &'a [u8] {
         &self.0[part.0.clone()]
     }
@@ -221,31 +236,27 @@ pub enum Outcome {
 }
 
 impl Outcome {
+    #[inline]
     fn of(o: raw::FlatOutcome, reply: &mut Reply) -> Outcome {
         reply.len = if o.kind == 5 { o.to } else { 0 };
         match o.kind {
-            0 => Outcome::Refused(match o.number {
-                5 => Refusal::SignatureTooLong,
-                n => unreachable!("refusal {n}: store, reply and payload have their lengths, and the state is the core's"),
-            }),
+            5 => Outcome::Reply,
             1 => Outcome::Asks(Question::Gate(Class::of(o.number))),
             2 => Outcome::Asks(Question::Check(Part(o.from..o.to))),
             3 => Outcome::Asks(Question::Confirmation { number: o.number }),
-            4 => Outcome::Asks(Question::Signature {
-                number: o.number,
-                data: Part(o.from..o.to),
-                hash: match o.hash {
-                    0 => Hash::None,
-                    256 => Hash::Sha256,
-                    512 => Hash::Sha512,
-                    n => unreachable!("hash {n}"),
-                },
-            }),
-            5 => Outcome::Reply,
+            4 => Outcome::Asks(Question::Signature { number: o.number, data: Part(o.from..o.to), hash: Hash::of(o.hash) }),
             6 => Outcome::Close,
-            n => unreachable!("outcome {n}"),
+            0 if o.number == 5 => Outcome::Refused(Refusal::SignatureTooLong),
+            _ => never("outcome", o.kind, o.number),
         }
     }
+}
+
+/// Store, reply and payload have their lengths, and the state is the core's: so a call comes to nothing else.
+#[cold]
+#[inline(never)]
+fn never(what: &str, kind: u8, number: u64) -> ! {
+    unreachable!("{what} {kind}, number {number}")
 }
 
 /// What a connection's bytes come to.
@@ -264,6 +275,18 @@ pub enum First<'a> {
         /// What its first call comes to.
         outcome: Outcome,
     },
+}
+
+impl<'a> First<'a> {
+    #[inline]
+    fn of(f: raw::FlatFirst, bytes: &'a [u8], reply: &mut Reply) -> First<'a> {
+        match f.kind {
+            3 => First::Began { payload: Payload(&bytes[4..f.used]), used: f.used, outcome: Outcome::of(f.outcome, reply) },
+            0 => First::MoreNeeded,
+            1 => First::TooLong,
+            _ => never("first", f.kind, f.outcome.number),
+        }
+    }
 }
 
 impl fmt::Debug for First<'_> {
@@ -299,15 +322,13 @@ pub struct Answers<'a> {
     pub signature: Option<Numbered<Option<&'a [u8]>>>,
 }
 
+#[inline]
 fn said(answer: Option<bool>) -> u8 {
-    match answer {
-        None => 0,
-        Some(false) => 1,
-        Some(true) => 2,
-    }
+    answer.map_or(0, |yes| 1 + u8::from(yes))
 }
 
 impl<'a> Answers<'a> {
+    #[inline]
     fn flat(&self) -> (raw::FlatAnswers, &'a [u8]) {
         let mut flat = raw::FlatAnswers { gate: said(self.gate), check: said(self.check), ..Default::default() };
         if let Some(c) = self.confirmation {
@@ -337,6 +358,7 @@ impl Reply {
     }
 
     /// The frame of the last call that replied, its length prefix included; empty before one, and after a call that did not reply.
+    #[inline]
     pub fn bytes(&self) -> &[u8] {
         &self.buffer[..self.len]
     }
@@ -425,7 +447,8 @@ impl fmt::Debug for Key<'_> {
     }
 }
 
-/// The gateway: its state and its key store, owned. Both are only ever altered by the core, so a call from here is never refused for them.
+/// The gateway: its state and its key store, owned. Both come from the core alone, fresh or as its last call left them, and nothing else writes or
+/// restores them: so they are sound, which is proved of each call, and a call from here tests it no more and is never refused for them.
 /// Two are equal if they have the same keys in the same order, the same passphrase, clock and next number.
 #[derive(Clone, PartialEq, Eq)]
 pub struct Gateway {
@@ -452,52 +475,59 @@ impl Gateway {
     /// What stands behind that frame is not looked at.
     ///
     /// Keep the bytes until the request ends, and let go of `used` of them then; meanwhile [`Split::payload`] cuts the same payload out of them again.
+    #[inline]
     pub fn first<'a>(&mut self, bytes: &'a [u8], reading: u64, reply: &mut Reply) -> First<'a> {
         // SAFETY: as in `call`.
-        let f = unsafe {
-            raw::key_agent_first(
-                &mut *self.state,
-                self.store.as_mut_ptr(),
-                self.store.len(),
-                bytes.as_ptr(),
-                bytes.len(),
-                reading,
-                reply.buffer.as_mut_ptr(),
-                reply.buffer.len(),
-            )
-        };
-        match f.kind {
-            0 => First::MoreNeeded,
-            1 => First::TooLong,
-            2 => unreachable!("refusal {}: store and reply have their lengths, and the state is the core's", f.outcome.number),
-            3 => First::Began { payload: Payload(&bytes[4..f.used]), used: f.used, outcome: Outcome::of(f.outcome, reply) },
-            n => unreachable!("first {n}"),
-        }
+        let f = unsafe { self.first_by(raw::key_agent_inner_first, bytes, reading, reply) };
+        First::of(f, bytes, reply)
+    }
+
+    /// # Safety
+    ///
+    /// As of `call_by`.
+    #[inline(always)]
+    unsafe fn first_by(&mut self, first: raw::FirstCall, bytes: &[u8], reading: u64, reply: &mut Reply) -> raw::FlatFirst {
+        let (store, reply) = (&mut self.store[..], &mut reply.buffer[..]);
+        // SAFETY: as in `call_by`.
+        unsafe { first(&mut *self.state, store.as_mut_ptr(), store.len(), bytes.as_ptr(), bytes.len(), reading, reply.as_mut_ptr(), reply.len()) }
     }
 
     /// A later call of a request on the present state, at the clock reading `reading` in milliseconds (a lower one than the kept clock counts as
     /// the kept one). `answers` are those that this request has so far.
+    #[inline]
     pub fn call(&mut self, payload: Payload<'_>, reading: u64, answers: &Answers<'_>, reply: &mut Reply) -> Outcome {
+        // SAFETY: the inner call asks for a sound state and store. Both fields are private, made by `fresh` with a store of zeros (or as a copy of such
+        // a pair), and afterwards written by these calls alone, each of which leaves them sound. The self test alters a state to which it makes no
+        // inner call.
+        let o = unsafe { self.call_by(raw::key_agent_inner_call, payload, reading, answers, reply) };
+        Outcome::of(o, reply)
+    }
+
+    /// # Safety
+    ///
+    /// The function is one of the two that the archive exports for it; the inner one asks for a sound state and store.
+    #[inline(always)]
+    unsafe fn call_by(&mut self, call: raw::Call, payload: Payload<'_>, reading: u64, answers: &Answers<'_>, reply: &mut Reply) -> raw::FlatOutcome {
         let (flat, signature) = answers.flat();
+        let (store, payload, reply) = (&mut self.store[..], payload.0, &mut reply.buffer[..]);
         // SAFETY: every pointer comes from a reference or a slice, so it is not null, and its length goes with it; the three that are written
         // (state, store, reply) are borrowed mutably here, so they overlap with nothing. The core reads no byte behind a length and keeps no
         // pointer.
-        let o = unsafe {
-            raw::key_agent_call(
+        unsafe {
+            call(
                 &mut *self.state,
-                self.store.as_mut_ptr(),
-                self.store.len(),
-                payload.0.as_ptr(),
-                payload.0.len(),
+                store.as_mut_ptr(),
+                store.len(),
+                payload.as_ptr(),
+                payload.len(),
                 reading,
                 flat,
                 signature.as_ptr(),
                 signature.len(),
-                reply.buffer.as_mut_ptr(),
-                reply.buffer.len(),
+                reply.as_mut_ptr(),
+                reply.len(),
             )
-        };
-        Outcome::of(o, reply)
+        }
     }
 
     /// What the core tells of a number; all zero where no held key has it.
@@ -533,7 +563,7 @@ impl Gateway {
         std::iter::successors(self.next_held(0), |n| self.next_held(*n)).filter_map(|n| self.key(n))
     }
 
-    /// The soundness test that every call begins with. True of every `Gateway`; here for who measures or asserts it.
+    /// The soundness test that a call from outside begins with. True of every `Gateway`; here for who measures or asserts it.
     pub fn is_sound(&self) -> bool {
         // SAFETY: the store is lent with its own length and only read; the state goes by value.
         unsafe { raw::key_agent_is_sound(*self.state, self.store.as_ptr(), self.store.len()) }
@@ -546,11 +576,13 @@ impl Gateway {
     }
 
     /// Is the gateway locked?
+    #[inline]
     pub fn is_locked(&self) -> bool {
         self.state.lock.len != 0
     }
 
     /// The greatest reading that a call was accepted with.
+    #[inline]
     pub fn clock(&self) -> u64 {
         self.state.clock
     }
@@ -625,6 +657,7 @@ impl fmt::Debug for Split<'_> {
 }
 
 /// Looks for one frame at the front of a connection's bytes; nothing is copied, and no call is made.
+#[inline]
 pub fn split(bytes: &[u8]) -> Split<'_> {
     // SAFETY: a slice's pointer and length; nothing is written.
     let s = unsafe { raw::key_agent_split(bytes.as_ptr(), bytes.len()) };
@@ -632,21 +665,57 @@ pub fn split(bytes: &[u8]) -> Split<'_> {
         0 => Split::MoreNeeded,
         1 => Split::TooLong,
         2 => Split::Frame { payload: Payload(&bytes[s.from..s.to]), used: s.to },
-        n => unreachable!("split {n}"),
+        n => never("split", n, 0),
+    }
+}
+
+/// A gateway, and one to which the same calls come from outside: by the exports of the header, which test state and store.
+struct Twins {
+    g: Gateway,
+    reply: Reply,
+    outside: Gateway,
+    outside_reply: Reply,
+}
+
+impl Twins {
+    fn new() -> Twins {
+        Twins { g: Gateway::untested(), reply: Reply::new(), outside: Gateway::untested(), outside_reply: Reply::new() }
+    }
+
+    fn first<'a>(&mut self, bytes: &'a [u8], reading: u64) -> First<'a> {
+        let inner = self.g.first(bytes, reading, &mut self.reply);
+        // SAFETY: as in `call_by`; nothing is asked of state and store.
+        let outer = unsafe { self.outside.first_by(raw::key_agent_first, bytes, reading, &mut self.outside_reply) };
+        assert!(inner == First::of(outer, bytes, &mut self.outside_reply), "the inner first call and the one from outside");
+        self.are_equal();
+        inner
+    }
+
+    fn call(&mut self, payload: Payload<'_>, reading: u64, answers: &Answers<'_>) -> Outcome {
+        let inner = self.g.call(payload, reading, answers, &mut self.reply);
+        // SAFETY: as in `call_by`; nothing is asked of state and store.
+        let outer = unsafe { self.outside.call_by(raw::key_agent_call, payload, reading, answers, &mut self.outside_reply) };
+        assert_eq!(inner, Outcome::of(outer, &mut self.outside_reply), "the inner call and the one from outside");
+        self.are_equal();
+        inner
+    }
+
+    fn are_equal(&self) {
+        let replies = self.reply.buffer == self.outside_reply.buffer && self.reply.len == self.outside_reply.len;
+        assert!(self.g == self.outside && replies, "state, store and reply behind an inner call and one from outside");
     }
 }
 
 /// Layout and numbers, tested against the archive that is linked: each field of each struct is written or read by the core once, and found
-/// where this crate has it. Sizes and offsets of this side are tested when the crate is compiled.
+/// where this crate has it, by inner calls and by those from outside. Sizes and offsets of this side are tested when the crate is compiled.
 fn self_test() {
     let string = |b: &[u8]| [&(b.len() as u32).to_be_bytes()[..], b].concat();
-    let mut g = Gateway::untested();
-    let mut reply = Reply::new();
+    let mut t = Twins::new();
     let first = |f: First<'_>| match f {
         First::Began { used, outcome, .. } => (used, outcome),
         other => panic!("first: {other:?}"),
     };
-    let fresh = *g.state;
+    let fresh = *t.g.state;
     let columns = raw::Columns {
         numbers: [0; MAX_KEYS],
         readings: [0; MAX_KEYS],
@@ -668,17 +737,17 @@ fn self_test() {
     let mut bytes = string(&add);
     let used = bytes.len();
     bytes.push(0);
-    assert_eq!((g.first(&bytes[..used - 1], 99, &mut reply), *g.state), (First::MoreNeeded, fresh), "first: more needed");
-    assert_eq!((g.first(&[0, 4, 0, 1], 99, &mut reply), *g.state), (First::TooLong, fresh), "first: too long");
-    assert_eq!(first(g.first(&bytes, 77, &mut reply)), (used, Outcome::Asks(Question::Gate(Class::AddKeys))), "first: gate");
-    assert_eq!(*g.state, raw::State { clock: 77, ..fresh }, "first: the reading");
-    assert_eq!((first(g.first(&[0; 5], 0, &mut reply)), reply.bytes()), ((4, Outcome::Reply), &[0, 0, 0, 1, 5][..]), "first: reply");
+    assert_eq!((t.first(&bytes[..used - 1], 99), *t.g.state), (First::MoreNeeded, fresh), "first: more needed");
+    assert_eq!((t.first(&[0, 4, 0, 1], 99), *t.g.state), (First::TooLong, fresh), "first: too long");
+    assert_eq!(first(t.first(&bytes, 77)), (used, Outcome::Asks(Question::Gate(Class::AddKeys))), "first: gate");
+    assert_eq!(*t.g.state, raw::State { clock: 77, ..fresh }, "first: the reading");
+    assert_eq!((first(t.first(&[0; 5], 0)), t.reply.bytes()), ((4, Outcome::Reply), &[0, 0, 0, 1, 5][..]), "first: reply");
     let add = Payload(&add);
-    assert_eq!(g.call(add, 77, &Answers::default(), &mut reply), Outcome::Asks(Question::Gate(Class::AddKeys)), "gate");
-    assert_eq!(g.call(add, 77, &a, &mut reply), Outcome::Asks(Question::Check(Part(1..1 + fields.len()))), "check");
+    assert_eq!(t.call(add, 77, &Answers::default()), Outcome::Asks(Question::Gate(Class::AddKeys)), "gate");
+    assert_eq!(t.call(add, 77, &a), Outcome::Asks(Question::Check(Part(1..1 + fields.len()))), "check");
     a.check = Some(true);
-    assert_eq!(g.call(add, 78, &a, &mut reply), Outcome::Reply, "add");
-    assert_eq!(reply.bytes(), [0, 0, 0, 1, 6], "reply");
+    assert_eq!(t.call(add, 78, &a), Outcome::Reply, "add");
+    assert_eq!(t.reply.bytes(), [0, 0, 0, 1, 6], "reply");
     let mut want = fresh;
     want.columns.numbers[0] = 1;
     want.columns.readings[0] = 78;
@@ -690,51 +759,58 @@ fn self_test() {
     want.columns.confirm[0] = 1;
     want.clock = 78;
     want.next = 2;
-    assert_eq!(*g.state, want, "layout of State: an entry");
-    let held = g.told(1);
+    assert_eq!(*t.g.state, want, "layout of State: an entry");
+    let held = t.g.told(1);
     let left = 0x0102_0304 * 1_000;
     let mut comment = raw::Comment { bytes: [0; 255], len: 4 };
     comment.bytes[..4].copy_from_slice(b"shed");
     let told = raw::HeldKey { number: 1, confirm: 1, limited: 1, left, comment, ..held };
     assert_eq!(held, told, "layout of HeldKey");
-    assert!(g.store[held.blob_from..held.blob_to] == blob[..] && g.store[held.fields_from..held.fields_to] == fields[..], "the store's parts");
-    assert!(g.next_held(0) == Some(1) && g.next_held(1).is_none() && g.key(2).is_none(), "next");
-    g.state.columns.limited[0] = 0;
-    g.state.columns.seconds[0] = 0;
-    assert_eq!(g.told(1), raw::HeldKey { limited: 0, left: 0, ..held }, "layout of HeldKey: no lifetime");
-    *g.state = want;
+    assert!(t.g.store[held.blob_from..held.blob_to] == blob[..] && t.g.store[held.fields_from..held.fields_to] == fields[..], "the store's parts");
+    assert!(t.g.next_held(0) == Some(1) && t.g.next_held(1).is_none() && t.g.key(2).is_none(), "next");
+    t.outside.state.columns.limited[0] = 0;
+    t.outside.state.columns.seconds[0] = 0;
+    assert_eq!(t.outside.told(1), raw::HeldKey { limited: 0, left: 0, ..held }, "layout of HeldKey: no lifetime");
+    *t.outside.state = want;
     let sign = [&[13][..], &string(&blob), &string(b"data"), &[0, 0, 0, 4]].concat();
     let sign = Payload(&sign);
     let data = 1 + 4 + blob.len() + 4;
     a = Answers { gate: Some(true), ..Answers::default() };
-    assert_eq!(g.call(sign, 0, &a, &mut reply), Outcome::Asks(Question::Confirmation { number: 1 }), "confirmation");
+    assert_eq!(t.call(sign, 0, &a), Outcome::Asks(Question::Confirmation { number: 1 }), "confirmation");
     a.confirmation = Some(Numbered { number: 1, answer: true });
     let asks = Outcome::Asks(Question::Signature { number: 1, data: Part(data..data + 4), hash: Hash::Sha512 });
-    assert_eq!(g.call(sign, 0, &a, &mut reply), asks, "signature");
+    assert_eq!(t.call(sign, 0, &a), asks, "signature");
     a.signature = Some(Numbered { number: 2, answer: Some(b"other") });
-    assert_eq!(g.call(sign, 0, &a, &mut reply), asks, "an answer for another number");
+    assert_eq!(t.call(sign, 0, &a), asks, "an answer for another number");
     a.signature = Some(Numbered { number: 1, answer: Some(b"sig") });
-    assert_eq!(g.call(sign, 0, &a, &mut reply), Outcome::Reply, "signature lent");
-    assert_eq!(reply.bytes(), [0, 0, 0, 8, 14, 0, 0, 0, 3, b's', b'i', b'g'], "signature lent");
+    assert_eq!(t.call(sign, 0, &a), Outcome::Reply, "signature lent");
+    assert_eq!(t.reply.bytes(), [0, 0, 0, 8, 14, 0, 0, 0, 3, b's', b'i', b'g'], "signature lent");
     a.signature = Some(Numbered { number: 1, answer: None });
-    assert_eq!(g.call(sign, 0, &a, &mut reply), Outcome::Close, "no signature");
+    assert_eq!(t.call(sign, 0, &a), Outcome::Close, "no signature");
     a.confirmation = Some(Numbered { number: 1, answer: false });
-    assert_eq!(g.call(sign, 0, &a, &mut reply), Outcome::Reply, "not confirmed");
-    assert_eq!(reply.bytes(), [0, 0, 0, 1, 5], "not confirmed");
+    assert_eq!(t.call(sign, 0, &a), Outcome::Reply, "not confirmed");
+    assert_eq!(t.reply.bytes(), [0, 0, 0, 1, 5], "not confirmed");
     a = Answers { gate: Some(true), ..Answers::default() };
-    assert_eq!(g.call(Payload(&[22, 0, 0, 0, 2, 97, 98]), 0, &a, &mut reply), Outcome::Reply, "lock");
+    assert_eq!(t.call(Payload(&[22, 0, 0, 0, 2, 97, 98]), 0, &a), Outcome::Reply, "lock");
     want.lock.bytes[..2].copy_from_slice(b"ab");
     want.lock.len = 2;
-    assert_eq!(*g.state, want, "layout of State: the lock");
-    assert!(g.is_sound(), "is_sound");
+    assert_eq!(*t.g.state, want, "layout of State: the lock");
+    assert!(t.g.is_sound(), "is_sound");
     let long = [0; MAX_SIGNATURE + 1];
     a.signature = Some(Numbered { number: 1, answer: Some(&long) });
-    assert_eq!(g.call(Payload(&[]), 0, &a, &mut reply), Outcome::Refused(Refusal::SignatureTooLong), "refusal 5");
+    assert_eq!(t.call(Payload(&[]), 0, &a), Outcome::Refused(Refusal::SignatureTooLong), "refusal 5");
     assert_eq!(split(&[0, 0, 0, 1, 11, 0]), Split::Frame { payload: Payload(&[11]), used: 5 }, "split");
     assert_eq!(split(&[0, 4, 0, 1]), Split::TooLong, "split");
     assert_eq!(split(&[0, 4, 0, 0]), Split::MoreNeeded, "split");
     // the last field of a state by value: the next number is not above a held one
+    let Twins { outside: mut g, mut reply, .. } = t;
     g.state.next = 1;
     assert!(!g.is_sound(), "is_sound");
     assert!(g.key(1).is_none() && g.next_held(0).is_none(), "nothing is told");
+    // SAFETY: as in `Twins`.
+    let (first, call) = unsafe {
+        let first = g.first_by(raw::key_agent_first, &[0; 4], 0, &mut reply);
+        (first, g.call_by(raw::key_agent_call, Payload(&[]), 0, &Answers::default(), &mut reply))
+    };
+    assert_eq!((first.kind, first.outcome.number, call.kind, call.number), (2, 3, 0, 3), "refusal 3, from outside");
 }

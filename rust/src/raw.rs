@@ -97,6 +97,34 @@ pub struct HeldKey {
 }
 
 // A slice crosses as two words, where it begins and its length.
+
+/// One call on state, store, payload, reading, answers, signature and reply.
+pub type Call = unsafe extern "C" fn(
+    state: *mut State,
+    store: *mut u8,
+    store_len: usize,
+    payload: *const u8,
+    payload_len: usize,
+    reading: u64,
+    answers: FlatAnswers,
+    signature: *const u8,
+    signature_len: usize,
+    reply: *mut u8,
+    reply_len: usize,
+) -> FlatOutcome;
+
+/// A first call on state, store, a connection's bytes, reading and reply.
+pub type FirstCall = unsafe extern "C" fn(
+    state: *mut State,
+    store: *mut u8,
+    store_len: usize,
+    bytes: *const u8,
+    bytes_len: usize,
+    reading: u64,
+    reply: *mut u8,
+    reply_len: usize,
+) -> FlatFirst;
+
 extern "C" {
     pub fn key_agent_fresh() -> State;
     pub fn key_agent_is_sound(state: State, store: *const u8, store_len: usize) -> bool;
@@ -114,6 +142,31 @@ extern "C" {
         reply_len: usize,
     ) -> FlatOutcome;
     pub fn key_agent_first(
+        state: *mut State,
+        store: *mut u8,
+        store_len: usize,
+        bytes: *const u8,
+        bytes_len: usize,
+        reading: u64,
+        reply: *mut u8,
+        reply_len: usize,
+    ) -> FlatFirst;
+    // The inner calls: as the two above, with no soundness test. They ask for a state and a store that are sound, the store of its length, and leave
+    // them so; on any other nothing is promised, not even that they stay within the store. So they are declared here alone, and not in the header.
+    pub fn key_agent_inner_call(
+        state: *mut State,
+        store: *mut u8,
+        store_len: usize,
+        payload: *const u8,
+        payload_len: usize,
+        reading: u64,
+        answers: FlatAnswers,
+        signature: *const u8,
+        signature_len: usize,
+        reply: *mut u8,
+        reply_len: usize,
+    ) -> FlatOutcome;
+    pub fn key_agent_inner_first(
         state: *mut State,
         store: *mut u8,
         store_len: usize,

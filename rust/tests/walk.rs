@@ -1,5 +1,6 @@
 //! A walk of 100,000 calls from one seed. All that the core gives is folded into one number, which must be the same on every machine. The walk
-//! also has what the safe interface keeps out: answers of any number, short buffers, states and stores that were changed.
+//! also has what the safe interface keeps out: answers of any number, short buffers, states and stores that were changed. Beside it goes a second
+//! one, by inner calls alone: outcomes, states, stores and reply buffers of the two must be the same throughout.
 use key_agent as _; // for the archive
 
 #[allow(dead_code)]
@@ -161,22 +162,58 @@ fn request(r: &mut Random) -> Vec<u8> {
     p
 }
 
+#[derive(Clone, PartialEq)]
+struct World {
+    state: raw::State,
+    store: Vec<u8>,
+    reply: Vec<u8>,
+}
+impl World {
+    fn new() -> World {
+        World { state: unsafe { raw::key_agent_fresh() }, store: vec![0; 32_768], reply: vec![0; 31_000] }
+    }
+    fn refresh(&mut self) {
+        self.state = unsafe { raw::key_agent_fresh() };
+        self.store.fill(0);
+    }
+    fn call(
+        &mut self,
+        by: raw::Call,
+        (store, reply): Lengths,
+        payload: &[u8],
+        reading: u64,
+        a: raw::FlatAnswers,
+        signature: &[u8],
+    ) -> raw::FlatOutcome {
+        let (s, r) = (&mut self.store[..store], &mut self.reply[..reply]);
+        let (p, g) = (payload.as_ptr(), signature.as_ptr());
+        // SAFETY: slices with their lengths, which do not overlap; an inner call only ever comes to a sound state and store.
+        unsafe { by(&mut self.state, s.as_mut_ptr(), s.len(), p, payload.len(), reading, a, g, signature.len(), r.as_mut_ptr(), r.len()) }
+    }
+    fn first(&mut self, by: raw::FirstCall, (store, reply): Lengths, bytes: &[u8], reading: u64) -> raw::FlatFirst {
+        let (s, r) = (&mut self.store[..store], &mut self.reply[..reply]);
+        // SAFETY: as above.
+        unsafe { by(&mut self.state, s.as_mut_ptr(), s.len(), bytes.as_ptr(), bytes.len(), reading, r.as_mut_ptr(), r.len()) }
+    }
+}
+
 /// Of store and reply buffer.
-fn lengths(r: &mut Random) -> (usize, usize) {
+type Lengths = (usize, usize);
+fn lengths(r: &mut Random) -> Lengths {
     (r.mostly(32_768, &[32_768, 32_768, 32_767, 0]), r.mostly(30_897, &[31_000, 31_000, 30_896, 0]))
 }
 
 #[test]
 fn one_walk() {
     let (mut r, mut f, mut kinds, mut sound, mut firsts, mut made) = (Random(1), Fold(0), [0; 12], [0; 2], [0; 4], 0);
-    let (mut state, mut store) = (unsafe { raw::key_agent_fresh() }, vec![0; 32_768]);
-    let mut reply = vec![0; 31_000];
+    let (mut w, mut inner, mut inner_calls, mut inner_firsts) = (World::new(), World::new(), 0, 0);
     let (long, mut reading) = (vec![11; 262_145], 0u64);
     let (mut most, mut fullest) = (0, 0);
     while made < CALLS {
         if r.below(300) == 0 {
-            (state, reading) = (unsafe { raw::key_agent_fresh() }, r.next() >> r.below(64));
-            store.fill(0);
+            w.refresh();
+            inner.refresh();
+            reading = r.next() >> r.below(64);
         }
         let mut payload = request(&mut r);
         if r.below(500) == 0 {
@@ -187,27 +224,17 @@ fn one_walk() {
         // as a host does: call, find out, call again
         for _ in 0..6 {
             reading = reading.wrapping_add(r.mostly(100, &[0, 5_000, u64::MAX]));
-            let (store_len, reply_len) = lengths(&mut r);
-            // SAFETY: lengths up to those of the vectors, which do not overlap.
-            let o = unsafe {
-                let (p, s) = (payload.as_ptr(), signature.as_ptr());
-                raw::key_agent_call(
-                    &mut state,
-                    store.as_mut_ptr(),
-                    store_len,
-                    p,
-                    payload.len(),
-                    reading,
-                    a,
-                    s,
-                    signature.len(),
-                    reply.as_mut_ptr(),
-                    reply_len,
-                )
-            };
+            let lengths = lengths(&mut r);
+            let o = w.call(raw::key_agent_call, lengths, &payload, reading, a, &signature);
+            // a store of another length is for the calls from outside alone: refusal 2
+            if lengths.0 == 32_768 {
+                assert_eq!(inner.call(raw::key_agent_inner_call, lengths, &payload, reading, a, &signature), o);
+                inner_calls += 1;
+            }
+            assert!(inner == w, "the same by inner calls and from outside");
             made += 1;
             f.outcome(&o);
-            f.state(&state);
+            f.state(&w.state);
             kinds[if o.kind == 0 { 6 + o.number as usize } else { o.kind as usize }] += 1;
             let said = r.mostly(2, &[0, 1, 3, 255]);
             let number = r.mostly(o.number, &[o.number + 1, 1, 0, r.0]);
@@ -219,7 +246,7 @@ fn one_walk() {
                     (a.signature, a.signature_number) = (said, number);
                     signature = vec![(o.hash >> 8) as u8; r.mostly(64, &[0, 2_048, 2_049])];
                 }
-                5 => f.bytes(&reply[..o.to]),
+                5 => f.bytes(&w.reply[..o.to]),
                 _ => {}
             }
             if o.kind > 4 {
@@ -227,13 +254,14 @@ fn one_walk() {
             }
         }
         if r.percent(10) {
-            f.bytes(&store);
-            f.bytes(&reply);
-            lookups(&state, &store, true);
+            f.bytes(&w.store);
+            f.bytes(&w.reply);
+            lookups(&w.state, &w.store, true);
         }
         // a state and a store with one value changed: sound or not, and a call on them
         if r.percent(20) {
-            let (mut s, mut b) = (state, store.clone());
+            let mut changed = w.clone();
+            let World { state: s, store: b, .. } = &mut changed;
             let starts = starts(&s.columns);
             let (held, end) = (starts.len() - 1, starts[starts.len() - 1]);
             (most, fullest) = (most.max(held), fullest.max(end));
@@ -255,39 +283,47 @@ fn one_walk() {
                 _ => b[32 * n] ^= value as u8,
             }
             // SAFETY: as above.
-            let is = unsafe { raw::key_agent_is_sound(s, b.as_ptr(), b.len()) };
-            lookups(&s, &b, is);
-            lookups(&s, &b[1..], false);
-            // SAFETY: as above.
-            let (is, o) = unsafe {
-                (is, raw::key_agent_call(&mut s, b.as_mut_ptr(), b.len(), [11].as_ptr(), 1, 0, a, [0].as_ptr(), 0, reply.as_mut_ptr(), 30_897))
-            };
+            let is = unsafe { raw::key_agent_is_sound(*s, b.as_ptr(), b.len()) };
+            lookups(s, b, is);
+            lookups(s, &b[1..], false);
+            // an inner call only where it is sound
+            let mut twin = is.then(|| changed.clone());
+            let o = changed.call(raw::key_agent_call, (32_768, 30_897), &[11], 0, a, &[]);
+            if let Some(twin) = &mut twin {
+                assert_eq!(twin.call(raw::key_agent_inner_call, (32_768, 30_897), &[11], 0, a, &[]), o);
+                assert!(*twin == changed, "the same by an inner call and from outside");
+            }
+            let World { state: s, store: b, reply } = &changed;
+            w.reply.copy_from_slice(reply);
+            inner.reply.copy_from_slice(reply);
             sound[is as usize] += 1;
             kinds[9] += !is as usize;
             assert_eq!(is, (o.kind, o.number) != (0, 3), "what is_sound says and refusal 3");
             f.words([is.into()]);
             f.outcome(&o);
-            f.state(&s);
+            f.state(s);
             f.bytes(&b[1_024 * e..][..1_024]);
         }
         let front = [&[0, r.mostly(0, &[4, 5, 255]), 0, r.below(40) as u8][..], &payload].concat();
         // SAFETY: a vector's own length.
         let s = unsafe { raw::key_agent_split(front.as_ptr(), front.len()) };
         f.words([s.kind.into(), s.from as u64, s.to as u64]);
-        let (store_len, reply_len) = lengths(&mut r);
-        // SAFETY: as above.
-        let first = unsafe {
-            let (b, r) = (store.as_mut_ptr(), reply.as_mut_ptr());
-            raw::key_agent_first(&mut state, b, store_len, front.as_ptr(), front.len(), reading, r, reply_len)
-        };
+        let lengths = lengths(&mut r);
+        let first = w.first(raw::key_agent_first, lengths, &front, reading);
+        if lengths.0 == 32_768 {
+            assert_eq!(inner.first(raw::key_agent_inner_first, lengths, &front, reading), first);
+            inner_firsts += 1;
+        }
+        assert!(inner == w, "the same by inner first calls and from outside");
         f.words([first.kind.into(), first.used as u64]);
         f.outcome(&first.outcome);
-        f.state(&state);
-        f.bytes(&reply[..5]);
+        f.state(&w.state);
+        f.bytes(&w.reply[..5]);
         firsts[first.kind as usize] += 1;
     }
     println!(
-        "{made} calls: kinds 1 to 6 {:?}, refusals 1 to 5 {:?}; sound no, yes {sound:?}; first calls 0 to 3 {firsts:?}; {most} keys, {fullest} bytes; {:#x}",
+        "{made} calls: kinds 1 to 6 {:?}, refusals 1 to 5 {:?}; sound no, yes {sound:?}; first calls 0 to 3 {firsts:?}; {most} keys, {fullest} bytes; \
+         beside them {inner_calls} inner calls and {inner_firsts} inner first calls; {:#x}",
         &kinds[1..7],
         &kinds[7..],
         f.0

@@ -1,15 +1,17 @@
 //! compare ORACLE REQUESTS SEED OUT: random requests to the unchanged Rust and to the core, answers and states compared. ORACLE is the program
 //! `scripted`, or `standin` (one request at a time alone).
 //! ../README.md has the rest.
+use differential::both::{Both, CALLS, FIRSTS};
 use differential::held::{Addition, Held, KEYS, STORE};
 use differential::requests::{any_key, comment, constraints, damaged, ed25519_key, rsa_exact, rsa_key, special, text_of, whole, Key};
 use differential::stale::Stale;
 use differential::world::{Landing, World};
 use differential::{hex, string, strings, unhex, without_comments, Random};
-use key_agent::{Gateway, Hash, Reply};
+use key_agent::{Hash, Reply};
 use std::collections::BTreeMap;
 use std::io::{Read, Write};
 use std::process::{Command, Stdio};
+use std::sync::atomic::Ordering;
 
 /// What an output line belongs to: the request's number in its segment, or the list behind it.
 #[derive(Clone, Copy, PartialEq)]
@@ -499,7 +501,7 @@ fn judge_serial(standin: bool, s: &Segment, ours: &[String], rust: &[String], la
 struct Ran {
     ours: Vec<String>,
     landings: Vec<Landing>,
-    gateway: Gateway,
+    gateway: Both,
     clock: u64,
 }
 fn run_core(s: &Segment, w: &mut World, t: &mut Tally) -> Ran {
@@ -524,8 +526,8 @@ fn judge_held(s: &Segment, w: &mut World, t: &mut Tally) {
 
 /// Demand 3 on the running code: the landed requests once more, one at a time in landing order on a fresh gateway, each with the answers lent
 /// at its landing, at the greatest reading accepted so far. Same outcomes, same replies, same end.
-fn replay(landings: &[Landing], mut end: Gateway, clock: u64) -> Result<u64, String> {
-    let mut g = Gateway::new();
+fn replay(landings: &[Landing], mut end: Both, clock: u64) -> Result<u64, String> {
+    let mut g = Both::new();
     let mut reply = Reply::new();
     for (i, l) in landings.iter().enumerate() {
         let o = g.call(l.request.payload(), l.clock, &l.request.answers(), &mut reply);
@@ -536,8 +538,11 @@ fn replay(landings: &[Landing], mut end: Gateway, clock: u64) -> Result<u64, Str
     for gateway in [&mut g, &mut end] {
         gateway.call(Default::default(), clock, &Default::default(), &mut reply);
     }
-    if g != end {
-        return Err(format!("ends differ: {g:?} alone, {end:?} crossing"));
+    if *g != *end {
+        return Err(format!("ends differ: {:?} alone, {:?} crossing", *g, *end));
+    }
+    if let Some(wrong) = g.wrong.into_iter().chain(end.wrong).next() {
+        return Err(wrong);
     }
     Ok(landings.len() as u64)
 }
@@ -730,6 +735,8 @@ fn main() {
     say(format!("lists of the core, each item and its place compared with what the rule holds: {all} items; comments: {empty} empty, {beyond} beyond ASCII, {longest} of 255 bytes"), &mut text);
     say(format!("keys held at a script's end, their blobs, fields and comments compared with what the adds carried: {}", t.told), &mut text);
     say(format!("most keys held at once: {}; most that were gone on time at once: {}", t.most_held, t.most_expired), &mut text);
+    let [calls, firsts] = [&CALLS, &FIRSTS].map(|n| n.load(Ordering::Relaxed));
+    say(format!("calls made twice, as an inner one and from outside, with the same outcome, state, store and reply buffer: {calls}, and {firsts} first calls"), &mut text);
     say(format!("unlisted differences: {}", t.unlisted.len()), &mut text);
     for u in &t.unlisted {
         say(format!("-- UNLISTED\n{u}"), &mut text);

@@ -57,6 +57,10 @@ fn has_secrets(payload: Payload<'_>) -> bool {
     matches!(payload.bytes().first(), Some(17 | 22 | 23 | 25))
 }
 
+fn is_of_lock(payload: Payload<'_>) -> bool {
+    matches!(payload.bytes().first(), Some(22 | 23))
+}
+
 impl Core {
     pub fn new(clock: Clock) -> Core {
         let gateway = Gateway::new();
@@ -78,8 +82,8 @@ impl Core {
         if was_locked || self.is_locked() || began.map_or(false, has_secrets) {
             secret::wipe_stack();
         }
-        if began.is_some() {
-            self.called(reading);
+        if let Some(payload) = began {
+            self.called(payload, reading);
         }
         first
     }
@@ -90,15 +94,22 @@ impl Core {
         if was_locked || self.is_locked() || has_secrets(payload) {
             secret::wipe_stack();
         }
-        self.called(reading);
+        self.called(payload, reading);
         outcome
     }
 
-    /// Settles where keys may have come or gone: that is by a success or on time, and in no other way.
-    fn called(&mut self, reading: u64) {
-        if self.reply.bytes() == SUCCESS || self.due.map_or(false, |due| due <= reading) {
+    /// Settles where keys may have come or gone: that is by a success, but for LOCK's and UNLOCK's, or on time, and in no other way.
+    fn called(&mut self, payload: Payload<'_>, reading: u64) {
+        let has_landed = self.reply.bytes() == SUCCESS;
+        if (has_landed && !is_of_lock(payload)) || self.due.map_or(false, |due| due <= reading) {
             self.settle();
         }
+        self.is_changed |= has_landed;
+    }
+
+    /// The reading of the last call.
+    pub fn reading(&self) -> u64 {
+        self.gateway.clock()
     }
 
     /// The frame of the last call, where it replied.
@@ -120,13 +131,13 @@ impl Core {
     fn settle(&mut self) {
         let (mut held, mut left) = (BTreeMap::new(), None);
         for k in self.gateway.keys() {
-            held.insert(k.number, fingerprint(k.blob));
+            // a number is one key's for good, and so is its fingerprint
+            held.insert(k.number, self.told.remove(&k.number).unwrap_or_else(|| fingerprint(k.blob)));
             left = left.into_iter().chain(k.left).min();
         }
         self.due = left.map(|left: u64| self.gateway.clock().saturating_add(left));
         self.derived.retain(|number, _| held.contains_key(number));
-        let told = std::mem::replace(&mut self.told, held);
-        self.gone.extend(told.into_iter().filter(|(number, _)| !self.told.contains_key(number)));
+        self.gone.extend(std::mem::replace(&mut self.told, held));
         self.is_changed = true;
         secret::wipe_stack();
     }
@@ -148,8 +159,11 @@ impl Core {
         self.derived.get(&number).cloned()
     }
 
-    /// Keeps what a signer derived, while the core holds the key.
+    /// Keeps what a signer derived, while the core holds the key. What is kept already is the same, and is let go by `settle`.
     pub fn keep(&mut self, number: u64, key: Arc<Key>) {
+        if self.derived.contains_key(&number) {
+            return;
+        }
         if self.gateway.key(number).is_some() {
             self.derived.insert(number, key);
         }
@@ -213,7 +227,7 @@ mod tests {
         assert!(core.derived(1).is_some() && core.derived(2).is_none());
         assert!(core.due().is_some());
         assert_eq!(land(&mut core, &[22, 0, 0, 0, 1, 97]), Outcome::Reply);
-        assert!(core.is_locked() && core.shown().is_empty() && core.derived(1).is_none());
+        assert!(core.is_changed() && core.is_locked() && core.shown().is_empty() && core.derived(1).is_none());
         assert_eq!(core.changes().0[0].0, 1);
         assert_eq!(core.due(), None);
     }

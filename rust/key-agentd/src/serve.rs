@@ -227,8 +227,9 @@ impl Loop {
             }
             self.on_later();
             self.on_ready();
-            self.on_time();
-            self.tell_changes();
+            let reading = self.set.clock.reading();
+            self.on_time(reading);
+            self.tell_changes(reading);
         }
     }
 
@@ -298,8 +299,7 @@ impl Loop {
         }
     }
 
-    fn on_time(&mut self) {
-        let reading = self.set.clock.reading();
+    fn on_time(&mut self, reading: u64) {
         if self.core.due().map_or(false, |due| due <= reading) {
             self.core.let_go();
         }
@@ -368,7 +368,7 @@ impl Loop {
         }
     }
 
-    fn tell_changes(&mut self) {
+    fn tell_changes(&mut self, reading: u64) {
         if self.core.is_changed() || self.panel.has_wishes() {
             self.core.let_go(); // so that what is told is as of now
         }
@@ -382,7 +382,7 @@ impl Loop {
         if self.panel.has_wishes() {
             self.panel.grant_wishes(self.core.is_locked(), &self.core.shown());
         }
-        for token in self.panel.unread(self.set.clock.reading()) {
+        for token in self.panel.unread(reading) {
             self.close_panel(token, "closed: the panel does not read");
         }
         for (token, fd, has_unread) in self.panel.retold() {

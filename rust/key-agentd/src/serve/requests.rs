@@ -110,7 +110,7 @@ impl Loop {
                     self.set.log.write(Level::Info, &c.name, &names::message(c.payload().bytes()), &text);
                 }
                 c.drop_front(request.used);
-                c.active = self.set.clock.reading();
+                c.active = self.core.reading();
                 Ok(c.send(self.core.reply())?)
             }
         }
@@ -240,8 +240,10 @@ impl Loop {
                 result
             }
         };
-        let text = format!("{}? {result}", request.what);
-        self.set.log.write(Level::Info, &c.name, &names::message(c.payload().bytes()), &text);
+        if self.set.log.has(Level::Info) {
+            let text = format!("{}? {result}", request.what);
+            self.set.log.write(Level::Info, &c.name, &names::message(c.payload().bytes()), &text);
+        }
         self.go_on(token, c)?;
         self.take_turn(token, c)
     }
