@@ -1,9 +1,16 @@
 -- Refusals 1 to 3 by their tests; past them the state is sound, and the rest is `inner_lent`'s. Assumes nothing.
+use Rattle.table.specs.declared.Columns.{Columns}
 use Rattle.table.specs.Entries.{columns}
 use Rattle.server.proofs.CallLaws.{refused-as, refuses-1, refuses-2, refuses-3, sound-told}
 use borrow.Author.Needs.{needs}
 use Rattle.engine.proofs.call.call_lent.Statement.{statement}
 use Rattle.engine.proofs.call.call_lent.Tie as tie
+
+-- the columns that are lent
+abbrev lent-columns : tie.Start → Columns
+lent-columns start =
+    let a = start .args in
+    columns (a .numbers .now) (a .readings .now) (a .blob-lens .now) (a .fields-lens .now) (a .comment-lens .now) (a .seconds .now) (a .limited .now) (a .confirm .now)
 
 -- what is too far back for a search from the function's end
 abbrev began : tie.Else2 → tie.Start
@@ -15,14 +22,12 @@ sized-at c = search
 returns : tie.Need-returns
 returns c =
     let start : tie.Start = search in
-    let a = start .args in
-    refuses-1 _ _ _ _ _ _ _ _ (c .before .if1 .taken) (refused-as (columns (a .numbers .now) (a .readings .now) (a .blob-lens .now) (a .fields-lens .now) (a .comment-lens .now) (a .seconds .now) (a .limited .now) (a .confirm .now)) (a .passphrase .now) _ _ _ (c .refused .ensures))
+    refuses-1 _ _ _ _ _ _ _ _ (c .before .if1 .taken) (refused-as (lent-columns start) (start .args .passphrase .now) _ _ _ (c .refused .ensures))
 
 returns-2 : tie.Need-returns-2
 returns-2 c =
     let start : tie.Start = search in
-    let a = start .args in
-    refuses-2 _ _ _ _ _ _ _ _ (c .before .before .if1 .left) (c .before .if2 .taken) (refused-as (columns (a .numbers .now) (a .readings .now) (a .blob-lens .now) (a .fields-lens .now) (a .comment-lens .now) (a .seconds .now) (a .limited .now) (a .confirm .now)) (a .passphrase .now) _ _ _ (c .refused2 .ensures))
+    refuses-2 _ _ _ _ _ _ _ _ (c .before .before .if1 .left) (c .before .if2 .taken) (refused-as (lent-columns start) (start .args .passphrase .now) _ _ _ (c .refused2 .ensures))
 
 returns-3 : tie.Need-returns-3
 returns-3 c =
@@ -30,8 +35,7 @@ returns-3 c =
     let asked : tie.After-is-sound = search in
     let sized = sized-at asked in
     let start = began sized in
-    let a = start .args in
-    refuses-3 _ _ _ _ _ _ _ _ _ (sized .before .if1 .left) (sized .if2 .left) (tested .if3 .taken) (asked .is-sound .ensures) (refused-as (columns (a .numbers .now) (a .readings .now) (a .blob-lens .now) (a .fields-lens .now) (a .comment-lens .now) (a .seconds .now) (a .limited .now) (a .confirm .now)) (a .passphrase .now) _ _ _ (c .refused3 .ensures))
+    refuses-3 _ _ _ _ _ _ _ _ _ (sized .before .if1 .left) (sized .if2 .left) (tested .if3 .taken) (asked .is-sound .ensures) (refused-as (lent-columns start) (start .args .passphrase .now) _ _ _ (c .refused3 .ensures))
 
 inner-lent-requires : tie.Need-inner-lent-requires
 inner-lent-requires c κs =
