@@ -164,7 +164,7 @@ pub fn first_call(
 }
 
 // The inner call (#113), by value: `call` on a state and store that are known to be sound.
-// Its `requires` is met by the Rust crate's Gateway, whose state only ever comes from the core.
+// For a Rattle program that owns its state, from `fresh` or behind a call that was not refused; none here does.
 pub fn inner_call(
     state: State,
     store: &mut [u8],
@@ -213,8 +213,8 @@ pub fn inner_call(
         reply,
     );
     let outcome = landed.outcome;
-    let after = landed.kept;
-    let clock = after.clock;
+    let left = landed.kept;
+    let clock = left.clock;
     let columns = Columns {
         numbers,
         readings,
@@ -227,19 +227,19 @@ pub fn inner_call(
     };
     let lock = LockRecord {
         bytes: passphrase,
-        len: after.locked,
+        len: left.locked,
     };
     let state = State {
         columns,
         lock,
         clock,
-        next: after.next,
+        next: left.next,
     };
     Called { outcome, state }
 }
 
 // The inner first call (#113), by value: `first_call` on a state and store that are known to be sound.
-// Its `requires` is met by the Rust crate's Gateway, whose state only ever comes from the core.
+// For a Rattle program that owns its state, from `fresh` or behind a call that was not refused; none here does.
 pub fn inner_first_call(
     state: State,
     store: &mut [u8],

@@ -1,5 +1,5 @@
--- Runs of inner calls (#113): "a run that starts with the outer call or from fresh and goes on with inner ones equals the run of outer calls, byte for
--- byte". The proofs are in proofs/InnerRuns.antt; four relations say what kinds of calls these are, in crate gateway those of the exports.
+-- Runs of inner calls (#113): one that begins with an outer call, or from a fresh state, and goes on with inner ones is the run of outer calls, byte for
+-- byte. The proofs are in proofs/InnerRuns.antt; four relations say what kinds of calls these are, in crate gateway those of the exports.
 use Prim.Native.Nat.{ℕ}
 use mathlib.Core.Path.{_≡_}
 use mathlib.Core.Bool.{true}
