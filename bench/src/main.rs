@@ -14,6 +14,7 @@ use agent_oracle::scripted;
 use key_agent::{split, Answers, First, Gateway, Numbered, Outcome, Payload, Question, Reply};
 use keys::{s, Key, COMMENT, SETS};
 use outer::Outer;
+use std::cell::OnceCell;
 use std::hint::black_box;
 use std::sync::Arc;
 use std::time::Instant;
@@ -66,6 +67,30 @@ fn signature(kind: &[u8], data: &[u8]) -> Vec<u8> {
         all.extend_from_slice(part);
     }
     all
+}
+
+/// A whole request by inner calls, each question answered as it comes.
+fn inner_asked(g: &mut Gateway, reply: &mut Reply, kind: &[u8], frame: &[u8]) {
+    let (made, mut a) = (OnceCell::new(), Answers::default());
+    let First::Began { payload, outcome, .. } = g.first(frame, 5, reply) else { panic!("no whole frame") };
+    let mut has_landed = meets(outcome, payload, kind, &made, &mut a);
+    while !has_landed {
+        has_landed = meets(g.call(payload, 5, &a, reply), payload, kind, &made, &mut a);
+    }
+}
+/// Answers a question; or the request has landed.
+#[inline(always)]
+fn meets<'a>(outcome: Outcome, p: Payload<'_>, kind: &[u8], made: &'a OnceCell<Vec<u8>>, a: &mut Answers<'a>) -> bool {
+    match outcome {
+        Outcome::Reply => return true,
+        Outcome::Asks(Question::Gate(_)) => a.gate = Some(true),
+        Outcome::Asks(Question::Check(_)) => a.check = Some(true),
+        Outcome::Asks(Question::Signature { number, data, .. }) => {
+            a.signature = Some(Numbered { number, answer: Some(made.get_or_init(|| signature(kind, p.part(&data)))) });
+        }
+        _ => panic!("neither a question of these works nor a reply"),
+    }
+    false
 }
 
 /// `lent`: the last key's signature and number. `kind`: its type.
@@ -140,24 +165,7 @@ impl Side {
                 let a = Answers { gate: Some(true), check: Some(true), confirmation: None, signature };
                 assert!(matches!(g.call(p, 5, &a, reply), Outcome::Reply));
             }
-            Side::InnerAsked { g, reply, kind } => {
-                let (mut gate, mut check, mut made) = (None, None, None::<(u64, Vec<u8>)>);
-                let (p, mut outcome) = match g.first(frame, 5, reply) {
-                    First::Began { payload, outcome, .. } => (payload, outcome),
-                    other => panic!("{other:?}"),
-                };
-                loop {
-                    match outcome {
-                        Outcome::Reply => break,
-                        Outcome::Asks(Question::Gate(_)) => gate = Some(true),
-                        Outcome::Asks(Question::Check(_)) => check = Some(true),
-                        Outcome::Asks(Question::Signature { number, data, .. }) => made = Some((number, signature(kind, p.part(&data)))),
-                        o => panic!("{o:?}"),
-                    }
-                    let signature = made.as_ref().map(|(number, sig)| Numbered { number: *number, answer: Some(&sig[..]) });
-                    outcome = g.call(p, 5, &Answers { gate, check, confirmation: None, signature }, reply);
-                }
-            }
+            Side::InnerAsked { g, reply, kind } => inner_asked(g, reply, kind, frame),
             Side::Outer { o, lent, number } => o.call(p.bytes(), *number, lent),
             Side::OuterAsked { o, kind } => o.asked(frame, |data| signature(kind, data)),
             Side::Table { t, reply, lent, number } => {
@@ -173,7 +181,7 @@ impl Side {
                         table::Outcome::Gate(_) => gate = Some(true),
                         table::Outcome::Check(..) => check = Some(true),
                         table::Outcome::Sign(number, from, to, _) => made = Some((number, signature(kind, &p.bytes()[from..to]))),
-                        o => panic!("{o:?}"),
+                        _ => panic!("neither a question of these works nor a reply"),
                     }
                 }
             }
