@@ -1,6 +1,7 @@
 /* calls SET REQUEST CALLS: a gateway holds the keys of SET, with comments of ten bytes, and REQUEST is made CALLS times in each of four ways: by one
  * call with all answers lent, and by a first call on its frame, each from outside and inner; always on the same state. Each way stands between
  * `began` and `ended`, and is named before it; behind it is printed how many bytes of other entries one call moves.
+ * A request with + behind it has bytes behind it, up to the longest payload; `confirms` is an add with 1,000 constraints, `confirms+` with 2,000.
  * Without words: the sets; with one: the requests. Status 0 where every reply was the one that the request asks for, and an inner call comes to the
  * same outcome, state, store and reply as the one from outside. */
 #include "keys.h"
@@ -14,7 +15,7 @@ enum { FAILURE = 5, SUCCESS = 6, LIST = 11, LISTED = 12, SIGN = 13, SIGNED = 14,
 
 static key_agent_state state, kept;
 uint8_t store[KEY_AGENT_STORE_BYTES];
-static uint8_t kept_store[KEY_AGENT_STORE_BYTES], reply[KEY_AGENT_REPLY_BYTES], signature[100], frame[4100], *const payload = frame + 4;
+static uint8_t kept_store[KEY_AGENT_STORE_BYTES], reply[KEY_AGENT_REPLY_BYTES], signature[100], frame[4 + KEY_AGENT_PAYLOAD_BYTES], *const payload = frame + 4;
 static size_t size; /* of the payload */
 static uint64_t reading;
 static key keys[MOST_KEYS];
@@ -63,7 +64,7 @@ static int answer(__typeof__(key_agent_call) *call) {
 
 /* 0 where a question is open */
 static int answer_first(__typeof__(key_agent_first) *first) {
-    const uint8_t length[4] = {0, 0, (uint8_t)(size >> 8), (uint8_t)size};
+    const uint8_t length[4] = {0, (uint8_t)(size >> 16), (uint8_t)(size >> 8), (uint8_t)size};
     memcpy(frame, length, 4);
     key_agent_first_result f = first(&state, store, sizeof store, frame, size + 4, (key_agent_millis){reading}, reply, sizeof reply);
     if (f.kind != KEY_AGENT_FIRST_BEGAN || f.used != size + 4) return -1;
@@ -109,8 +110,14 @@ static size_t moved(void) {
     return n;
 }
 
+/* so many constraints behind an add, each of them Confirm */
+static void confirm(size_t n) {
+    memset(payload + size, 2, n);
+    size += n;
+}
+
 /* Makes the payload; gives the message of the reply that must come, 0 for an unknown request. */
-static int ask(const char *request) {
+static int ask_plain(const char *request) {
     const key *first = &keys[0], *last = &keys[held - 1];
     if (!strcmp(request, "list")) return begin(LIST), LISTED;
     if (!strcmp(request, "sign")) return sign(last), SIGNED;
@@ -123,7 +130,22 @@ static int ask(const char *request) {
     if (!strcmp(request, "longer-first")) return add(ADD, first, 2 * COMMENT), SUCCESS;
     if (!strcmp(request, "shorter-first")) return add(ADD, first, COMMENT / 2), SUCCESS;
     if (!strcmp(request, "expire")) return size = 0, reading = 1000, FAILURE;
+    if (!strcmp(request, "confirms")) return add(CONSTRAINED, last, COMMENT), confirm(1000), SUCCESS;
     return 0;
+}
+
+static int ask(const char *request) {
+    char plain[20] = {0};
+    size_t n = strlen(request);
+    if (n >= sizeof plain) return 0;
+    if (!n || request[n - 1] != '+') return ask_plain(request);
+    memcpy(plain, request, n - 1);
+    int wanted = ask_plain(plain);
+    if (payload[0] == CONSTRAINED) return confirm(1000), wanted;
+    if (!size) return 0;
+    memset(payload + size, 255, KEY_AGENT_PAYLOAD_BYTES - size);
+    size = KEY_AGENT_PAYLOAD_BYTES;
+    return wanted;
 }
 
 static void restore(void) {
@@ -158,13 +180,13 @@ int main(int n, char **word) {
     if (n < 4) {
         if (n == 1)
             for (const char *const *set = SETS; *set; set++) puts(*set);
-        if (n == 2) puts("list sign add lock unlock empty remove-last remove-first longer-first shorter-first expire");
+        if (n == 2) puts("list sign add lock unlock empty remove-last remove-first longer-first shorter-first expire list+ sign+ add+ lock+ unlock+ remove-last+ confirms confirms+");
         return n > 2;
     }
     setvbuf(stdout, 0, _IONBF, 0);
     held = make_set(keys, word[1]);
     if (!held || !hold(!strcmp(word[2], "expire"))) return 3;
-    if (!strcmp(word[2], "unlock") && (ask("lock") != SUCCESS || answer(key_agent_call) != SUCCESS)) return 3;
+    if (!strncmp(word[2], "unlock", 6) && (ask("lock") != SUCCESS || answer(key_agent_call) != SUCCESS)) return 3;
     int wanted = ask(word[2]);
     if (!wanted) return 3;
     kept = state;
