@@ -1,10 +1,12 @@
 /* passphrase LENGTH: a gateway is locked by LENGTH bytes, and an UNLOCK lands for each place of the first unequal byte, twice: with that byte alone
  * changed, in one bit, and with all bytes from there on, in every bit. The last one has the passphrase itself. Status 0 where all but the last failed
  * and left the lock as it was, and the last opened. steps.c looks at what is executed between `began` and `ended`: one call each time, and how it is
- * handed its arguments. */
+ * handed its arguments. CALL: key_agent_call, or key_agent_inner_call, which the header does not have: the state here comes from the core alone. */
 #include "key_agent.h"
 #include <stdlib.h>
 #include <string.h>
+
+__typeof__(key_agent_call) CALL;
 
 enum { FAILURE = 5, SUCCESS = 6, LOCK = 22, UNLOCK = 23, LONGEST = 1024 };
 
@@ -20,8 +22,8 @@ __attribute__((noinline)) static int answer(uint8_t request, size_t length) {
     payload[3] = (uint8_t)(length >> 8);
     payload[4] = (uint8_t)length;
     began();
-    key_agent_outcome o = key_agent_call(&state, store, sizeof store, payload, 5 + length, (key_agent_millis){0},
-                                         (key_agent_answers){.gate = KEY_AGENT_YES}, payload, 0, reply, sizeof reply);
+    key_agent_outcome o = CALL(&state, store, sizeof store, payload, 5 + length, (key_agent_millis){0},
+                               (key_agent_answers){.gate = KEY_AGENT_YES}, payload, 0, reply, sizeof reply);
     ended();
     return o.kind == KEY_AGENT_REPLY && o.to == 5 ? reply[4] : 0;
 }

@@ -327,6 +327,19 @@ fn said(answer: Option<bool>) -> u8 {
     answer.map_or(0, |yes| 1 + u8::from(yes))
 }
 
+/// The answers of gate and check alone, each as `said` has it. A call copies its answers in words: were their bytes written one by one just before, the
+/// processor would wait for them, for a fifth of the time that a short call takes.
+static SAID: [[raw::FlatAnswers; 3]; 3] = {
+    let none = raw::FlatAnswers { gate: 0, check: 0, confirmation: 0, signature: 0, confirmation_number: 0, signature_number: 0 };
+    let mut all = [[none; 3]; 3];
+    let mut i = 0;
+    while i < 9 {
+        all[i / 3][i % 3] = raw::FlatAnswers { gate: (i / 3) as u8, check: (i % 3) as u8, ..none };
+        i += 1;
+    }
+    all
+};
+
 impl<'a> Answers<'a> {
     #[inline]
     fn flat(&self) -> (raw::FlatAnswers, &'a [u8]) {
@@ -508,12 +521,11 @@ impl Gateway {
     /// The function is one of the two that the archive exports for it; the inner one asks for a sound state and store.
     #[inline(always)]
     unsafe fn call_by(&mut self, call: raw::Call, payload: Payload<'_>, reading: u64, answers: &Answers<'_>, reply: &mut Reply) -> raw::FlatOutcome {
-        let (flat, signature) = answers.flat();
         let (store, payload, reply) = (&mut self.store[..], payload.0, &mut reply.buffer[..]);
         // SAFETY: every pointer comes from a reference or a slice, so it is not null, and its length goes with it; the three that are written
         // (state, store, reply) are borrowed mutably here, so they overlap with nothing. The core reads no byte behind a length and keeps no
         // pointer.
-        unsafe {
+        let mut call = |flat, signature: &[u8]| unsafe {
             call(
                 &mut *self.state,
                 store.as_mut_ptr(),
@@ -527,6 +539,13 @@ impl Gateway {
                 reply.as_mut_ptr(),
                 reply.len(),
             )
+        };
+        match answers {
+            Answers { gate, check, confirmation: None, signature: None } => call(SAID[usize::from(said(*gate))][usize::from(said(*check))], &[]),
+            _ => {
+                let (flat, signature) = answers.flat();
+                call(flat, signature)
+            }
         }
     }
 
