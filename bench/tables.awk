@@ -61,7 +61,9 @@ END {
         table("Thousands of whole requests a second, by the middle round.", "rate", whole, labels)
     }
     head("Instructions inside.", "Part")
-    split("the soundness test in a call from outside,the table's test,`key_agent_is_sound` with the state's copy,one inner list: the core's part,one inner signature: the core's part,the crate and the bench around one inner call,and around the two of a list,the signer of russh,that of the other sides", part, ",")
+    split("the soundness test in a call from outside,the table's test,`key_agent_is_sound` with the state's copy,one inner list: the core's part," \
+        "one inner signature: the core's part,the crate and the bench around one inner call,and around the two of a list,the signer of russh," \
+        "that of the other sides", part, ",")
     for (j = 1; j <= 9; j++) {
         line = "| " part[j] " |"
         for (i = 1; i <= k; i++) {

@@ -1,9 +1,9 @@
 //! bench agree: do all sides give the same replies? bench times ROUNDS: nanoseconds per request of the sides, alternating. bench count SET: each work
 //! by each side, for counting from outside what is inside `measured`, between `began` and `ended`. Without words: the sets.
 //! Sides: inner (the proved library's inner calls, through the crate), outer (its calls from outside, as C has them), table (the same table in Rust,
-//! with its test at each call), bare (that without), russh (the unchanged `respond`). Of the first four: one call on the payload with all answers lent.
-//! `..-asked`: the calls of the loop, each question answered as it comes; the library's first one is from the frame. `signer`: the signer that russh has
-//! here, alone; `own`: that of the other sides.
+//! with its test at each call), bare (that without), russh (the unchanged `respond`). Of the first four: one call on the payload with all answers
+//! lent. `..-asked`: the calls of the loop, each question answered as it comes; the library's first one is from the frame. `signer`: the signer that
+//! russh has here, alone; `own`: that of the other sides.
 mod keys;
 mod outer;
 mod table;

@@ -1,6 +1,6 @@
 //! The same table as the core's in plain safe Rust, for comparing speed: up to 24 entries as columns, a store of 32,768 bytes in which blob, key
-//! fields and comment of each stand packed in list order, the soundness test at each call or at none. Written straightforwardly from 01 and #112, with
-//! slices' own comparisons and moves; nothing is proved of it, and it is no part of the agent.
+//! fields and comment of each stand packed in list order, the soundness test at each call or at none. Written straightforwardly from 01 and #112,
+//! with slices' own comparisons and moves; nothing is proved of it, and it is no part of the agent.
 use std::ops::Range;
 
 pub const STORE: usize = 32_768;

@@ -1,5 +1,5 @@
-//! A gateway, each of whose calls is made twice: by the crate, which makes the inner call, and from outside, with the soundness test, on a copy of state,
-//! store and reply buffer. Both must come to the same, to the last byte.
+//! A gateway, each of whose calls is made twice: by the crate, which makes the inner call, and from outside, with the soundness test, on a copy of
+//! state, store and reply buffer. Both must come to the same, to the last byte.
 #[allow(dead_code)]
 #[path = "../../rust/src/raw.rs"]
 mod raw;

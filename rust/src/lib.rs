@@ -327,8 +327,8 @@ fn said(answer: Option<bool>) -> u8 {
     answer.map_or(0, |yes| 1 + u8::from(yes))
 }
 
-/// The answers of gate and check alone, each as `said` has it. A call copies its answers in words: were their bytes written one by one just before, the
-/// processor would wait for them, for a fifth of the time that a short call takes.
+/// The answers of gate and check alone, each as `said` has it. A call copies its answers in words: were their bytes written one by one just before,
+/// the processor would wait for them, for a fifth of the time that a short call takes.
 static SAID: [[raw::FlatAnswers; 3]; 3] = {
     let none = raw::FlatAnswers { gate: 0, check: 0, confirmation: 0, signature: 0, confirmation_number: 0, signature_number: 0 };
     let mut all = [[none; 3]; 3];
@@ -509,9 +509,9 @@ impl Gateway {
     /// the kept one). `answers` are those that this request has so far.
     #[inline]
     pub fn call(&mut self, payload: Payload<'_>, reading: u64, answers: &Answers<'_>, reply: &mut Reply) -> Outcome {
-        // SAFETY: the inner call asks for a sound state and store. Both fields are private, made by `fresh` with a store of zeros (or as a copy of such
-        // a pair), and afterwards written by these calls alone, each of which leaves them sound. The self test alters a state to which it makes no
-        // inner call.
+        // SAFETY: the inner call asks for a sound state and store. Both fields are private, made by `fresh` with a store of zeros (or as a copy of
+        // such a pair), and afterwards written by these calls alone, each of which leaves them sound. The self test alters a state to which it makes
+        // no inner call.
         let o = unsafe { self.call_by(raw::key_agent_inner_call, payload, reading, answers, reply) };
         Outcome::of(o, reply)
     }
