@@ -71,7 +71,7 @@ static int answer_first(__typeof__(key_agent_first) *first) {
     return f.outcome.kind == KEY_AGENT_REPLY ? reply[4] : f.outcome.kind == KEY_AGENT_ASK_GATE ? 0 : -1;
 }
 
-/* Every second key, from the first on, has a lifetime of a second where `limited` says so. */
+/* Every second key, from the first on, has a lifetime of a second where `limited` says so: they wait for it, or expire. */
 static int hold(int limited) {
     state = key_agent_fresh();
     for (size_t i = 0; i < held; i++) {
@@ -129,6 +129,7 @@ static int ask_plain(const char *request) {
     if (!strcmp(request, "remove-first")) return remove_key(first), SUCCESS;
     if (!strcmp(request, "longer-first")) return add(ADD, first, 2 * COMMENT), SUCCESS;
     if (!strcmp(request, "shorter-first")) return add(ADD, first, COMMENT / 2), SUCCESS;
+    if (!strcmp(request, "waiting")) return size = 0, FAILURE;
     if (!strcmp(request, "expire")) return size = 0, reading = 1000, FAILURE;
     if (!strcmp(request, "confirms")) return add(CONSTRAINED, last, COMMENT), confirm(1000), SUCCESS;
     return 0;
@@ -180,12 +181,12 @@ int main(int n, char **word) {
     if (n < 4) {
         if (n == 1)
             for (const char *const *set = SETS; *set; set++) puts(*set);
-        if (n == 2) puts("list sign add lock unlock empty remove-last remove-first longer-first shorter-first expire list+ sign+ add+ lock+ unlock+ remove-last+ confirms confirms+");
+        if (n == 2) puts("list sign add lock unlock empty remove-last remove-first longer-first shorter-first waiting expire list+ sign+ add+ lock+ unlock+ remove-last+ confirms confirms+");
         return n > 2;
     }
     setvbuf(stdout, 0, _IONBF, 0);
     held = make_set(keys, word[1]);
-    if (!held || !hold(!strcmp(word[2], "expire"))) return 3;
+    if (!held || !hold(!strcmp(word[2], "expire") || !strcmp(word[2], "waiting"))) return 3;
     if (!strncmp(word[2], "unlock", 6) && (ask("lock") != SUCCESS || answer(key_agent_call) != SUCCESS)) return 3;
     int wanted = ask(word[2]);
     if (!wanted) return 3;
