@@ -1,5 +1,6 @@
-/* The key agent for C: what the archive of the crate gateway exports. rust/archive makes it, for x86-64 Linux and
- * aarch64 Linux.
+/* The key agent for C: seven functions of the archive of the crate gateway. rust/archive makes it, for x86-64 Linux and
+ * aarch64 Linux. It exports two more, which ask for a sound state and test nothing: they are for the Rust crate, which
+ * owns its state. A call from here keeps the test.
  *
  * The agent decides and keeps; sockets, clock, panel, key check and signer stay on this side. The first call of a request is handed the bytes of
  * its connection, each later one the request's payload and the answers so far; a call hands back a question, a reply, or a close. What it promises

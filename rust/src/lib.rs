@@ -510,7 +510,7 @@ impl Gateway {
     #[inline]
     pub fn call(&mut self, payload: Payload<'_>, reading: u64, answers: &Answers<'_>, reply: &mut Reply) -> Outcome {
         // SAFETY: the inner call asks for a sound state and store. Both fields are private, made by `fresh` with a store of zeros (or as a copy of
-        // such a pair), and afterwards written by these calls alone, each of which leaves them sound. The self test alters a state to which it makes
+        // such a pair), and afterwards written by these calls alone (and at its end by `drop`), each of which leaves them sound. The self test alters a state to which it makes
         // no inner call.
         let o = unsafe { self.call_by(raw::key_agent_inner_call, payload, reading, answers, reply) };
         Outcome::of(o, reply)

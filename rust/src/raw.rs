@@ -152,7 +152,7 @@ extern "C" {
         reply_len: usize,
     ) -> FlatFirst;
     // The inner calls: as the two above, with no soundness test. They ask for a state and a store that are sound, the store of its length, and leave
-    // them so; on any other nothing is promised, not even that they stay within the store. So they are declared here alone, and not in the header.
+    // them so; on any other nothing is promised, not even that they stay within the store. So they are not in the header: of what is published they are declared here alone.
     pub fn key_agent_inner_call(
         state: *mut State,
         store: *mut u8,

@@ -164,7 +164,7 @@ pub fn first_call(
 }
 
 // The inner call (#113), by value: `call` on a state and store that are known to be sound.
-// For a Rattle program that owns its state, from `fresh` or behind a call that was not refused; none here does.
+// For a Rattle program that owns its state, from `fresh` on or once a call has tested it; none here does.
 pub fn inner_call(
     state: State,
     store: &mut [u8],
@@ -239,7 +239,7 @@ pub fn inner_call(
 }
 
 // The inner first call (#113), by value: `first_call` on a state and store that are known to be sound.
-// For a Rattle program that owns its state, from `fresh` or behind a call that was not refused; none here does.
+// For a Rattle program that owns its state, from `fresh` on or once a call has tested it; none here does.
 pub fn inner_first_call(
     state: State,
     store: &mut [u8],

@@ -1,4 +1,4 @@
-// What C and Rust link. include/key_agent.h says what the other side must keep.
+// What C and Rust link. include/key_agent.h says what the other side must keep; of the inner calls, their `requires`.
 use flat::FlatAnswers;
 use flat::FlatFirst;
 use flat::FlatOutcome;
@@ -73,8 +73,8 @@ pub extern "C" fn key_agent_first(
     first_of(first)
 }
 
-// The inner calls (#113) test neither state nor store, and are not in the C header: the Rust crate alone declares them, behind a type whose state and
-// store only ever come from the core.
+// The inner calls (#113) test neither state nor store, and are not in the C header: of what is published the Rust crate alone declares them, behind a
+// type whose state and store only ever come from the core.
 #[no_mangle]
 pub extern "C" fn key_agent_inner_call(
     state: &mut State,
