@@ -49,7 +49,8 @@ fn land_inner(
     )
 }
 
-// Calls the covered step, and stores the new state: what came back by value.
+// Calls the covered step, and stores the new state: what came back by value. Who calls the exported inner call meets the `requires`: the Rust crate's
+// Gateway, whose state only ever comes from the core.
 pub fn serve_inner(
     state: &mut State,
     store: &mut [u8],
@@ -115,7 +116,7 @@ fn hear_inner(
     )
 }
 
-// As `serve_inner`, of the first call of a request.
+// As `serve_inner`, of the first call of a request; its `requires` is met as there.
 pub fn serve_first_inner(
     state: &mut State,
     store: &mut [u8],
