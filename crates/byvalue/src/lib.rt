@@ -1,4 +1,6 @@
 // A call, and the first call of a request, on a state by value; and the inner ones, which require a sound state and store.
+#![tactic(auto)]
+
 ghost use Rattle.table.specs.Soundness.{Sound};
 ghost use Rattle.server.specs.Calls.{Meets};
 ghost use Rattle.server.specs.First.{FirstMeets};
@@ -11,7 +13,7 @@ use rule::Millis;
 use server::first::First;
 use table::{Columns, Kept, LockRecord, State};
 
-#[derive(Drop)]
+#[derive(Clone, Copy)]
 pub struct FirstCalled {
     pub first: First,
     pub state: State,

@@ -4,7 +4,7 @@ use libc::STDIN_FILENO;
 use rule::Millis;
 use wire::read::{Cursor, Number, Octet};
 
-#[derive(Drop)]
+#[derive(Clone, Copy)]
 pub struct Head {
     pub reading: Millis,
     pub answers: FlatAnswers,
@@ -13,21 +13,21 @@ pub struct Head {
     pub signature: usize,
 }
 
-#[derive(Drop)]
+#[derive(Clone, Copy)]
 pub enum Headed {
     Of(Head),
     Malformed,
 }
 
 // A number of eight bytes, and the place behind it.
-#[derive(Drop)]
+#[derive(Clone, Copy)]
 enum Wide {
     Value(u64, Cursor),
     Malformed,
 }
 
 // The four answers in one number, a byte each, and the place behind them.
-#[derive(Drop)]
+#[derive(Clone, Copy)]
 enum Words {
     Of {
         gate: u8,
@@ -39,7 +39,7 @@ enum Words {
     Malformed,
 }
 
-#[derive(Drop)]
+#[derive(Clone, Copy)]
 enum Answered {
     Of(FlatAnswers, Cursor),
     Malformed,
@@ -150,7 +150,7 @@ pub(crate) fn read_head() -> Headed {
     head_in(&bytes)
 }
 
-#[derive(Drop)]
+#[derive(Clone, Copy)]
 pub enum Length {
     Of(usize),
     Malformed,

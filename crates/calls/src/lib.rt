@@ -7,6 +7,8 @@
 //   02  a fresh state
 //   23  a text: its length (4 bytes), then its bytes, written as a line
 // Numbers are big-endian. A record that is cut, unknown or beyond the limits ends the run with the line `malformed`.
+#![tactic(auto)]
+
 mod head;
 mod say;
 
@@ -21,7 +23,7 @@ use table::{State, fresh};
 use wire::limits;
 
 // What a record leaves: whether to go on, and the state.
-#[derive(Drop)]
+#[derive(Clone, Copy)]
 struct Turn {
     more: bool,
     state: State,

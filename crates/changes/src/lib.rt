@@ -1,4 +1,6 @@
 // Changing the entries of a sound state: keys go on time or on request, and new ones come. Only a call that has tested soundness comes here.
+#![tactic(auto)]
+
 ghost use Rattle.std.specs.Prelude.{◌≡◌, List, ℕ, ◌<◌, length};
 ghost use Rattle.wire.specs.Limits.{entries_limit};
 ghost use Rattle.rule.specs.Gateway.{lasting, advance, with_entries, without, without_all, new_entry, with_entry};

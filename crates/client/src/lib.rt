@@ -1,2 +1,4 @@
 // The client's side: request writers.
+#![tactic(auto)]
+
 pub mod writers;

@@ -15,7 +15,7 @@ use wire::limits;
 use wire::read::cut;
 
 // What a first call came to, where the rest of the state is lent.
-#[derive(Drop)]
+#[derive(Clone, Copy)]
 pub struct Heard {
     pub first: First,
     pub kept: Kept,

@@ -1,4 +1,6 @@
 // The core: a call, and the first call of a request, over a state whose parts are lent. `call_lent` and `first_lent` require nothing;
 // `inner_lent` and `inner_first_lent` require a sound state and store.
+#![tactic(auto)]
+
 pub mod call;
 pub mod first;

@@ -1,4 +1,6 @@
 // Runs outside vectors over client and readers, and writes how many agree. make.py writes the input, and says where its vectors come from.
+#![tactic(auto)]
+
 mod agree;
 mod judge;
 mod parts;

@@ -4,14 +4,14 @@ use wire::read::{Cursor, Number, Octet, Part};
 use wire::{Constraint, Seconds};
 
 // Bytes, and as many letters behind them.
-#[derive(Drop)]
+#[derive(Clone, Copy)]
 pub struct Piece {
     pub bytes: Span,
     pub letters: usize,
 }
 
 // A request's message number and parts; those that it does not have are empty.
-#[derive(Drop)]
+#[derive(Clone, Copy)]
 pub struct Request {
     pub message: u8,
     pub first: Piece,
@@ -20,40 +20,40 @@ pub struct Request {
 }
 
 // The number of a refusal, 0 where there is none, and the place of its fault, 0 where it has none.
-#[derive(Drop)]
+#[derive(Clone, Copy)]
 pub struct Why {
     pub number: u8,
     pub place: usize,
 }
 
 // What a writer is to do: its refusal, and what it writes.
-#[derive(Drop)]
+#[derive(Clone, Copy)]
 pub struct Writing {
     pub refusal: Why,
     pub front: Piece,
     pub tail: Span,
 }
 
-#[derive(Drop)]
+#[derive(Clone, Copy)]
 pub enum Pieced {
     Value(Piece, Cursor),
     Malformed,
 }
 
-#[derive(Drop)]
+#[derive(Clone, Copy)]
 pub enum Requested {
     Value(Request, Cursor),
     Malformed,
 }
 
-#[derive(Drop)]
+#[derive(Clone, Copy)]
 pub enum Limit {
     Value(Constraint, Cursor),
     Malformed,
 }
 
 // The room that a writer is lent, and what it is to do.
-#[derive(Drop)]
+#[derive(Clone, Copy)]
 pub enum Wanted {
     Of {
         room: usize,
@@ -64,7 +64,7 @@ pub enum Wanted {
 }
 
 // What is expected of a list, and of the item with an index.
-#[derive(Drop)]
+#[derive(Clone, Copy)]
 pub enum Items {
     Of {
         refusal: Why,
@@ -76,7 +76,7 @@ pub enum Items {
     Malformed,
 }
 
-#[derive(Drop)]
+#[derive(Clone, Copy)]
 pub struct Entry {
     pub refusal: Why,
     pub from: usize,
@@ -84,13 +84,13 @@ pub struct Entry {
     pub certificate: bool,
 }
 
-#[derive(Drop)]
+#[derive(Clone, Copy)]
 enum Reason {
     Value(Why, Cursor),
     Malformed,
 }
 
-#[derive(Drop)]
+#[derive(Clone, Copy)]
 enum Entered {
     Value(Entry, Cursor),
     Malformed,

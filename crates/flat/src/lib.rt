@@ -1,5 +1,7 @@
 // What crosses to C and Rust in place of the enums, as 01's numbers and values: answers on the way in, an outcome, a split or what a first call came to
 // on the way out.
+#![tactic(auto)]
+
 ghost use Rattle.std.specs.Prelude.{◌≡◌};
 ghost use Rattle.requests.specs.Outcomes.{hash_bits};
 ghost use Rattle.flat.specs.Flat.{said_of, confirmed_of, signed_of, answers_of, flat_of, flat_split, unbegun_first, flat_first};
@@ -12,7 +14,7 @@ use wire::frame::{Split, read_frame};
 // Each answer is 1 no (of the signature: nothing given), 2 yes (of the signature: given, its bytes beside it); any other number is no answer.
 // The numbers are the insertion numbers that confirmation and signature count for.
 #[repr(C)]
-#[derive(Drop)]
+#[derive(Clone, Copy)]
 pub struct FlatAnswers {
     pub gate: u8,
     pub check: u8,
@@ -24,7 +26,7 @@ pub struct FlatAnswers {
 
 // The kind of an outcome and its values; a field without meaning is 0.
 #[repr(C)]
-#[derive(Drop)]
+#[derive(Clone, Copy)]
 pub struct FlatOutcome {
     pub kind: u8,
     pub hash: u16,
@@ -35,7 +37,7 @@ pub struct FlatOutcome {
 
 // 0 more needed; 1 too long; 2 a whole frame, whose payload lies at from..to. Else both are 0.
 #[repr(C)]
-#[derive(Drop)]
+#[derive(Clone, Copy)]
 pub struct FlatSplit {
     pub kind: u8,
     pub from: usize,
@@ -44,7 +46,7 @@ pub struct FlatSplit {
 
 // 0 more needed; 1 too long; 2 refused, as the outcome says; 3 begun, the bytes used, and the outcome. A field without meaning is 0.
 #[repr(C)]
-#[derive(Drop)]
+#[derive(Clone, Copy)]
 pub struct FlatFirst {
     pub kind: u8,
     pub used: usize,

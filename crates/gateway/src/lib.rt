@@ -1,2 +1,4 @@
 // The gateway's face: what C and Rust link.
+#![tactic(auto)]
+
 pub mod exports;

@@ -1,5 +1,7 @@
 // The inner forms (#113): as crate `lending`, but the state that is lent is sound, and no call tests it. Nothing is copied but clock, next number and
 // the lock's length.
+#![tactic(auto)]
+
 ghost use Rattle.table.specs.Soundness.{Sound};
 ghost use Rattle.server.specs.Inner.{InnerMeets, InnerFirstMeets};
 ghost use Rattle.lending.specs.Lent.{beside};

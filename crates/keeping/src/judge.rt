@@ -14,13 +14,13 @@ use table::{State, fresh};
 use wire::read::{Cursor, cut};
 use wire::{Seconds, limits};
 
-#[derive(Drop)]
+#[derive(Clone, Copy)]
 pub struct Judged {
     pub ran: Ran,
     pub state: State,
 }
 
-#[derive(Drop)]
+#[derive(Clone, Copy)]
 struct Taken {
     answer: u64,
     state: State,

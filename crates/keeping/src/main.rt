@@ -1,5 +1,7 @@
 // Keys put, found, expired and removed, and a state damaged in each way: each line is a claim, with how many of its steps agree.
 // make.py writes the input.
+#![tactic(auto)]
+
 mod acts;
 mod asks;
 mod damage;

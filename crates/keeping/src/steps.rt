@@ -3,7 +3,7 @@ use report::parts::{Flag, Place, Span, read_flag, read_place};
 use wire::read::{Cursor, Number, Octet, Part};
 
 // What a step is about; what it does not need is zero.
-#[derive(Drop)]
+#[derive(Clone, Copy)]
 pub struct Subject {
     pub part: u8,
     pub place: usize,
@@ -13,7 +13,7 @@ pub struct Subject {
 }
 
 // `bytes` is a blob or a passphrase.
-#[derive(Drop)]
+#[derive(Clone, Copy)]
 pub struct Task {
     pub op: u8,
     pub subject: Subject,
@@ -23,13 +23,13 @@ pub struct Task {
     pub want: u32,
 }
 
-#[derive(Drop)]
+#[derive(Clone, Copy)]
 enum Subjected {
     Value(Subject, Cursor),
     Malformed,
 }
 
-#[derive(Drop)]
+#[derive(Clone, Copy)]
 pub enum Tasked {
     Value(Task, Cursor),
     Malformed,

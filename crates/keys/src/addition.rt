@@ -8,14 +8,14 @@ use crate::kinds::{Key, Places, key_at};
 use wire::read::{Cursor, Part};
 
 // Where a part of the request lies.
-#[derive(Drop)]
+#[derive(Clone, Copy)]
 pub struct Piece {
     pub from: usize,
     pub to: usize,
 }
 
 // What an add request carries: where its key fields and its comment lie, its lifetime and Confirm.
-#[derive(Drop)]
+#[derive(Clone, Copy)]
 pub struct Carried {
     pub places: Places,
     pub comment: Piece,
@@ -23,7 +23,7 @@ pub struct Carried {
     pub confirm: bool,
 }
 
-#[derive(Drop)]
+#[derive(Clone, Copy)]
 pub enum Addition {
     Whole(Carried),
     Fault(usize),

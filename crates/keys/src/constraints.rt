@@ -6,14 +6,14 @@ ghost use Rattle.keys.specs.Constraints.{walk_of};
 use wire::read::{Cursor, Number};
 use wire::{Seconds, msg};
 
-#[derive(Drop)]
+#[derive(Clone, Copy)]
 pub enum Lifetime {
     Forever,
     For(Seconds),
 }
 
 // What the walk yields; a fault has its place.
-#[derive(Drop)]
+#[derive(Clone, Copy)]
 pub enum Walk {
     Done { lifetime: Lifetime, confirm: bool },
     Duplicate(usize),

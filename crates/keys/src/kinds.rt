@@ -6,7 +6,7 @@ use crate::fields::{named, point_at, scalar_at, sized};
 use wire::read::{Cursor, Part, cut, is_same};
 use wire::write::put_bytes;
 
-#[derive(Drop)]
+#[derive(Clone, Copy)]
 pub enum Kind {
     Ed25519,
     Nistp256,
@@ -17,7 +17,7 @@ pub enum Kind {
 }
 
 // Places in key fields. Their blob is what lies before `front`, then from `swap` to `back`, then from `front` to `swap`.
-#[derive(Drop)]
+#[derive(Clone, Copy)]
 pub struct Places {
     pub front: usize,
     pub swap: usize,
@@ -25,7 +25,7 @@ pub struct Places {
     pub end: usize,
 }
 
-#[derive(Drop)]
+#[derive(Clone, Copy)]
 pub enum Key {
     Whole(Places),
     Fault(usize),
@@ -212,7 +212,7 @@ pub fn key_at(s: &[u8], at: usize) -> Key
     }
 }
 
-#[derive(Drop)]
+#[derive(Clone, Copy)]
 pub enum Blob {
     Length(usize),
     TooLong,

@@ -1,4 +1,6 @@
 // The thin forms: the state is lent by the gateway's loop, and altered there. Nothing is copied but clock, next number and the lock's length.
+#![tactic(auto)]
+
 ghost use Rattle.server.specs.Calls.{Meets};
 ghost use Rattle.server.specs.First.{FirstMeets};
 ghost use Rattle.lending.specs.Lent.{Lands, Hears};

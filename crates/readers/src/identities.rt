@@ -9,14 +9,14 @@ use wire::msg;
 use wire::read::{Cursor, Number, Part, cut, is_same};
 use wire::refusal::Refusal;
 
-#[derive(Drop)]
+#[derive(Clone, Copy)]
 pub enum Listing {
     Count(usize),
     Refused(Refusal),
 }
 
 // Where the blob of an item lies.
-#[derive(Drop)]
+#[derive(Clone, Copy)]
 pub enum Item {
     Blob {
         from: usize,

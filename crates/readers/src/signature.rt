@@ -10,7 +10,7 @@ use wire::refusal::{Refusal, Wrote};
 use wire::write::put_string;
 
 // Where the signature of a reply lies: its type, its bytes, and what a touch key adds.
-#[derive(Drop)]
+#[derive(Clone, Copy)]
 enum Signature {
     Whole { from: usize, to: usize },
     Refused(Refusal),

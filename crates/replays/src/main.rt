@@ -1,4 +1,6 @@
 // Answers of the unchanged Rust agent, replayed. make.py writes the input from them, and says how they were got.
+#![tactic(auto)]
+
 fn main() {
     calls::run();
 }

@@ -1,3 +1,5 @@
 // What the programs share that run vectors: records in sections are read, and a line for each section says how many of them agree.
+#![tactic(auto)]
+
 pub mod parts;
 pub mod sections;

@@ -6,26 +6,26 @@ use wire::read::{Cursor, Number, Octet};
 use wire::write::put_bytes;
 
 // A string's contents.
-#[derive(Drop)]
+#[derive(Clone, Copy)]
 pub struct Span {
     pub from: usize,
     pub to: usize,
 }
 
-#[derive(Drop)]
+#[derive(Clone, Copy)]
 pub enum Flag {
     Value(bool, Cursor),
     Malformed,
 }
 
-#[derive(Drop)]
+#[derive(Clone, Copy)]
 pub enum Place {
     Value(usize, Cursor),
     Malformed,
 }
 
 // The first `length` bytes of a base, with `value` at `place`.
-#[derive(Drop)]
+#[derive(Clone, Copy)]
 pub enum Change {
     Of {
         length: usize,

@@ -9,7 +9,7 @@ use std::num::{wrapping_add_u32, wrapping_sub_u32};
 use wire::read::{Cursor, Number, Octet, Part, cut};
 
 // What became of a record, with the place behind it.
-#[derive(Drop)]
+#[derive(Clone, Copy)]
 pub enum Ran {
     Agrees(Cursor),
     Differs(Cursor),
@@ -17,7 +17,7 @@ pub enum Ran {
 }
 
 // A section, with the place of its next record. Each record takes up a byte or more, so no count of them wraps.
-#[derive(Drop)]
+#[derive(Clone, Copy)]
 pub struct Section {
     pub kind: u8,
     pub name: Span,
@@ -28,7 +28,7 @@ pub struct Section {
     pub next: Cursor,
 }
 
-#[derive(Drop)]
+#[derive(Clone, Copy)]
 pub enum Step {
     Record(Section),
     End,

@@ -1,6 +1,8 @@
 // Each request once it is past the gate, over the columns that it needs: an outcome comes out, and columns, store and reply buffer hold what the rule says.
 // Its functions require what a call's refusals 1, 2, 3 and 5 have tested: room for the reply, a sound state and store, a signature that is not too
 // long. Only the call, in crate engine, comes here.
+#![tactic(auto)]
+
 pub mod list;
 pub mod lock;
 pub mod replies;
@@ -10,7 +12,7 @@ use rule::Hash;
 use table::{Kept, State};
 
 // An answer to a question that is yes or no.
-#[derive(Drop)]
+#[derive(Clone, Copy)]
 pub enum Said {
     Missing,
     No,
@@ -18,14 +20,14 @@ pub enum Said {
 }
 
 // The confirmation's answer; it counts for its insertion number alone.
-#[derive(Drop)]
+#[derive(Clone, Copy)]
 pub enum Confirmed {
     Missing,
     Given { number: u64, granted: bool },
 }
 
 // The signer's answer; it counts for its insertion number alone. The bytes of a given signature stand beside it.
-#[derive(Drop)]
+#[derive(Clone, Copy)]
 pub enum Signed {
     Missing,
     Nothing { number: u64 },
@@ -33,7 +35,7 @@ pub enum Signed {
 }
 
 // The outside answers so far, at most one of each kind.
-#[derive(Drop)]
+#[derive(Clone, Copy)]
 pub struct Answers {
     pub gate: Said,
     pub check: Said,
@@ -42,7 +44,7 @@ pub struct Answers {
 }
 
 // A refusal and its number; a question; a reply and its length in the reply buffer; or the connection is closed.
-#[derive(Drop)]
+#[derive(Clone, Copy)]
 pub enum Outcome {
     Refused {
         number: u8,
@@ -69,14 +71,14 @@ pub enum Outcome {
     Close,
 }
 
-#[derive(Drop)]
+#[derive(Clone, Copy)]
 pub struct Called {
     pub outcome: Outcome,
     pub state: State,
 }
 
 // Where the rest of the state is lent.
-#[derive(Drop)]
+#[derive(Clone, Copy)]
 pub struct Landed {
     pub outcome: Outcome,
     pub kept: Kept,

@@ -9,7 +9,7 @@ use requests::{Said, Signed};
 use wire::msg;
 
 // What a request comes to by its first byte, the lock and the gate's answer.
-#[derive(Drop)]
+#[derive(Clone, Copy)]
 pub enum Row {
     Fails,
     Asks(u8),

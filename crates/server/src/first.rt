@@ -7,7 +7,7 @@ use requests::{Answers, Confirmed, Outcome, Said, Signed};
 
 // More bytes are needed; the frame is too long; a refusal and its number; or the request has begun: the bytes that its frame takes, its length in
 // front included, and the outcome, whose parts are places in the payload.
-#[derive(Drop)]
+#[derive(Clone, Copy)]
 pub enum First {
     MoreNeeded,
     TooLong,

@@ -1,4 +1,6 @@
 // The soundness test: any columns, any store, read where they lie. The bytes behind the entries are read, and of each blob its last ones.
+#![tactic(auto)]
+
 pub mod apart;
 pub mod unused;
 

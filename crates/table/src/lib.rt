@@ -1,5 +1,7 @@
 // The gateway's state and its key store: the figures of up to 24 entries in columns, the lock record, the kept clock, the next number; in the store for each
 // entry blob, key fields and comment, behind each other and without gaps. Columns and store are lent to what works on them.
+#![tactic(auto)]
+
 pub mod bytes;
 pub mod clock;
 pub mod entries;
@@ -13,7 +15,7 @@ use rule::Millis;
 use wire::{Seconds, limits};
 
 // What the columns have at one index; `limited` and `confirm` are 0 or 1.
-#[derive(Drop)]
+#[derive(Clone, Copy)]
 pub struct Figures {
     pub number: u64,
     pub reading: Millis,
@@ -27,7 +29,7 @@ pub struct Figures {
 
 // What is kept of each entry beside its bytes, in list order. Readings count milliseconds. Behind the last entry all is zero.
 #[repr(C)]
-#[derive(Drop)]
+#[derive(Clone, Copy)]
 pub struct Columns {
     pub numbers: [u64; limits::ENTRIES_LIMIT],
     pub readings: [u64; limits::ENTRIES_LIMIT],
@@ -41,14 +43,14 @@ pub struct Columns {
 
 // The passphrase and its length; the rest is zero. A length of 0 is open.
 #[repr(C)]
-#[derive(Drop)]
+#[derive(Clone, Copy)]
 pub struct LockRecord {
     pub bytes: [u8; limits::PASSPHRASE_LIMIT],
     pub len: usize,
 }
 
 #[repr(C)]
-#[derive(Drop)]
+#[derive(Clone, Copy)]
 pub struct State {
     pub columns: Columns,
     pub lock: LockRecord,
@@ -57,7 +59,7 @@ pub struct State {
 }
 
 // What goes by value where the rest of a state is lent: the kept clock, the next number, the passphrase's length.
-#[derive(Drop)]
+#[derive(Clone, Copy)]
 pub struct Kept {
     pub clock: Millis,
     pub next: u64,

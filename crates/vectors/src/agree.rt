@@ -6,7 +6,7 @@ use wire::read::{Cursor, Part, cut, is_same};
 
 // How constraints end: 0 at the end, 1 a second lifetime, 2 an unknown byte, 3 cut seconds; of an addition any fault is 1. What they say, or
 // where the fault is; what has no meaning is 0.
-#[derive(Drop)]
+#[derive(Clone, Copy)]
 pub struct Limits {
     pub ending: u8,
     pub limited: bool,

@@ -4,7 +4,7 @@ use report::parts::{Flag, Place, Span, read_flag, read_place};
 use wire::read::{Cursor, Number, Octet, Part};
 
 // What is expected of key fields.
-#[derive(Drop)]
+#[derive(Clone, Copy)]
 pub enum Fields {
     Fault {
         place: usize,
@@ -19,7 +19,7 @@ pub enum Fields {
 }
 
 // What is expected of constraints.
-#[derive(Drop)]
+#[derive(Clone, Copy)]
 pub enum Limited {
     Value(Limits, Cursor),
     Malformed,

@@ -8,7 +8,7 @@ use crate::limits;
 use crate::read::{Cursor, Number, cut};
 
 // A whole frame's payload lies from `from` up to `to`.
-#[derive(Drop)]
+#[derive(Clone, Copy)]
 pub enum Split {
     MoreNeeded,
     TooLong,

@@ -7,25 +7,25 @@ ghost use Rattle.wire.specs.Parts.{PartOf};
 
 use crate::utf8;
 
-#[derive(Drop)]
+#[derive(Clone, Copy)]
 pub struct Cursor {
     pub at: usize,
 }
 
-#[derive(Drop)]
+#[derive(Clone, Copy)]
 pub enum Octet {
     Value(u8, Cursor),
     Fault(usize),
 }
 
-#[derive(Drop)]
+#[derive(Clone, Copy)]
 pub enum Number {
     Value(u32, Cursor),
     Fault(usize),
 }
 
 // A string's contents lie from `from` up to `to`.
-#[derive(Drop)]
+#[derive(Clone, Copy)]
 pub enum Part {
     Whole {
         from: usize,

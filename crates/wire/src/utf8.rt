@@ -3,7 +3,7 @@ ghost use Rattle.std.specs.Prelude.{◌≡◌, cond};
 ghost use Rattle.wire.specs.Utf8.{lead_of, step_of, ended, utf8_end, ascii_end};
 
 // How many bytes must follow, and what the next one may be.
-#[derive(Drop)]
+#[derive(Clone, Copy)]
 pub(crate) enum Utf {
     Tails { left: u8, low: u8, high: u8 },
     Bad,

@@ -1,0 +1,22 @@
+use native.Mathlib.Omega.{arith}
+use mathlib.Core.Path.{refl}
+use Prim.Native.Nat.{◌+◌, ◌-◌}
+use lib.ListN.{length}
+use Rattle.wire.proofs.Writing.{write-none, blocks_more, blocks_all}
+use Rattle.wire.proofs.write.put_by_32.Goals as goal
+
+pub loop-i-init : goal.loop-i-init
+loop-i-init c = (omega arith, write-none _ _, refl)
+
+pub loop-i-preserved : goal.loop-i-preserved
+loop-i-preserved c =
+    let b = c.block_32.ensures in
+    (omega arith, blocks_more 32 _ _ c.args.v.now _ _ _ _ c.loop-i.invariant.1 b.0 c.requires.1 b.1 c.copy_bytes.ensures.1 (omega arith), omega arith)
+
+pub returns : goal.returns
+returns c =
+    let b = c.block_32-2.ensures in
+    let at = c.args.at in
+    let v = c.args.v.now in
+    let n = length v in
+    (omega arith, blocks_all 32 _ at v _ _ _ c.loop-i.i c.loop-i.invariant.1 b.0 c.requires.1 (n - 32) (at + n - 32) b.1 c.copy_bytes-2.ensures.1 (omega arith) (omega arith) (omega arith) (omega arith))
