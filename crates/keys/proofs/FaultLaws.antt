@@ -11,7 +11,7 @@ use Rattle.wire.specs.declared.read.Cursor.{Cursor}
 use Rattle.wire.specs.declared.read.Part.{Part}
 use Rattle.wire.specs.declared.read.Part.TheVariants.{Whole}
 use Rattle.wire.specs.Numbers.{Bytes}
-use Rattle.wire.specs.Values.{read, fault, part_reads}
+use Rattle.wire.specs.Values.{fault, part_reads}
 use Rattle.wire.specs.Read.{cut_of, string_at, mpint_at, same}
 use Rattle.wire.specs.Steps.{part}
 use Rattle.wire.specs.Write.{string}

@@ -1,7 +1,6 @@
 -- The key fields of each kind, as a reader goes through them, and their blob.
 use Rattle.std.specs.Prelude.{cond, ℕ, ◌+◌, List, ◌++◌, length, leb}
 use Rattle.wire.specs.declared.read.Part.{Part}
-use Rattle.wire.specs.declared.read.Part.TheVariants.{Whole}
 use Rattle.wire.specs.Texts.{bytes}
 use Rattle.wire.specs.Read.{cut_of, same, string_at, mpint_at}
 use Rattle.wire.specs.Steps.{part}
