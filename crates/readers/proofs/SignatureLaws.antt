@@ -6,7 +6,7 @@ use mathlib.Core.Bool.{Bool, true, false, not}
 use mathlib.Core.Logic.{⊎_elim}
 use native.Mathlib.Omega.{arith}
 use borrow.Author.Rules.{rules}
-use borrow.Author.Tests.{le-leb, lt-leb, ne_eqb, not_true, not-false}
+use borrow.Author.Tests.{le-leb, lt-leb, ne_eqb, not-true, not-false}
 use lib.Dec.{ltb, eqb}
 use lib.ListN.{length, get_or}
 use Rattle.wire.specs.declared.read.Cursor.{Cursor}
@@ -59,7 +59,7 @@ module _ (s : List ℕ) (at hash : ℕ) (r : Part) (kind : r ≡ text_at s at) w
   module _ (f t : ℕ) (k : Cursor) (e : r ≡ Part.Whole f t k) (v : List ℕ) (cut : v ≡ cut_of s f t) (fit : Bool) (tested : fit ≡ fits hash v) where
     pub unfit_type : not fit ≡ true → Signature.Refused UnfitType ≡ signature_at s at hash
     unfolding signature_at part
-    unfit_type h = rw (← kind, e, ← cut, ← tested, not_true fit h)
+    unfit_type h = rw (← kind, e, ← cut, ← tested, not-true fit h)
 
     module _ (h : not fit ≡ false) (w : List ℕ) (again : w ≡ cut_of s f t) (sk : Bool) (starts : sk ≡ starts_in w (bytes "sk-")) (end : Reach)
         (ended : end ≡ signature_end s k.at sk) where

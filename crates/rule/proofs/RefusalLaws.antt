@@ -5,7 +5,7 @@ use mathlib.Core.Path.{◌≡◌, sym, ◌∙◌}
 use mathlib.Core.Logic.{◌≢◌}
 use mathlib.Core.Bool.{true, false, not}
 use mathlib.Core.Option.{Option, none, some}
-use borrow.Author.Tests.{eqb-true, ltb-false, not-false, not_true}
+use borrow.Author.Tests.{eqb-true, ltb-false, not-false, not-true}
 use lib.Dec.{eqb, ltb}
 use lib.ListN.{length}
 use Rattle.wire.specs.Limits.{payload_limit, store_size, signature_limit, reply_room}
@@ -53,7 +53,7 @@ unfolding refusal refusal_of
 refusal-3 g c =
     cond_cases Third (ltb c.buffer reply_room) (λ _. other 1 (omega arith)) λ _.
     cond_cases Third (not (eqb c.store store_size)) (λ _. other 2 (omega arith)) λ _.
-    cond_cases Third (not (sound g)) (λ f _. not_true (sound g) f) λ _.
+    cond_cases Third (not (sound g)) (λ f _. not-true (sound g) f) λ _.
     cond_cases Third (ltb payload_limit (length c.frame.payload)) (λ _. other 4 (omega arith)) λ _.
     cond_cases Third (ltb signature_limit (lent_length c.answers.signature)) (λ _. other 5 (omega arith)) λ _ never.
     absurd (some_not_none (sym never))

@@ -153,10 +153,10 @@ module _ (lent : (q : Question) → Option (Answer q)) (g : Gateway)
 
 -- ## A call
 
-lent_length : (n : ℕ) (o : Option (Numbered (Option (List ℕ)))) (blob : List ℕ) → for_number n o ≡ some (some blob) → lent_length o ≡ length blob
+lent_length_lem : (n : ℕ) (o : Option (Numbered (Option (List ℕ)))) (blob : List ℕ) → for_number n o ≡ some (some blob) → lent_length o ≡ length blob
 unfolding for_number lent_length
-lent_length n none blob = λ never. absurd (some_not_none (sym never))
-lent_length n (some a) blob =
+lent_length_lem n none blob = λ never. absurd (some_not_none (sym never))
+lent_length_lem n (some a) blob =
     cond_cases (λ (o : Option (Option (List ℕ))). o ≡ some (some blob) → given a.answer 0 length ≡ length blob) (eqb a.number n)
     (λ _ e. let is : a.answer ≡ some blob = cc in ap (λ (o : Option (List ℕ)). given o 0 length) is)
     (λ _ never. absurd (some_not_none (sym never)))
@@ -164,7 +164,7 @@ lent_length n (some a) blob =
 lent-short : (g : Gateway) (c : Call) → refusal g c ≡ none → (n from to : ℕ) (hash : Hash) (blob : List ℕ)
     → lent c.answers (signature n from to hash) ≡ some (some blob) → length blob ≤ signature_limit
 unfolding lent
-lent-short g c ok n from to hash blob e = rw (lent_length n c.answers.signature blob e) at (accepted g c ok).lent-short
+lent-short g c ok n from to hash blob e = rw (lent_length_lem n c.answers.signature blob e) at (accepted g c ok).lent-short
 
 pub replies_fit : RepliesFit
 unfolding call served

@@ -3,7 +3,7 @@ use Prim.Native.Nat.{ℕ}
 use mathlib.Core.Path.{◌≡◌, refl, sym, ap, ◌∙◌}
 use mathlib.Core.Logic.{◌≢◌}
 use mathlib.Core.Bool.{Bool, true, false, not, cond}
-use mathlib.Core.Option.{none, some}
+use mathlib.Core.Option.{Option, none, some}
 use mathlib.Core.List.{List}
 use borrow.Author.Tests.{ltb-true, lt-ltb, eqb-true}
 use lib.ListN.{length, get_or}
@@ -114,12 +114,15 @@ advance-locked reading g = refl
 abbrev pub body_result : {byte : ℕ} {needs : Bool} {class : ℕ} → Row byte needs class → Gateway → Call → Result
 body_result r g c = follow (lent c.answers) (at_call g c) (body_of r (at_call g c) (payload_of c))
 
+given_at : {A B : Type 0} (o : Option A) (a : A) (x : B) (f : A → B) → o ≡ some a → given o x f ≡ f a
+given_at o a x f e = rw e
+
 pub past_gate_lem : {byte : ℕ} {needs : Bool} {class : ℕ} (r : Row byte needs class) (g : Gateway) (c : Call) → PastGate g c → locked g ≡ needs → Begins byte (payload_of c)
     → call g c ≡ body_result r g c
 unfolding call served gated follow lent
 past_gate_lem {byte} {needs} {class} r g c past fit begins =
     let now : locked (at_call g c) ≡ needs = advance-locked c.reading g ∙ fit in
-    rw (past.accepted, rule-row r (at_call g c) (payload_of c) begins, fitting-fit needs (at_call g c) now, past.gate)
+    rw (past.accepted, rule-row r (at_call g c) (payload_of c) begins, fitting-fit needs (at_call g c) now) (given_at c.answers.gate true _ _ past.gate)
 
 -- a call is refused, fails at once, is at its row's gate, or past it
 module _ (P : Result → Type 0) (g : Gateway) (c : Call) where

@@ -4,7 +4,7 @@ use mathlib.Core.Path.{◌≡◌, refl, sym, ap, ◌∙◌, subst}
 use mathlib.Core.Bool.{Bool, true, false, not}
 use mathlib.Core.Option.{Option, none, some}
 use mathlib.Core.List.{List}
-use borrow.Author.Tests.{not_true, not-false, eq-eqb, ne_eqb, le-ltb, lt-ltb}
+use borrow.Author.Tests.{not-true, not-false, eq-eqb, ne_eqb, le-ltb, lt-ltb}
 use lib.ListN.{length}
 use Rattle.wire.specs.Limits.{payload_limit, store_size, signature_limit, reply_room}
 use Rattle.rule.specs.declared.Millis.{Millis}
@@ -68,7 +68,7 @@ module _ (s : State) (x p : List ℕ) (t : Millis) (answers : Answers) (bytes bu
   refuses_3 r b h e u is f = refuses 3 r third f
     where
       third : refusal_here ≡ some 3
-      third = rw (le-ltb (length buffer) reply_room h, eq-eqb (length x) store_size e, ← is, not_true b u)
+      third = rw (le-ltb (length buffer) reply_room h, eq-eqb (length x) store_size e, ← is, not-true b u)
 
   module _ (h : reply_room ≤ length buffer) (S : Sound s x) where
     pub refuses_4 : (r : Called) → payload_limit < length p → r ≡ record { outcome = Refused 4; state = s } → Gives r x buffer

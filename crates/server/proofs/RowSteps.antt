@@ -5,7 +5,7 @@ use mathlib.Core.Bool.{Bool, true, false, not, cond}
 use mathlib.Core.Option.{Option}
 use mathlib.Core.List.{List}
 use borrow.Author.Rules.{rules}
-use borrow.Author.Tests.{not_true, not-false}
+use borrow.Author.Tests.{not-true, not-false}
 use lib.Dec.{eqb, ltb}
 use lib.ListN.{length, get_or}
 use Rattle.wire.proofs.Steps.{steps}
@@ -45,7 +45,7 @@ unfolding by_said
 said_yes s asking go e = rw e
 
 pub not_fit : (b : Bool) → not b ≡ true → false ≡ b
-not_fit b e = sym (not_true b e)
+not_fit b e = sym (not-true b e)
 
 pub fit : (b : Bool) → not b ≡ false → true ≡ b
 fit b e = sym (not-false b e)

@@ -7,7 +7,7 @@ use mathlib.Core.List.{List, [], ◌∷◌, ◌++◌, map}
 use native.Mathlib.Omega.{arith}
 use native.Mathlib.Numerals.{add-one}
 use native.Mathlib.Nat.{not-suc-le-zero, le_of_suc-le-suc, suc-add, sub-zero, suc-sub-suc}
-use borrow.Author.Tests.{eqb-true, eqb-false, eq-eqb, ne_eqb, ltb-true, lt-ltb, le-ltb, not_true}
+use borrow.Author.Tests.{eqb-true, eqb-false, eq-eqb, ne_eqb, ltb-true, lt-ltb, le-ltb, not-true}
 use lib.Dec.{eqb, ltb}
 use lib.ListN.{length, take, drop, get_or, set, length-drop, drop_of_length-le}
 use lib.Seq.{length-take-le, drop-cons, take-nil, take-suc-set, get_or-take, get_or-drop, ext_get_or}
@@ -316,7 +316,7 @@ module _ (numbers blobs fields comments x shorts : List ℕ) (i n : ℕ) (counte
       pub told-by_short : (d : Bool) → d ≡ among (get_or shorts i 0) (take (n - (i + 1)) (drop (i + 1) shorts)) → not d ≡ true → true ≡ every_entry (apart k) behind
       told-by_short d f t =
           let others = f ∙ ap (among (get_or shorts i 0)) (drop-take n (i + 1) shorts (omega arith)) in
-          let absent : among (short_number k) (map short_number behind) ≡ false = sym (among-behind short_number _ shorts n by_shorts i k h held d others) ∙ not_true d t in
+          let absent : among (short_number k) (map short_number behind) ≡ false = sym (among-behind short_number _ shorts n by_shorts i k h held d others) ∙ not-true d t in
           neither_again k behind (i + 1) (sym numbers_say ∙ new) (short_new k behind (i + 1) absent)
 
       module _ (blob : List ℕ) (is : blob ≡ k.blob) (r : Found) (f : r ≡ seek (holds blob) (i + 1) behind) where

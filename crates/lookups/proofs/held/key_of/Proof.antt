@@ -1,6 +1,6 @@
 -- The definition goes by the same test and search; the place that is found holds the key. Assumes nothing.
 use borrow.Author.Rules.{rules}
-use borrow.Author.Tests.{not_true, not-false}
+use borrow.Author.Tests.{not-true, not-false}
 use mathlib.Core.Path.{refl, sym, ◌∙◌}
 use Rattle.lookups.proofs.ToldLaws.{sound-told, key-unsound, key-absent, key-found, numbered-at, position_within}
 use Rattle.lookups.proofs.held.key_of.Statement.{statement}
@@ -10,7 +10,7 @@ returns : tie.Need-returns
 returns c =
     let tested : tie.Then1 = search in
     let start : tie.Start = search in
-    c.untold.ensures ∙ key-unsound start.args.state start.args.store.now start.args.number (sym tested.before.is-state-sound.ensures ∙ not_true _ tested.if1.taken)
+    c.untold.ensures ∙ key-unsound start.args.state start.args.store.now start.args.number (sym tested.before.is-state-sound.ensures ∙ not-true _ tested.if1.taken)
 
 told-at-requires : tie.Need-told-at-requires
 told-at-requires c κs =

@@ -2,7 +2,7 @@
 use mathlib.Core.Path.{ap}
 use native.Mathlib.Omega.{arith}
 use borrow.Author.Rules.{rules}
-use borrow.Author.Tests.{not_true, not-false}
+use borrow.Author.Tests.{not-true, not-false}
 use Rattle.rule.specs.declared.Millis.{Millis}
 use Rattle.rule.proofs.Clock.{same_count}
 use Rattle.lookups.specs.Told.{left_at}
@@ -11,7 +11,7 @@ use Rattle.lookups.proofs.held.left_at.Tie as tie
 
 returns : tie.Need-returns
 unfolding left_at
-returns c = let asked = c.before.is_set in rw (← asked.ensures, not_true asked.result c.if1.true)
+returns c = let asked = c.before.is_set in rw (← asked.ensures, not-true asked.result c.if1.true)
 
 returns-2 : tie.Need-returns-2
 unfolding left_at

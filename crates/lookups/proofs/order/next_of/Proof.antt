@@ -1,6 +1,6 @@
 -- The definition goes by the same test. Assumes nothing.
 use borrow.Author.Rules.{rules}
-use borrow.Author.Tests.{not_true, not-false}
+use borrow.Author.Tests.{not-true, not-false}
 use mathlib.Core.Path.{refl, sym, ◌∙◌}
 use Rattle.lookups.proofs.ToldLaws.{next_unsound, next_sound}
 use Rattle.lookups.proofs.order.next_of.Statement.{statement}
@@ -9,7 +9,7 @@ use Rattle.lookups.proofs.order.next_of.Tie as tie
 returns : tie.Need-returns
 returns c =
     let start : tie.Start = search in
-    next_unsound start.args.state start.args.store.now start.args.after (sym c.before.is-state-sound.ensures ∙ not_true _ c.if1.true)
+    next_unsound start.args.state start.args.store.now start.args.after (sym c.before.is-state-sound.ensures ∙ not-true _ c.if1.true)
 
 returns-2 : tie.Need-returns-2
 returns-2 c =

@@ -1,13 +1,13 @@
 -- Without a lifetime it is never due; with one the test is the definition's, in milliseconds. Assumes nothing.
 use borrow.Author.Rules.{rules}
-use borrow.Author.Tests.{not_true, not-false}
+use borrow.Author.Tests.{not-true, not-false}
 use Rattle.rule.specs.Gateway.{due_at}
 use Rattle.table.proofs.clock.is_due.Statement.{statement}
 use Rattle.table.proofs.clock.is_due.Tie as tie
 
 returns : tie.Need-returns
 unfolding due_at
-returns c = let asked = c.before.is_set in rw (← asked.ensures, not_true asked.result c.if1.true)
+returns c = let asked = c.before.is_set in rw (← asked.ensures, not-true asked.result c.if1.true)
 
 returns-2 : tie.Need-returns-2
 unfolding due_at

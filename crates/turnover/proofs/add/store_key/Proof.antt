@@ -4,7 +4,7 @@ use Prim.Native.Nat.{◌+◌}
 use lib.ListN.{length}
 use mathlib.Core.Path.{◌≡◌, refl, sym, ◌∙◌}
 use borrow.Author.Rules.{rules}
-use borrow.Author.Tests.{not_true, not-false}
+use borrow.Author.Tests.{not-true, not-false}
 use Rattle.rule.specs.Gateway.{NewKey}
 use Rattle.rule.specs.Soundness.{fit}
 use Rattle.rule.specs.Rule.{brought}
@@ -43,7 +43,7 @@ returns c =
     let at-fits : tie.After-fits2 = search in
     let start = begun at-fits in
     let a = start.args in
-    let fits = sym (not_true _ over.if1.taken) ∙ fits_told at-fits in
+    let fits = sym (not-true _ over.if1.taken) ∙ fits_told at-fits in
     unfit_ends (given start) a.store.now a.kept a.check a.reply.now a.payload.now a.carried a.blob.now _ _
     fits failed.failure.ensures
 
