@@ -11,7 +11,7 @@ use lib.Dec.{ltb, eqb}
 use Rattle.rule.specs.declared.Millis.{Millis}
 use Rattle.rule.specs.Gateway.{Gateway, locked, opened, advance, at_clock}
 use Rattle.rule.specs.Rule.{Question, gate, Landing, FAILURE, SUCCESS, Plan, land, fails, listing, adding, removing, removing_all, signing, locking, unlocking, gated, row, table, rule}
-use Rattle.rule.specs.Calls.{lent, Call, refusal, Outcome, refused, asks, lands, Result, follow, served, call}
+use Rattle.rule.specs.Calls.{given, lent, Call, refusal, Outcome, refused, asks, lands, Result, follow, served, call}
 use Rattle.rule.specs.Words.{Begins, at_call, payload_of, PastGate}
 use Rattle.rule.specs.Rows.{Row, list, add, add_constrained, remove, remove_all, sign, lock, unlock, RowRule, NoRow}
 use Rattle.rule.proofs.Cases.{cond_cases, given-cases, not_true}
