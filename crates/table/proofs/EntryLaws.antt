@@ -2,7 +2,6 @@
 use Prim.Native.Nat.{ℕ, zero, suc, ◌+◌, ◌-◌, ◌≤◌, ◌<◌}
 use mathlib.Core.Path.{◌≡◌, refl, sym, ap, ◌∙◌}
 use mathlib.Core.Logic.{◌≢◌, ◌⊎◌, inl, inr}
-use mathlib.Core.Bool.{Bool, true, false, cond}
 use mathlib.Core.List.{List, [], ◌∷◌, ◌++◌, map}
 use native.Mathlib.Omega.{arith}
 use native.Mathlib.Nat.{not-suc-le-zero, le_of_suc-le-suc}
@@ -20,7 +19,7 @@ use Rattle.table.specs.Each.{offset}
 use Rattle.table.specs.Entries.{columns, Long, figures_at, count_of, up_to, entries_in, start_in, columns_of}
 use Rattle.table.specs.Meaning.{size, no_figures}
 use Rattle.table.specs.Soundness.{ZeroBehind}
-use Rattle.table.proofs.ByteLaws.{padded-size, padded-front, padded-rest, zeros_padded}
+use Rattle.table.proofs.ByteLaws.{padded-size, padded-rest, zeros_padded}
 use Rattle.table.proofs.EachLaws.{offset_step}
 
 -- ## A list by its index

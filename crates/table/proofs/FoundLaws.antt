@@ -1,24 +1,24 @@
 -- Where a search ends, in 01's values: at the entry that has the blob; and where a key goes, if there is room.
-use Prim.Native.Nat.{ℕ, zero, suc, ◌+◌, ◌-◌, ◌≤◌, ◌<◌}
+use Prim.Native.Nat.{ℕ, ◌+◌, ◌-◌, ◌≤◌, ◌<◌}
 use mathlib.Core.Path.{◌≡◌, refl, sym, ap, ◌∙◌}
 use mathlib.Core.Logic.{◌≢◌, ◌⊎◌, inl, inr}
-use mathlib.Core.Bool.{Bool, true, false, cond, ◌&&◌}
+use mathlib.Core.Bool.{true, cond}
 use mathlib.Core.Option.{some}
 use mathlib.Core.List.{List}
 use native.Mathlib.Omega.{arith}
 use borrow.Author.Tests.{lt-ltb, le-ltb}
 use lib.Dec.{leb, ltb}
-use lib.ListN.{length, take, drop, get_or, length-drop}
+use lib.ListN.{length, drop, get_or, length-drop}
 use lib.Seq.{length-take-le}
 use Rattle.wire.specs.Limits.{entries_limit, store_size}
 use Rattle.rule.specs.declared.Found.{Found}
 use Rattle.rule.specs.declared.Found.TheVariants.{At, Nothing}
-use Rattle.rule.specs.Gateway.{Entry as Key, Gateway, entry_at, seek, holds, found, lengths_of, all_lengths, others, has_room, position_for, place_for, remove_at}
+use Rattle.rule.specs.Gateway.{Entry as Key, Gateway, entry_at, seek, holds, found, lengths_of, all_lengths, others, has_room, position_for, place_for}
 use Rattle.rule.specs.Searches.{found_place}
 use Rattle.rule.specs.Soundness as rule
-use Rattle.rule.proofs.Cases.{cond_cases, true_not_false}
+use Rattle.rule.proofs.Cases.{cond_cases}
 use Rattle.rule.proofs.PositionLaws.{some_not_none, every_at, every_of, found_at, absent_differs, differs_absent, held_found}
-use Rattle.rule.proofs.RoomLaws.{remove_length, remove_lengths, others-absent, others-found, Placed, replacing, anew, HasPlace, has_place, room_place}
+use Rattle.rule.proofs.RoomLaws.{remove_length, remove_lengths, others-absent, others-found, Placed, replacing, anew, has_place, room_place}
 use Rattle.table.specs.declared.State.{State}
 use Rattle.table.specs.Each.{offset}
 use Rattle.table.specs.Entries.{count_of, start_in}

@@ -1,7 +1,7 @@
 -- What a sound state says of what is read of it: where the bytes of its entries lie, and what stands at one index.
 use Prim.Native.Nat.{ℕ, zero, suc, ◌+◌, ◌≤◌, ◌<◌}
-use mathlib.Core.Path.{◌≡◌, refl, sym, ap, ◌∙◌}
-use mathlib.Core.Bool.{Bool, true, false}
+use mathlib.Core.Path.{◌≡◌, sym, ap, ◌∙◌}
+use mathlib.Core.Bool.{Bool}
 use mathlib.Core.Option.{some}
 use mathlib.Core.List.{List, [], ◌∷◌}
 use native.Mathlib.Omega.{arith}
@@ -9,20 +9,18 @@ use native.Mathlib.Nat.{not-suc-le-zero, le_of_suc-le-suc}
 use lib.Dec.{ltb}
 use lib.ListN.{length, take, drop, get_or}
 use lib.Seq.{length-take-le}
-use Rattle.wire.specs.Limits.{entries_limit, store_size, blob_limit, fields_limit, comment_limit}
+use Rattle.wire.specs.Limits.{entries_limit, store_size}
 use Rattle.wire.specs.Read.{same}
-use Rattle.rule.specs.Gateway.{Entry as Key, Gateway, locked, holds, entry_at}
-use Rattle.rule.specs.declared.Millis.{Millis}
-use Rattle.table.specs.declared.Columns.{Columns}
+use Rattle.rule.specs.Gateway.{Entry as Key, locked, holds, entry_at}
 use Rattle.table.specs.declared.Figures.{Figures}
 use Rattle.table.specs.declared.State.{State}
 use Rattle.table.specs.Each.{offset}
-use Rattle.table.specs.Entries.{figures_at, count_of, entries_in, start_in}
-use Rattle.table.specs.Meaning.{size, is_set, entries_of, gateway_of, no_figures, end_of, passphrase}
+use Rattle.table.specs.Entries.{figures_at, count_of, start_in}
+use Rattle.table.specs.Meaning.{size, is_set, entries_of, gateway_of, no_figures, end_of}
 use Rattle.table.specs.Soundness.{SoundFigures, EveryFigures, Sound, Housed}
 use Rattle.table.specs.Shown.{ShowsParts}
 use Rattle.table.proofs.EntryLaws.{count_within, entries_length, entries_at, start_is, start-step, start-mono, start-all}
-use Rattle.table.proofs.StateLaws.{key_at, state_count, state_entry, state_held, blob_lies}
+use Rattle.table.proofs.StateLaws.{key_at, state_entry, state_held, blob_lies}
 
 pub every_figures_at : (P : Figures → Type 0) (fs : List Figures) → EveryFigures P fs → (i : ℕ) (d : Figures) → i < length fs → P (get_or fs i d)
 every_figures_at P [] all i d h = absurd (not-suc-le-zero h)

@@ -1,5 +1,5 @@
 -- A state is read at one index: entry i has what the columns have at i, and the bytes that lie behind those of the entries before it.
-use Prim.Native.Nat.{ℕ, zero, suc, ◌+◌, ◌≤◌, ◌<◌}
+use Prim.Native.Nat.{ℕ, zero, suc, ◌+◌, ◌<◌}
 use mathlib.Core.Path.{◌≡◌, refl, sym, ap, ◌∙◌}
 use mathlib.Core.Option.{some}
 use mathlib.Core.List.{List, [], ◌∷◌}
@@ -9,11 +9,9 @@ use lib.ListN.{length, take, drop, get_or}
 use lib.Seq.{drop-drop, take-take, take-nil}
 use Rattle.rule.specs.Gateway.{Entry as Key, entry_at}
 use Rattle.rule.proofs.PositionLaws.{same-entry, holds-within}
-use Rattle.table.specs.declared.Columns.{Columns}
 use Rattle.table.specs.declared.State.{State}
 use Rattle.table.specs.Bytes.{sum_of, padded}
-use Rattle.table.specs.Each.{each, offset}
-use Rattle.table.specs.Entries.{figures_at, count_of, entries_in, start_in, columns_of}
+use Rattle.table.specs.Entries.{figures_at, count_of, start_in, columns_of}
 use Rattle.table.specs.Meaning.{size, key_of, entries_of, view, gateway_of, no_figures, part_at, lock_of, state_of}
 use Rattle.table.specs.Promises.{sum, blob_from, fields_from, comment_from, KeySays, StateRule, FreshZero}
 use Rattle.table.proofs.EachLaws.{each-length, each_at}

@@ -7,8 +7,8 @@ use mathlib.Core.Bool.{Bool, true, false, cond}
 use mathlib.Core.List.{List, [], ◌∷◌, ◌++◌, map}
 use native.Mathlib.Omega.{arith}
 use native.Mathlib.Nat.{not-suc-le-zero, le_of_suc-le-suc}
-use lib.ListN.{length, take, drop, replicate, get_or, length-drop, length-map, length-take, length-append, length-replicate, take-append-drop}
-use lib.Seq.{length-take-le, take-take, take_at, drop_at, take-append-le, drop-append-le, take_all, drop-drop, take-add}
+use lib.ListN.{length, take, drop, replicate, get_or, length-drop, length-map, length-take, length-append, take-append-drop}
+use lib.Seq.{length-take-le, take_at, drop_at, take-append-le, drop-append-le, take_all, take-add}
 use Rattle.wire.specs.Limits.{entries_limit, store_size, passphrase_limit}
 use Rattle.keys.specs.declared.constraints.Lifetime.{Lifetime}
 use Rattle.keys.specs.declared.constraints.Lifetime.TheVariants.{Forever, For}
@@ -20,7 +20,7 @@ use Rattle.rule.proofs.SoundLaws.{fresh-sound, sound-lock}
 use Rattle.table.specs.declared.Figures.{Figures}
 use Rattle.table.specs.declared.LockRecord.{LockRecord}
 use Rattle.table.specs.declared.State.{State}
-use Rattle.table.specs.Bytes.{Zeros, padded}
+use Rattle.table.specs.Bytes.{padded}
 use Rattle.table.specs.Each.{each, offset}
 use Rattle.table.specs.Entries.{count_of, entries_in, columns_of}
 use Rattle.table.specs.Meaning.{size, is_set, lifetime_of, key_of, entries_of, view, passphrase, gateway_of, no_figures, end_of, flag_of, limited_flag, kept_seconds, figures_for, bytes_for, laid, lock_of, state_of, layout}

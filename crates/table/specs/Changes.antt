@@ -4,7 +4,7 @@ use Rattle.wire.specs.Limits.{entries_limit, store_size, last_number}
 use Rattle.wire.specs.Write.{write}
 use Rattle.rule.specs.declared.Found.TheVariants.{At}
 use Rattle.rule.specs.declared.Millis.{Millis}
-use Rattle.rule.specs.Gateway.{Entry as Key, Gateway, due_at, place_for, NewKey, new_entry}
+use Rattle.rule.specs.Gateway.{Entry as Key, due_at, place_for, NewKey, new_entry}
 use Rattle.rule.specs.Soundness.{Fits}
 use Rattle.table.specs.declared.Columns.{Columns}
 use Rattle.table.specs.declared.Kept.{Kept}

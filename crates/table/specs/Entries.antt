@@ -1,8 +1,6 @@
 -- The columns side by side: the figures of an entry are what they have at one index. Entries are those before the first number that is 0.
 use Rattle.std.specs.Prelude.{ℕ, zero, suc, ◌+◌, ◌≡◌, cond, List, [], ◌∷◌, map, length, take, get_or, set, eqb}
 use Rattle.wire.specs.Limits.{entries_limit}
-use Rattle.wire.specs.declared.Seconds.{Seconds}
-use Rattle.rule.specs.declared.Millis.{Millis}
 use Rattle.table.specs.declared.Columns.{Columns}
 use Rattle.table.specs.declared.Figures.{Figures}
 use Rattle.table.specs.Bytes.{sum_of, padded}

@@ -1,6 +1,5 @@
--- What was gathered is 0 exactly where all bytes before place i are equal; with the rest it says what the whole does. Assumes nothing.
 use native.Mathlib.Omega.{arith}
-use Prim.Native.Nat.{ℕ, ◌+◌, ◌-◌, ◌≤◌, ◌<◌}
+use Prim.Native.Nat.{ℕ, ◌+◌, ◌≤◌, ◌<◌}
 use mathlib.Core.Path.{◌≡◌, refl, sym, ◌∙◌}
 use mathlib.Core.Bool.{Bool, true, false, ◌&&◌}
 use mathlib.Core.List.{List}
@@ -12,8 +11,7 @@ use lib.Seq.{length-take-le, get_or-take}
 use Rattle.wire.specs.Read.{same}
 use Rattle.wire.proofs.Reading.{same-long}
 use Rattle.table.proofs.ByteLaws.{same_along, equal_step, equal_end}
-use Rattle.table.proofs.locks.is_passphrase.Statement.{statement}
-use Rattle.table.proofs.locks.is_passphrase.Tie as tie
+use Rattle.table.proofs.locks.is_passphrase.Goals as goal
 
 -- what a turn makes of d, which was gathered before it
 abbrev gathered : (d x y : ℕ) → ℕ
@@ -29,7 +27,6 @@ module _ (d x y : ℕ) where
       let in-x = and_le_l x y in
       let in-y = and_le_r x y in
       (omega arith, omega arith)
-
   gathers : eqb (gathered d x y) 0 ≡ eqb d 0 && eqb x y
   gathers = cases (eqb d 0) (eqb x y) refl refl
     where
@@ -42,55 +39,30 @@ module _ (d x y : ℕ) where
 module _ (n : ℕ) (bytes p : List ℕ) (within : n ≤ length bytes) where
   front : length (take n bytes) ≡ n
   front = length-take-le n bytes within
-
   another-length : (n ≡ length p → ⊥) → false ≡ same (take n bytes) p
   another-length h = same-long (take n bytes) p (λ e. h (sym front ∙ e))
-
   turn : n ≡ length p → (i d : ℕ) → i < n
       → same_along (eqb d 0) i (take n bytes) p ≡ same_along (eqb (gathered d (get_or bytes i 0) (get_or p i 0)) 0) (i + 1) (take n bytes) p
   turn given i d h = rw (gathers, ← get_or-take n bytes i 0 h) (equal_step (take n bytes) p i (eqb d 0) (omega (arith, front)) (omega arith))
-
   decision : n ≡ length p → (i d : ℕ) → n ≤ i → same_along (eqb d 0) i (take n bytes) p ≡ eqb d 0
   decision given i d h = equal_end (take n bytes) p i (eqb d 0) (omega (arith, front)) (omega arith)
 
-abbrev invariant-loop : tie.invariant-loop
-invariant-loop bytes len p differences₀ i₀ differences i = (i ≤ len) × (same (take len bytes) p ≡ same_along (eqb differences 0) i (take len bytes) p)
+pub returns-then-len-p : goal.returns-then-len-p
+returns-then-len-p c =
+    let a = c.args in
+    another-length a.len a.bytes.now a.p.now (omega arith) c.if-len-p.true
 
-abbrev decreases-loop : tie.decreases-loop
-decreases-loop bytes len p differences₀ i₀ differences i = len - i
+pub loop-i-init : goal.loop-i-init
+loop-i-init c = (omega arith, refl)
 
-lengths_differ : tie.Need-returns invariant-loop decreases-loop
-lengths_differ c =
-    let start : tie.Start invariant-loop decreases-loop = search in
-    let a = start.args in
-    another-length a.len a.bytes.now a.p.now (omega arith) c.if1.true
+pub loop-i-preserved : goal.loop-i-preserved
+loop-i-preserved c =
+    let l = c.loop-i in
+    let a = c.args in
+    (omega arith, l.invariant.1 ∙ turn a.len a.bytes.now a.p.now (omega arith) (omega arith) l.i l.differences (omega arith))
 
-loop-again : tie.Need-loop-preserved invariant-loop decreases-loop
-loop-again c =
-    let turned : tie.At-loop invariant-loop decreases-loop = search in
-    let l = turned.loop in
-    let start : tie.Start invariant-loop decreases-loop = search in
-    let a = start.args in
-    (omega arith, l.inv.1 ∙ turn a.len a.bytes.now a.p.now (omega arith) (omega arith) l.i l.differences (omega arith))
-
-decides : tie.Need-returns-2 invariant-loop decreases-loop
-decides c =
-    let l = c.before.loop in
-    let start : tie.Start invariant-loop decreases-loop = search in
-    let a = start.args in
+pub returns : goal.returns
+returns c =
+    let l = c.loop-i in
+    let a = c.args in
     sym (l.invariant.1 ∙ decision a.len a.bytes.now a.p.now (omega arith) (omega arith) l.i l.differences (omega arith))
-
-pub is-passphrase-spec : {M : Type 1} → statement M
-is-passphrase-spec =
-    tie.close
-    (tie.spec
-    invariant-loop
-    decreases-loop
-    lengths_differ
-    (λ c. (omega arith, refl))
-    (λ c. omega arith)
-    (λ c. omega arith)
-    (λ c. omega arith)
-    (λ c. omega arith)
-    loop-again
-    decides)

@@ -3,12 +3,8 @@ use mathlib.Core.Path.{refl}
 use Rattle.table.specs.Bytes.{padded}
 use Rattle.table.specs.Entries.{columns_of}
 use Rattle.table.specs.Meaning.{lock_of, state_of}
-use Rattle.table.proofs.fresh.Statement.{statement}
-use Rattle.table.proofs.fresh.Tie as tie
+use Rattle.table.proofs.fresh.Goals as goal
 
-returns : tie.Need-returns
+pub returns : goal.returns
 unfolding state_of columns_of lock_of padded
 returns c = refl
-
-pub fresh-spec : {M : Type 1} → statement M
-fresh-spec = tie.close (tie.spec returns)
