@@ -113,7 +113,7 @@ module _ (s : List ℕ) (small : Bytes s) where
       stands_next at blob comment forms rest h k o x blobs i (forms_at (behind (behind at blob) comment) rest r x.next i (omega arith))
 
   -- where no item stands, going over items stops
-  item-fault : {rest : List ℕ} {place : ℕ} (at n : ℕ) → ItemFault at rest place → drop at s ≡ rest → items_at (suc n) s at ≡ Fault place
+  item-fault : (at n : ℕ) {rest : List ℕ} {place : ℕ} → ItemFault at rest place → drop at s ≡ rest → items_at (suc n) s at ≡ Fault place
   unfolding items_at part
   item-fault at n (blob_cut rest never) e = rw (string-missing s small at (rw e never))
   item-fault at n (comment_cut blob rest h never) e =

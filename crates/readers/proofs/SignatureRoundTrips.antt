@@ -38,6 +38,12 @@ use Rattle.readers.proofs.FormLaws.{starts_rule}
 
 -- ## The hash
 
+fitting_fits : {hash : ℕ} {t : List ℕ} → Fitting hash t → fits hash t ≡ true
+unfolding fits same
+fitting_fits (any t) = refl
+fitting_fits sha256 = refl
+fitting_fits sha512 = refl
+
 pub fit-rule : FitRule
 unfolding fits same
 fit-rule hash t = (
@@ -45,7 +51,7 @@ fit-rule hash t = (
       cond_cases P (eqb hash 0) (λ e _. rw (eqb-true hash 0 e) (any t)) λ _.
       cond_cases P (eqb hash 2) (λ e q. rw (eqb-true hash 2 e, same_true t (bytes "rsa-sha2-256") q) sha256) λ _.
       cond_cases P (eqb hash 4) (λ e q. rw (eqb-true hash 4 e, same_true t (bytes "rsa-sha2-512") q) sha512) λ _ never. let z : ◌≡◌ {A = ℕ} 0 1 = cc in absurd (omega arith)),
-  λ f. elim f [ any t ↦ refl | sha256 ↦ refl | sha512 ↦ refl ],
+  fitting_fits,
 )
 
 -- ## A signature at a place
