@@ -9,8 +9,7 @@ use Rattle.table.specs.declared.State.{State}
 use Rattle.table.specs.Bytes.{Zeros, sum_of}
 use Rattle.table.specs.Each.{offset}
 use Rattle.table.specs.Entries.{count_of, start_in}
-use Rattle.table.specs.Meaning.{size, entries_of, gateway_of, end_of}
-use Rattle.table.specs.Soundness.{Sound}
+use Rattle.table.specs.Meaning.{size, entries_of, end_of}
 use Rattle.table.specs.Promises.{sum, blob_from}
 use Rattle.table.proofs.EntryLaws.{entries_length, start_is}
 use Rattle.table.proofs.StateLaws.{state_count}

@@ -1,0 +1,15 @@
+-- What lies behind the part is moved to its new end; what is freed is zeroed. Assumes nothing.
+use native.Mathlib.Omega.{arith}
+use Rattle.gaps.proofs.OpeningLaws.{grown, shrunk}
+use Rattle.gaps.proofs.opening.resize.Goals as goal
+
+pub returns-then-from-to : goal.returns-then-from-to
+returns-then-from-to c =
+    let a = c.args in
+    grown a.store.now a.at a.old a.new a.end c.requires.0 c.requires.1 c.requires.2 c.requires.3 c.move_up.new.store (omega arith) c.move_up.ensures
+
+pub returns : goal.returns
+returns c =
+    let a = c.args in
+    shrunk a.store.now a.at a.old a.new a.end c.requires.0 c.requires.1 c.requires.2 c.requires.3 c.move_down.new.store c.wipe.new.p (omega arith)
+    c.move_down.ensures c.wipe.ensures

@@ -1,0 +1,13 @@
+-- What was found before place i, and the rest, say what the whole does. The measure is how many are left. Assumes nothing.
+use Prim.Native.Nat.{◌≤◌, ◌-◌}
+use mathlib.Core.Path.{◌≡◌}
+use lib.ListN.{length}
+use Rattle.table.specs.Bytes.{among}
+use Rattle.soundness.proofs.ApartLaws.{found_along}
+use Rattle.soundness.proofs.apart.is_short_among.Given as goal
+
+abbrev pub invariant-loop-i : goal.invariant-loop-i
+invariant-loop-i l = (l.i ≤ length l.shorts) × (among l.short l.shorts ≡ found_along l.found l.i l.short l.shorts)
+
+abbrev pub decreases-loop-i : goal.decreases-loop-i
+decreases-loop-i l = length l.shorts - l.i
