@@ -1,5 +1,5 @@
 -- Entries are told apart by numbers and short numbers.
-use Prim.Native.Nat.{ℕ, zero, suc, ◌+◌, ◌-◌, ◌*◌, ◌≤◌, ◌<◌}
+use Prim.Native.Nat.{ℕ, zero, suc, ◌+◌, ◌-◌, ◌≤◌, ◌<◌}
 use mathlib.Core.Path.{◌≡◌, refl, sym, ap, ◌∙◌}
 use mathlib.Core.Bool.{Bool, true, false, ◌&&◌, ◌||◌, not, cond, and-false}
 use mathlib.Core.Option.{some}
@@ -10,9 +10,7 @@ use native.Mathlib.Nat.{not-suc-le-zero, le_of_suc-le-suc, suc-add, sub-zero, su
 use borrow.Author.Tests.{eqb-true, eqb-false, eq-eqb, ne_eqb, ltb-true, lt-ltb, le-ltb, not-true}
 use lib.Dec.{eqb, ltb}
 use lib.ListN.{length, take, drop, get_or, set, length-drop, drop_of_length-le}
-use lib.Seq.{length-take-le, drop-cons, take-nil, take-suc-set, get_or-take, get_or-drop, ext_get_or}
-use Rattle.wire.specs.Limits.{store_size}
-use Rattle.wire.specs.Numbers.{Bytes}
+use lib.Seq.{length-take-le, drop-cons, take-nil, take-suc-set, get_or-take, ext_get_or}
 use Rattle.wire.specs.Read.{same}
 use Rattle.wire.proofs.Cases.{and_left, and_right}
 use Rattle.wire.proofs.Reading.{same_true, same-rule}
@@ -33,7 +31,7 @@ use Rattle.table.proofs.EntryLaws.{up_length, up_at, up_same, up_take, map-up, c
 use Rattle.table.proofs.StateLaws.{key_at, state_count, state_entry, state_held, blob_lies}
 use Rattle.table.proofs.TestLaws.{short_rule}
 use Rattle.soundness.specs.Rising.{below_first, rising}
-use Rattle.soundness.proofs.SoundnessLaws.{all-behind, walk_on, walk_out, walk_end}
+use Rattle.soundness.proofs.SoundnessLaws.{walk_on, walk_out, walk_end}
 
 -- ## Among the numbers left, of any width
 

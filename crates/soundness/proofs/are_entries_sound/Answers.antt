@@ -1,7 +1,8 @@
 use native.Mathlib.Omega.{arith}
-use Prim.Native.Nat.{◌-◌}
 use Rattle.table.proofs.EntryLaws.{count_within}
 use Rattle.soundness.proofs.SoundnessLaws.{entries_all, entry_on, entry_out, entries_end}
+use mathlib.Core.Path.{ap}
+use mathlib.Core.Bool.{not}
 use Rattle.soundness.proofs.are_entries_sound.Goals as goal
 
 pub loop-i-init : goal.loop-i-init
@@ -18,13 +19,13 @@ pub returns-then-not-are_figures_sound : goal.returns-then-not-are_figures_sound
 returns-then-not-are_figures_sound c =
     let n = c.count-n.ensures in
     let l = c.loop-i in
-    entry_out _ _ _ l.i _ _ (omega arith) c.figures_at-f.ensures c.are_figures_sound.ensures c.if-not-are_figures_sound.true l.invariant.1
+    entry_out _ _ _ l.i _ _ (omega arith) c.figures_at-f.ensures c.are_figures_sound.ensures (ap not c.if-not-are_figures_sound.true) l.invariant.1
 
 pub loop-i-preserved : goal.loop-i-preserved
 loop-i-preserved c =
     let n = c.count-n.ensures in
     let l = c.loop-i in
-    (omega arith, entry_on _ _ _ l.i _ _ (omega arith) c.figures_at-f.ensures c.are_figures_sound.ensures c.if-not-are_figures_sound.false l.invariant.1)
+    (omega arith, entry_on _ _ _ l.i _ _ (omega arith) c.figures_at-f.ensures c.are_figures_sound.ensures (ap not c.if-not-are_figures_sound.false) l.invariant.1)
 
 pub returns : goal.returns
 returns c =

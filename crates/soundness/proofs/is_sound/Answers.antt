@@ -4,6 +4,8 @@ use Prim.Native.Nat.{◌≤◌}
 use Rattle.wire.specs.Limits.{last_number}
 use Rattle.table.specs.Soundness.{sound_state}
 use Rattle.soundness.proofs.SoundnessLaws.{tests, long_by}
+use mathlib.Core.Path.{ap}
+use mathlib.Core.Bool.{not}
 use Rattle.soundness.proofs.is_sound.Goals as goal
 
 pub returns-then-store-ne-STORE_SIZE : goal.returns-then-store-ne-STORE_SIZE
@@ -25,7 +27,7 @@ returns-then-not-is_lock_sound c =
     search tests depth 16
 
 pub are_keys_sound-requires : goal.are_keys_sound-requires
-are_keys_sound-requires c = (long_by _ _ c.if-not-are_long.false c.are_long.ensures, c.if-store-ne-STORE_SIZE.false)
+are_keys_sound-requires c = (long_by _ _ (ap not c.if-not-are_long.false) c.are_long.ensures, c.if-store-ne-STORE_SIZE.false)
 
 pub returns : goal.returns
 unfolding sound_state

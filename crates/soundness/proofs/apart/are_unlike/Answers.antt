@@ -1,11 +1,13 @@
 use borrow.Author.Rules.{rules}
 use native.Mathlib.Omega.{arith}
-use Prim.Native.Nat.{ℕ, ◌<◌, ◌-◌}
+use Prim.Native.Nat.{ℕ, ◌<◌}
 use mathlib.Core.Path.{◌≡◌, refl, sym}
 use Rattle.table.specs.Entries.{start_in}
 use Rattle.table.proofs.EntryLaws.{start_none}
 use Rattle.table.proofs.ReadLaws.{Entered, entered}
 use Rattle.soundness.proofs.ApartLaws.{distinct-on, distinct-out, distinct-end}
+use mathlib.Core.Path.{ap}
+use mathlib.Core.Bool.{not}
 use Rattle.soundness.proofs.apart.are_unlike.Goals.{Start}
 use Rattle.soundness.proofs.apart.are_unlike.Goals as goal
 
@@ -26,7 +28,7 @@ pub returns-then-not-is_unlike : goal.returns-then-not-is_unlike
 returns-then-not-is_unlike c =
     let counted = c.requires.2 in
     let l = c.loop-i in
-    distinct-out _ _ _ _ _ l.i _ (omega arith) c.is_unlike.ensures c.if-not-is_unlike.true l.invariant.2
+    distinct-out _ _ _ _ _ l.i _ (omega arith) c.is_unlike.ensures (ap not c.if-not-is_unlike.true) l.invariant.2
 
 pub offset_bounds-blob_lens-i : goal.offset_bounds-blob_lens-i
 offset_bounds-blob_lens-i c =  let e = here (goal.at.offset_bounds-blob_lens-i c).Start c.loop-i.i c.loop-i.at (omega arith) c.loop-i.invariant.1 in search rules
@@ -59,7 +61,7 @@ pub loop-i-preserved : goal.loop-i-preserved
 loop-i-preserved c =
     let counted = c.requires.2 in
     let l = c.loop-i in
-    (omega arith, (here (goal.at.loop-i-preserved c).Start l.i l.at (omega arith) l.invariant.1).next, distinct-on _ _ _ _ _ l.i _ (omega arith) c.is_unlike.ensures c.if-not-is_unlike.false l.invariant.2)
+    (omega arith, (here (goal.at.loop-i-preserved c).Start l.i l.at (omega arith) l.invariant.1).next, distinct-on _ _ _ _ _ l.i _ (omega arith) c.is_unlike.ensures (ap not c.if-not-is_unlike.false) l.invariant.2)
 
 pub returns : goal.returns
 returns c =

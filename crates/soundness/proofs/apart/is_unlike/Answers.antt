@@ -6,6 +6,8 @@ use Rattle.wire.specs.Limits.{entries_limit}
 use Rattle.table.proofs.EntryLaws.{count_within}
 use Rattle.table.proofs.ReadLaws.{Entered, entered}
 use Rattle.soundness.proofs.ApartLaws.{blob_here, told-by_number, told-by_short, told-by_blob, told-by_none}
+use mathlib.Core.Path.{ap}
+use mathlib.Core.Bool.{not}
 use Rattle.soundness.proofs.apart.is_unlike.Goals.{Start}
 use Rattle.soundness.proofs.apart.is_unlike.Goals as goal
 
@@ -46,7 +48,7 @@ bounds-shorts-i c =  let e = here (goal.at.bounds-shorts-i c).Start in let w = w
 
 pub returns-then-not-is_short_among : goal.returns-then-not-is_short_among
 returns-then-not-is_short_among c s k shows held =
-    told-by_short _ _ _ _ _ _ _ _ c.requires.2 c.requires.3 c.requires.6 s k shows held _ c.is_number_behind.ensures c.if-is_number_behind.false _ c.is_short_among.ensures c.if-not-is_short_among.true
+    told-by_short _ _ _ _ _ _ _ _ c.requires.2 c.requires.3 c.requires.6 s k shows held _ c.is_number_behind.ensures c.if-is_number_behind.false _ c.is_short_among.ensures (ap not c.if-not-is_short_among.true)
 
 pub offset_bounds-blob_lens-i : goal.offset_bounds-blob_lens-i
 offset_bounds-blob_lens-i c =  let e = here (goal.at.offset_bounds-blob_lens-i c).Start in let w = within (goal.at.offset_bounds-blob_lens-i c).Start in search rules
