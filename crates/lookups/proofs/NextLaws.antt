@@ -106,10 +106,10 @@ module _ (after : ℕ) (k : Key) (ks : List Key) where
       (λ v. taken m over (inr (ltb-true n m v)) l)
       (λ v. kept m (eqb-false m 0 u) (ltb-false n m v) l)))
 
-least_above : (after : ℕ) (ks : List Key) → Least after ks (least_above after ks)
+least_above_lem : (after : ℕ) (ks : List Key) → Least after ks (least_above after ks)
 unfolding least_above
-least_above after [] = none_above refl (λ n h. absurd (some_not_none (sym h.there)))
-least_above after (k ∷ ks) = nearer-least after k ks (least_above after ks) (least_above after ks)
+least_above_lem after [] = none_above refl (λ n h. absurd (some_not_none (sym h.there)))
+least_above_lem after (k ∷ ks) = nearer-least after k ks (least_above after ks) (least_above_lem after ks)
 
 -- ## Of a gateway
 
@@ -156,7 +156,7 @@ module _ (g : Gateway) (after m : ℕ) (l : Least after g.entries m) where
 module _ (s : State) (x : List ℕ) (after : ℕ) where
   -- what is told of a sound pair
   told-least : Sound s x → Least after (gateway_of s x).entries (next_told s x after)
-  told-least S = subst (Least after (gateway_of s x).entries) (next_sound s x after (is_sound s x S)) (least_above after (gateway_of s x).entries)
+  told-least S = subst (Least after (gateway_of s x).entries) (next_sound s x after (is_sound s x S)) (least_above_lem after (gateway_of s x).entries)
 
   -- a number is told of a sound pair only
   told-sound : next_told s x after ≢ 0 → Sound s x

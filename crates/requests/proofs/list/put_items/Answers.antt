@@ -1,0 +1,108 @@
+use native.Mathlib.Omega.{arith}
+use borrow.Author.Rules.{rules}
+use mathlib.Core.Path.{sym}
+use Rattle.table.specs.declared.State.{State}
+use Rattle.table.specs.Soundness.{Sound}
+use Rattle.table.specs.Shown.{ShowsParts}
+use Rattle.table.proofs.EntryLaws.{start_none}
+use Rattle.table.proofs.ReadLaws.{Entered, entered, index_within}
+use Rattle.table.proofs.WritingLaws.{sound-meaning}
+use Rattle.requests.proofs.ListSteps.{list_fits, shown_count, item-shown, item-there, none_written, one_written, all-written}
+use Rattle.requests.proofs.list.put_items.Goals.{In-loop-i}
+use Rattle.requests.proofs.list.put_items.Goals as goal
+
+-- a turn is on an entry whose bytes lie in the store
+here : (c : In-loop-i)
+    → Entered c.args.numbers.now c.args.blob_lens.now c.args.fields_lens.now c.args.comment_lens.now c.args.store.now c.loop-i.i c.loop-i.from
+here c =
+    let n = c.count-count.ensures in
+    let more = c.loop-i-test.true in
+    entered _ _ _ _ _ (list_fits c.requires.0).housed c.loop-i.i (omega arith) c.loop-i.from c.loop-i.invariant.1
+
+pub loop-i-init : goal.loop-i-init
+loop-i-init c = (omega arith, sym (start_none _ _ _), λ s shows S. none_written _ _ _)
+
+pub offset_bounds-blob_lens-i : goal.offset_bounds-blob_lens-i
+offset_bounds-blob_lens-i c =  let e = here (goal.at.offset_bounds-blob_lens-i c).In-loop-i in search rules
+
+pub bounds-blob_lens-i : goal.bounds-blob_lens-i
+bounds-blob_lens-i c =  let e = here (goal.at.bounds-blob_lens-i c).In-loop-i in search rules
+
+pub offset_bounds-fields_lens-i : goal.offset_bounds-fields_lens-i
+offset_bounds-fields_lens-i c =  let e = here (goal.at.offset_bounds-fields_lens-i c).In-loop-i in search rules
+
+pub bounds-fields_lens-i : goal.bounds-fields_lens-i
+bounds-fields_lens-i c =  let e = here (goal.at.bounds-fields_lens-i c).In-loop-i in search rules
+
+pub offset_bounds-comment_lens-i : goal.offset_bounds-comment_lens-i
+offset_bounds-comment_lens-i c =  let e = here (goal.at.offset_bounds-comment_lens-i c).In-loop-i in search rules
+
+pub bounds-comment_lens-i : goal.bounds-comment_lens-i
+bounds-comment_lens-i c =  let e = here (goal.at.bounds-comment_lens-i c).In-loop-i in search rules
+
+pub put_item-place-requires : goal.put_item-place-requires
+put_item-place-requires c =
+    let at_entry_lem = here (goal.at.put_item-place-requires c).In-loop-i in
+    let w = c.requires.0 in
+    let fits = list_fits w in
+    let written = c.loop-i.invariant.2 w.state w.shows w.sound in
+    let index = index_within _ _ _ _ _ fits.housed _ at_entry_lem.held in
+    let room = c.requires.1 in
+    (at_entry_lem.within, fits.blobs_fit _ at_entry_lem.held, fits.comments_fit _ at_entry_lem.held, omega arith)
+
+pub offset_bounds-blob_lens-i-in-loop-i : goal.offset_bounds-blob_lens-i-in-loop-i
+offset_bounds-blob_lens-i-in-loop-i c =  let e = here (goal.at.offset_bounds-blob_lens-i-in-loop-i c).In-loop-i in search rules
+
+pub bounds-blob_lens-i-in-loop-i : goal.bounds-blob_lens-i-in-loop-i
+bounds-blob_lens-i-in-loop-i c =  let e = here (goal.at.bounds-blob_lens-i-in-loop-i c).In-loop-i in search rules
+
+pub offset_bounds-fields_lens-i-in-loop-i : goal.offset_bounds-fields_lens-i-in-loop-i
+offset_bounds-fields_lens-i-in-loop-i c =  let e = here (goal.at.offset_bounds-fields_lens-i-in-loop-i c).In-loop-i in search rules
+
+pub bounds-fields_lens-i-in-loop-i : goal.bounds-fields_lens-i-in-loop-i
+bounds-fields_lens-i-in-loop-i c =  let e = here (goal.at.bounds-fields_lens-i-in-loop-i c).In-loop-i in search rules
+
+pub offset_bounds-comment_lens-i-in-loop-i : goal.offset_bounds-comment_lens-i-in-loop-i
+offset_bounds-comment_lens-i-in-loop-i c =  let e = here (goal.at.offset_bounds-comment_lens-i-in-loop-i c).In-loop-i in search rules
+
+pub bounds-comment_lens-i-in-loop-i : goal.bounds-comment_lens-i-in-loop-i
+bounds-comment_lens-i-in-loop-i c =  let e = here (goal.at.bounds-comment_lens-i-in-loop-i c).In-loop-i in search rules
+
+pub overflow_add-from : goal.overflow_add-from
+overflow_add-from c =  let e = here (goal.at.overflow_add-from c).In-loop-i in search rules
+
+pub overflow_add-from-in-loop-i : goal.overflow_add-from-in-loop-i
+overflow_add-from-in-loop-i c =  let e = here (goal.at.overflow_add-from-in-loop-i c).In-loop-i in search rules
+
+pub overflow_add-from-in-loop-i-2 : goal.overflow_add-from-in-loop-i-2
+overflow_add-from-in-loop-i-2 c =  let e = here (goal.at.overflow_add-from-in-loop-i-2 c).In-loop-i in search rules
+
+pub loop-i-preserved : goal.loop-i-preserved
+loop-i-preserved c =
+    let at_entry_lem = here (goal.at.loop-i-preserved c).In-loop-i in
+    let next = at_entry_lem.next in
+    let more = c.loop-i-test.true in
+    let put = c.put_item-place.ensures in (
+      omega arith,
+      omega arith,
+      λ s shows S.
+          let shown = item-shown s _ shows c.loop-i.i at_entry_lem.held c.loop-i.from at_entry_lem.starts in
+          let there = item-there s c.args.store.now shows c.loop-i.i at_entry_lem.held in
+          one_written _ (sound-meaning _ _ S) _ _ _ _ _ (c.loop-i.invariant.2 s shows S) c.requires.1 _ _ _ _ there shown put.0 put.1,
+    )
+
+pub shape_of-reply : goal.shape_of-reply
+shape_of-reply c =
+    let w = c.requires.0 in
+    (c.loop-i.invariant.2 w.state w.shows w.sound).size
+
+pub returns : goal.returns
+returns c =
+    let w = c.requires.0 in
+    let n = c.count-count.ensures in
+    let ended = c.loop-i-test.false in
+    let below = c.loop-i.invariant.0 in
+    let inv = c.loop-i.invariant.2 in
+    let all : (s : State) → ShowsParts c.args.numbers.now c.args.blob_lens.now c.args.fields_lens.now c.args.comment_lens.now s → Sound s c.args.store.now → _
+    = λ s shows S. let many = shown_count s c.args.store.now shows in all-written _ (sound-meaning _ _ S) _ _ _ _ _ (inv s shows S) c.requires.1 (omega arith) (omega arith) in
+    ((all w.state w.shows w.sound).2, λ s shows S. ((all s shows S).0, (all s shows S).1))
