@@ -43,7 +43,7 @@ use Rattle.server.specs.Calls.{call_of}
 use Rattle.server.specs.First.{first_values, nothing_lent, first_in, FirstDone, first_by, first_of}
 use Rattle.server.specs.Runs.{Gave, Step, ByCall, EndedWith, Unchanged, EndsAs, as_call, giving}
 use Rattle.server.specs.FirstPromises.{FirstsApart, FirstStep, first_giving, ByFirst, FirstEnded, Whole, payload_in, FirstUnchanged, OnPayload, AsCalled}
-use Rattle.server.specs.FirstPromises.{GateOrFailure, AnyCall, ended_in, step_in, is_made, steps_in}
+use Rattle.server.specs.FirstPromises.{GateOrFailure, ended_in, step_in, is_made, steps_in}
 use Rattle.server.specs.FirstPromises.{FirstNoSecondAnswer, FirstIsTwoSteps, FirstRefusals, FirstRefusedRule, FirstUses, FirstUsesFrame, FirstAsks, FirstBegun, FirstMade}
 use Rattle.server.proofs.Leavings.{gave_of, call-gives, refused_first, code-refusals, code-refusal_leaves, step-ends}
 

@@ -1,6 +1,6 @@
 -- What the first call promises, said of what it gave in numbers, and runs that begin their requests with it. The proofs are in proofs/FirstLaws.antt and
 -- FirstRuns.antt; `Met` says what kind of first call it is: `ByFirst`, or in crate gateway `ByFirstExport`.
-use Rattle.std.specs.Prelude.{ℕ, ◌+◌, ◌≤◌, ◌<◌, ◌≡◌, ◌≢◌, ◌⊎◌, Bool, true, false, cond, List, [], ◌∷◌, ◌++◌, eqb, ltb, length, get_or, drop}
+use Rattle.std.specs.Prelude.{ℕ, ◌+◌, ◌≤◌, ◌<◌, ◌≡◌, ◌≢◌, ◌⊎◌, Bool, true, cond, List, [], ◌∷◌, ◌++◌, eqb, ltb, length, get_or, drop}
 use Rattle.wire.specs.Limits.{payload_limit, store_size, reply_room}
 use Rattle.wire.specs.Read.{cut_of}
 use Rattle.wire.specs.Write.{string}
@@ -13,7 +13,7 @@ use Rattle.table.specs.Soundness.{Sound}
 use Rattle.requests.specs.Outcomes.{lent_of}
 use Rattle.server.specs.declared.first.First.{First}
 use Rattle.server.specs.First.{first_values, nothing_lent, FirstMeets}
-use Rattle.server.specs.Runs.{Gave, Step, ByCall, EndedWith, failure_bytes, CodeRun, end_state, end_store, CodePromises}
+use Rattle.server.specs.Runs.{Gave, Step, EndedWith, failure_bytes, CodeRun, end_state, end_store, CodePromises}
 
 -- ## One first call
 
