@@ -1,4 +1,5 @@
 -- The definition goes by the same numbers. Assumes nothing.
+use mathlib.Core.Path.{◌≡◌}
 use native.Mathlib.Omega.{arith}
 use Rattle.flat.specs.Flat.{said_of}
 use Rattle.flat.proofs.FlatSteps.{told-no, told-yes, told-nothing}
@@ -14,4 +15,4 @@ returns-in-2 c = told-yes _ _ _ _ c.in-2.is
 
 pub returns-in_default : goal.returns-in_default
 unfolding said_of
-returns-in_default c = told-nothing _ _ _ _ (λ e. omega (arith, e)) (λ e. omega (arith, e))
+returns-in_default c = told-nothing _ _ _ _ (λ (e : c.args.word ≡ 1). omega arith) (λ (e : c.args.word ≡ 2). omega arith)
