@@ -20,7 +20,6 @@ use Rattle.table.specs.Soundness.{Means}
 use Rattle.lookups.specs.Told.{key_told}
 use Rattle.lookups.specs.Promises.{Tells}
 use Rattle.lookups.proofs.HeldLaws.{key-sound, key-rule}
-use Rattle.requests.specs.declared.Outcome.{Outcome}
 use Rattle.requests.specs.Ends.{Done}
 use Rattle.requests.specs.Outcomes.{code, outcome_values}
 use Rattle.requests.proofs.OutcomeLaws.{outcomes_apart}

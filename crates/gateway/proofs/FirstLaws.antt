@@ -15,7 +15,7 @@ use Rattle.table.specs.declared.State.{State}
 use Rattle.requests.specs.declared.Outcome.{Outcome}
 use Rattle.requests.specs.declared.Outcome.TheVariants.{Gate, Check, Confirm, Sign, Reply, Close}
 use Rattle.requests.specs.declared.Outcome.TheVariants as outcome
-use Rattle.server.specs.declared.first.First.TheVariants.{MoreNeeded, TooLong, Refused}
+use Rattle.server.specs.declared.first.First.TheVariants.{MoreNeeded, TooLong}
 use Rattle.server.specs.Calls.{call_of}
 use Rattle.server.specs.First.{nothing_lent, first_in, first_by, first_of}
 use Rattle.server.specs.FirstPromises.{FirstStep, ByFirst}

@@ -8,12 +8,11 @@ use Rattle.table.specs.declared.State.{State}
 use Rattle.table.specs.Soundness.{Sound}
 use Rattle.requests.specs.declared.Outcome.{Outcome}
 use Rattle.requests.specs.declared.Outcome.TheVariants.{Refused}
-use Rattle.requests.specs.Outcomes.{outcome_values}
 use Rattle.requests.proofs.OutcomeLaws.{outcomes_apart}
 use Rattle.server.specs.declared.first.First.{First}
 use Rattle.server.specs.declared.first.First.TheVariants as answer
 use Rattle.server.specs.Calls.{call_of}
-use Rattle.server.specs.First.{first_values, first_of}
+use Rattle.server.specs.First.{first_of}
 use Rattle.server.specs.Inner.{InnerMeets, InnerFirstMeets}
 use Rattle.server.specs.Runs.{Step}
 use Rattle.server.specs.FirstPromises.{FirstStep}
