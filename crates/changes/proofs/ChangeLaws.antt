@@ -56,7 +56,7 @@ end_in t = start_in t.blob_lens t.fields_lens t.comment_lens entries_limit
 -- what is asked of columns and store that are closed
 pub record Closable (t : Columns) (x : List ℕ) : Type 0 where
   pub long : Long t
-  pub store_size_lem : length x ≡ store_size
+  pub store_sized : length x ≡ store_size
   pub room : end_in t ≤ store_size
   pub end : Zeros (drop (end_in t) x)
 
@@ -64,7 +64,7 @@ pub written-closable : (t : Columns) (x : List ℕ) (ks : List Key) → Written 
 written-closable t x ks w =
     rw (w.table, w.store) (record {
       long = columns-long (map figures_for ks) (few_figures ks w.few);
-      store_size_lem = padded-size store_size (laid ks) w.fits;
+      store_sized = padded-size store_size (laid ks) w.fits;
       room = let e = end_shown ks w.few in let f = w.fits in omega arith;
       end = rw (end_shown ks w.few) (padded-rest store_size (laid ks));
     })
@@ -215,7 +215,7 @@ may_put_room s x i k may =
       long_blobs = c.long.blobs;
       long_fields = c.long.fields;
       long_comments = c.long.comments;
-      store_size_lem = c.store_size_lem;
+      store_sized = c.store_sized;
       room = c.room;
       new_room = rw w.table (omega arith);
       end = c.end;

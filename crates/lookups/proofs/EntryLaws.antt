@@ -38,7 +38,7 @@ pub lies : (s : State) (x : List ℕ) → Sound s x → (i : ℕ) → i < count_
 lies s x S i h =
     let housed = state_housed s x S _ _ _ _ (record { numbers_are = refl; blobs_are = refl; fields_are = refl; comments_are = refl }) in
     let within = part-within _ _ _ _ x housed i h in
-    let all = S.store_size_lem in
+    let all = S.store_sized in
     record { index = index_within _ _ _ _ x housed i h; within = within; stored = omega arith; comment_fits = (figures_at_lem s x S i h).comment_fits }
 
 -- ## It is written as the key is

@@ -93,7 +93,7 @@ pub record InNumbers (o : rule.Outcome) (values : List ℕ) : Type 0 where
   pub refusal : (n : ℕ) → (o ≡ refused n) ↔ (values ≡ 0 ∷ n ∷ [])
   pub gate_class : (class : ℕ) → (o ≡ asks (gate class)) ↔ (values ≡ 1 ∷ class ∷ [])
   pub check_part : (from to : ℕ) → (o ≡ asks (check from to)) ↔ (values ≡ 2 ∷ from ∷ to ∷ [])
-  pub confirmation_of_lem : (n : ℕ) → (o ≡ asks (confirmation n)) ↔ (values ≡ 3 ∷ n ∷ [])
+  pub confirmation_asked : (n : ℕ) → (o ≡ asks (confirmation n)) ↔ (values ≡ 3 ∷ n ∷ [])
   pub signature_plain : (n from to : ℕ) → (o ≡ asks (signature n from to Plain)) ↔ (values ≡ 4 ∷ n ∷ from ∷ to ∷ 0 ∷ [])
   pub signature_256 : (n from to : ℕ) → (o ≡ asks (signature n from to Sha256)) ↔ (values ≡ 4 ∷ n ∷ from ∷ to ∷ 256 ∷ [])
   pub signature_512 : (n from to : ℕ) → (o ≡ asks (signature n from to Sha512)) ↔ (values ≡ 4 ∷ n ∷ from ∷ to ∷ 512 ∷ [])

@@ -106,12 +106,12 @@ advance-settled true r g = advance-again r g
 module _ (frame_of : Call → Frame) (oracleOf : Call → Oracle) where
   record AsAlone (other : Gateway) (ts : List Turn) (b : Bool) (reading : Millis) (end : Gateway) : Type 0 where
     replies : landings ts ≡ one_at_aTime frame_of oracleOf other ts
-    end_state_lem : end ≡ settled b reading (one_at_aTime_end frame_of oracleOf other ts)
+    end_state_same : end ≡ settled b reading (one_at_aTime_end frame_of oracleOf other ts)
 
   one_more : (g : Gateway) (t : Turn) (ts : List Turn) (b : Bool) (reading : Millis) (end : Gateway) (x : Landed)
       → served_alone frame_of oracleOf g t ≡ x → t.landing ≡ x.landing → AsAlone x.gateway ts b reading end → AsAlone g (t ∷ ts) b reading end
   unfolding one_at_aTime one_at_aTime_end
-  one_more g t ts b reading end x s e h = record { replies = rw s (λ i. e i ∷ h.replies i); end_state_lem = rw s h.end_state_lem }
+  one_more g t ts b reading end x s e h = record { replies = rw s (λ i. e i ∷ h.replies i); end_state_same = rw s h.end_state_same }
 
   abbrev Kept : List Event → Type 0
   Kept = EveryAccepted (Keeps frame_of oracleOf)
@@ -126,7 +126,7 @@ module _ (frame_of : Call → Frame) (oracleOf : Call → Oracle) where
 
   crossing : (cs : List Call) (b : Bool) (m : Millis) (g h : Gateway) → Together b m g h → Kept (events g cs) → Crosses b m h (events g cs) (end_of g cs)
   unfolding events turns_from heard_in end_of asked_in one_at_aTime one_at_aTime_end served_alone heard is_accepted turn asked From
-  crossing [] b m g h t = λ _. record { replies = refl; end_state_lem = t.same }
+  crossing [] b m g h t = λ _. record { replies = refl; end_state_same = t.same }
   crossing (c ∷ cs) b m g h t = λ keeps.
       let now : Millis = later m c.reading in
       let lone : Landed = alone (oracleOf c) (plan_of g c) in
@@ -151,6 +151,6 @@ module _ (frame_of : Call → Frame) (oracleOf : Call → Oracle) where
       let h = crossing cs false zero_millis g g (together zero_millis g zero-le) keeps in
       record {
         replies = h.replies;
-        end_states = rw h.end_state_lem (advance-settled (asked_in false (events g cs)) (greatest (events g cs)) _);
-        exactly = h.end_state_lem;
+        end_states = rw h.end_state_same (advance-settled (asked_in false (events g cs)) (greatest (events g cs)) _);
+        exactly = h.end_state_same;
       }

@@ -69,7 +69,7 @@ pub record StarredExamples : Type 0 where
   pub empty_payload : call fresh (unasked []) ≡ record { outcome = lands (reply (0 ∷ 0 ∷ 0 ∷ 1 ∷ 5 ∷ [])); gateway = fresh }
   pub fresh-list : call fresh (past_gate (0x0B ∷ [])) ≡ record { outcome = lands (reply (0 ∷ 0 ∷ 0 ∷ 5 ∷ 0x0C ∷ 0 ∷ 0 ∷ 0 ∷ 0 ∷ [])); gateway = fresh }
   pub lock_empty : call fresh (past_gate (0x16 ∷ 0 ∷ 0 ∷ 0 ∷ 0 ∷ [])) ≡ record { outcome = lands SUCCESS; gateway = fresh }
-  pub lock_ab_lem : call fresh (past_gate lock_ab) ≡ record { outcome = lands SUCCESS; gateway = locked_ab }
+  pub lock_ab_lands : call fresh (past_gate lock_ab) ≡ record { outcome = lands SUCCESS; gateway = locked_ab }
   pub success : SUCCESS ≡ reply (0 ∷ 0 ∷ 0 ∷ 1 ∷ 6 ∷ [])
   pub then_list : call locked_ab (unasked (0x0B ∷ [])) ≡ record { outcome = lands FAILURE; gateway = locked_ab }
   pub then_unlock_ac : call locked_ab (past_gate (0x17 ∷ 0 ∷ 0 ∷ 0 ∷ 2 ∷ 0x61 ∷ 0x63 ∷ [])) ≡ record { outcome = lands FAILURE; gateway = locked_ab }

@@ -76,7 +76,7 @@ module _ (s : State) (x p : List ℕ) (t : Millis) (answers : Answers) (bytes bu
     refuses_4 r a f = refuses 4 r fourth f
       where
         fourth : refusal_here ≡ some 4
-        fourth = rw (le-ltb (length buffer) reply_room h, eq-eqb (length x) store_size S.store_size_lem, sound-passed s x S, lt-ltb payload_limit (length p) a)
+        fourth = rw (le-ltb (length buffer) reply_room h, eq-eqb (length x) store_size S.store_sized, sound-passed s x S, lt-ltb payload_limit (length p) a)
 
     module _ (n : ℕ) (a : length p ≤ payload_limit) (lent : n ≡ lent_length (signature_of answers.signature bytes)) where
       pub refuses_5 : (r : Called) → signature_limit < n → r ≡ record { outcome = Refused 5; state = s } → Gives r x buffer
@@ -84,11 +84,11 @@ module _ (s : State) (x p : List ℕ) (t : Millis) (answers : Answers) (bytes bu
       refuses_5 r b f = refuses 5 r fifth f
         where
           fifth : refusal_here ≡ some 5
-          fifth = rw (le-ltb (length buffer) reply_room h, eq-eqb (length x) store_size S.store_size_lem, sound-passed s x S, le-ltb payload_limit (length p) a, ← lent, lt-ltb signature_limit n b)
+          fifth = rw (le-ltb (length buffer) reply_room h, eq-eqb (length x) store_size S.store_sized, sound-passed s x S, le-ltb payload_limit (length p) a, ← lent, lt-ltb signature_limit n b)
 
       pub none_applies : n ≤ signature_limit → refusal_here ≡ none
       unfolding refusal_of lent_of
-      none_applies b = rw (le-ltb (length buffer) reply_room h, eq-eqb (length x) store_size S.store_size_lem, sound-passed s x S, le-ltb payload_limit (length p) a, ← lent, le-ltb signature_limit n b)
+      none_applies b = rw (le-ltb (length buffer) reply_room h, eq-eqb (length x) store_size S.store_sized, sound-passed s x S, le-ltb payload_limit (length p) a, ← lent, le-ltb signature_limit n b)
 
       pub accepts : (r : Called) (y out : List ℕ) (raised : State) (z : List ℕ) → n ≤ signature_limit → Means raised z (advance t (gateway_of s x))
           → Ends buffer r y out (served (gateway_of raised z) (record { payload = p }) (lent_of answers bytes)) → Gives r y out

@@ -20,27 +20,27 @@ module _ (Met : State → List ℕ → FirstStep → Type 0) (by_first : (state 
 
   runs : FirstRuns Met MetLater
   unfolding steps_in any_end_state any_end_store end_state end_store
-  runs state store [] run = record { run = tt; end_state_lem = refl; end_store_lem = refl }
+  runs state store [] run = record { run = tt; end_state_same = refl; end_store_same = refl }
   runs state store (later k ∷ cs) run =
       let rest = runs k.gave.state k.gave.store cs run.1 in
-      record { run = (inr run.0, rest.run); end_state_lem = rest.end_state_lem; end_store_lem = rest.end_store_lem }
+      record { run = (inr run.0, rest.run); end_state_same = rest.end_state_same; end_store_same = rest.end_store_same }
   runs state store (first f ∷ cs) run =
       by_test (is_made f) refl (runs f.gave.state f.gave.store cs run.1) (λ stays. runs state store cs (rw (stays.state_stays, stays.store_stays) at run.1))
     where
       by_test : (b : Bool) → is_made f ≡ b → IsARunOfCalls Met MetLater f.gave.state f.gave.store cs → (FirstUnchanged state store f → IsARunOfCalls Met MetLater state store cs)
           → IsARunOfCalls Met MetLater state store (first f ∷ cs)
       by_test true made rest _ = record {
-        run = rw made (inl (record { first = f; met = run.0; made = made; step_is = refl; same-request = refl; on_payload_lem = record { payload_is = refl; reading_is = refl; nothing_lent = nothing-is_lent; buffer_is = refl } }), rest.run);
-        end_state_lem = rw made rest.end_state_lem;
-        end_store_lem = rw made rest.end_store_lem;
+        run = rw made (inl (record { first = f; met = run.0; made = made; step_is = refl; same-request = refl; on_its_payload = record { payload_is = refl; reading_is = refl; nothing_lent = nothing-is_lent; buffer_is = refl } }), rest.run);
+        end_state_same = rw made rest.end_state_same;
+        end_store_same = rw made rest.end_store_same;
       }
       by_test false unmade _ from-here =
           let stays = (by_made state store f (by_first state store f run.0)).stays unmade in
           let rest = from-here stays in
           record {
             run = rw unmade rest.run;
-            end_state_lem = rw (unmade, stays.state_stays) rest.end_state_lem;
-            end_store_lem = rw (unmade, stays.store_stays) rest.end_store_lem;
+            end_state_same = rw (unmade, stays.state_stays) rest.end_state_same;
+            end_store_same = rw (unmade, stays.store_stays) rest.end_store_same;
           }
 
   two_steps : FirstIsTwoSteps Met MetLater
@@ -60,7 +60,7 @@ module _ (Met : State → List ℕ → FirstStep → Type 0) (by_first : (state 
     begun = λ state store f used ended m. first_begun state store f used ended (by_first _ _ _ m);
     made = λ state store f cs m. first_made state store f cs (by_first _ _ _ m);
     runs = runs;
-    as_calls_lem = code-promises (ByEither Met MetLater) either_by_call;
+    as_calls_all = code-promises (ByEither Met MetLater) either_by_call;
   }
 
 pub call-first_promises : FirstPromises ByFirst ByCall

@@ -47,10 +47,10 @@ pub inner_first_meets : (state : State) (store bytes : List ℕ) (reading : Mill
 unfolding any_end_state any_end_store
 inner_first_meets state store bytes reading buffer answer after storeAfter reply S m =
     let run = call-first_promises.runs state store (first f ∷ []) (by, tt) in
-    let never = call-first_promises.as_calls_lem.never_refused_3 state store (steps_in (first f ∷ [])) S run.run in
+    let never = call-first_promises.as_calls_all.never_refused_3 state store (steps_in (first f ∷ [])) S run.run in
     record {
       meets = m;
-      sound = subst (λ (x : List ℕ). Sound after x) run.end_store_lem (subst (λ (s : State). Sound s (end_store store (steps_in (first f ∷ [])))) run.end_state_lem never.end_sound);
+      sound = subst (λ (x : List ℕ). Sound after x) run.end_store_same (subst (λ (s : State). Sound s (end_store store (steps_in (first f ∷ [])))) run.end_state_same never.end_sound);
       never_2 = λ e. unrefused 2 (omega arith) (ap first_values e);
       never_3 = λ e. unrefused 3 (omega arith) (ap first_values e);
     }

@@ -124,7 +124,7 @@ module _ (state : State) (store : List ℕ) (S : Sound state store) (k : Step) w
   unfolding refusal
   same-refusal =
       let ruled = (sound-rule meant).1 (sound-meaning state store S) in
-      rw (S.store_size_lem, sound-passed state store S, ruled)
+      rw (S.store_sized, sound-passed state store S, ruled)
 
   by_refusal_lem : (o : Option ℕ) (r : Result) → rule.Sound (given o r (λ n. record { outcome = refused n; gateway = meant })).gateway
       → k.gave ≡ gave_of (by_refusal state store k o r) → EndsAs k (given o r λ n. record { outcome = refused n; gateway = meant })

@@ -234,9 +234,9 @@ code-text_from_fresh ks run bytes =
 -- ## All of them, of any kind of call that meets the contract of `call`
 
 module _ (Met : State → List ℕ → Step → Type 0) (by_call : (state : State) (store : List ℕ) (k : Step) → Met state store k → ByCall state store k) where
-  as_calls_lem : (ks : List Step) (state : State) (store : List ℕ) → CodeRun Met state store ks → CodeRun ByCall state store ks
-  as_calls_lem [] state store run = tt
-  as_calls_lem (k ∷ ks) state store run = (by_call state store k run.0, as_calls_lem ks k.gave.state k.gave.store run.1)
+  as_calls_all : (ks : List Step) (state : State) (store : List ℕ) → CodeRun Met state store ks → CodeRun ByCall state store ks
+  as_calls_all [] state store run = tt
+  as_calls_all (k ∷ ks) state store run = (by_call state store k run.0, as_calls_all ks k.gave.state k.gave.store run.1)
 
   pub code-promises : CodePromises Met
   code-promises = record {
@@ -253,14 +253,14 @@ module _ (Met : State → List ℕ → Step → Type 0) (by_call : (state : Stat
     reply_leaves = λ state store k bytes S m. code-reply_leaves state store k bytes S (by_call _ _ _ m);
     reply_bytes = λ state store k n S m. code-reply_bytes state store k n S (by_call _ _ _ m);
     others-stay = λ state store k m. code-others_stay state store k (by_call _ _ _ m);
-    is_a_run = λ state store ks S run. code-is_a_run state store ks S (as_calls_lem ks state store run);
-    demand_3 = λ frames oracles state store ks S run. code-demand_3 frames oracles state store ks S (as_calls_lem ks state store run);
-    as_lent = λ state store ks S run. code-as_lent state store ks S (as_calls_lem ks state store run);
+    is_a_run = λ state store ks S run. code-is_a_run state store ks S (as_calls_all ks state store run);
+    demand_3 = λ frames oracles state store ks S run. code-demand_3 frames oracles state store ks S (as_calls_all ks state store run);
+    as_lent = λ state store ks S run. code-as_lent state store ks S (as_calls_all ks state store run);
     refused_drop_out = code-refused_drop_out Met by_call;
-    while_locked = λ state store ks S run. code-while_locked state store ks S (as_calls_lem ks state store run);
-    between_lock_and_unlock = λ state store before lock ks passphrase S run. code-between_lock_and_unlock state store before lock ks passphrase S (as_calls_lem (before ++ lock ∷ ks) state store run);
-    never_refused_3 = λ state store ks S run. code-never_refused_3 state store ks S (as_calls_lem ks state store run);
-    text_from_fresh = λ ks run. code-text_from_fresh ks (as_calls_lem ks _ _ run);
+    while_locked = λ state store ks S run. code-while_locked state store ks S (as_calls_all ks state store run);
+    between_lock_and_unlock = λ state store before lock ks passphrase S run. code-between_lock_and_unlock state store before lock ks passphrase S (as_calls_all (before ++ lock ∷ ks) state store run);
+    never_refused_3 = λ state store ks S run. code-never_refused_3 state store ks S (as_calls_all ks state store run);
+    text_from_fresh = λ ks run. code-text_from_fresh ks (as_calls_all ks _ _ run);
   }
 
 pub call-promises : CodePromises ByCall

@@ -218,7 +218,7 @@ module _ (Met : State → List ℕ → FirstStep → Type 0) where
       pub made : is_made first ≡ true
       pub step_is : k ≡ step_in first
       pub same-request : k.request ≡ first.request
-      pub on_payload_lem : OnPayload first k
+      pub on_its_payload : OnPayload first k
 
     abbrev pub ByEither : State → List ℕ → Step → Type 0
     ByEither state store k = MadeFirst state store k ⊎ MetLater state store k
@@ -226,8 +226,8 @@ module _ (Met : State → List ℕ → FirstStep → Type 0) where
     -- the run is one of calls, and those that made none left nothing
     pub record IsARunOfCalls (state : State) (store : List ℕ) (cs : List AnyCall) : Type 0 where
       pub run : CodeRun ByEither state store (steps_in cs)
-      pub end_state_lem : end_state state (steps_in cs) ≡ any_end_state state cs
-      pub end_store_lem : end_store store (steps_in cs) ≡ any_end_store store cs
+      pub end_state_same : end_state state (steps_in cs) ≡ any_end_state state cs
+      pub end_store_same : end_store store (steps_in cs) ≡ any_end_store store cs
 
     abbrev pub FirstRuns : Type 0
     FirstRuns = (state : State) (store : List ℕ) (cs : List AnyCall) → AnyRun state store cs → IsARunOfCalls state store cs
@@ -243,4 +243,4 @@ module _ (Met : State → List ℕ → FirstStep → Type 0) where
       pub begun : FirstBegun
       pub made : FirstMade
       pub runs : FirstRuns
-      pub as_calls_lem : CodePromises ByEither
+      pub as_calls_all : CodePromises ByEither

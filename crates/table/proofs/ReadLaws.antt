@@ -60,7 +60,7 @@ module _ (s : State) (x : List ℕ) (S : Sound s x) where
         long_blobs = S.long.blobs;
         long_fields = S.long.fields;
         long_comments = S.long.comments;
-        room = let e = state_end in let l = S.store_size_lem in omega arith;
+        room = let e = state_end in let l = S.store_sized in omega arith;
       })
 
   pub state_locked : ltb 0 s.lock.len ≡ locked (gateway_of s x)

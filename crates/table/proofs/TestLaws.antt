@@ -51,7 +51,7 @@ figures_say clock next f =
           record {
             number_taken = taken;
             reading_past = reading;
-            limited_flag_lem = flags.0;
+            limited_is_flag = flags.0;
             confirm_flag = flags.1;
             no_seconds = seconds;
             blob_some = blob.0;
@@ -60,7 +60,7 @@ figures_say clock next f =
             fields_fit = fields.1;
             comment_fits = comment;
           }),
-      (λ s. tests.1 (s.number_taken, (s.reading_past, ((s.limited_flag_lem, s.confirm_flag), (s.no_seconds, ((s.blob_some, s.blob_fits), ((s.fields_some, s.fields_fit), s.comment_fits))))))),
+      (λ s. tests.1 (s.number_taken, (s.reading_past, ((s.limited_is_flag, s.confirm_flag), (s.no_seconds, ((s.blob_some, s.blob_fits), ((s.fields_some, s.fields_fit), s.comment_fits))))))),
     )
 
 pub entries_say : (clock : Millis) (next : ℕ) (fs : List Figures) → Says (sound_entries clock next fs) (EveryFigures (SoundFigures clock next) fs)
@@ -148,7 +148,7 @@ sound_state-rule s x =
           let (store, (long, (next, (lock, (unused, (entries, (bytes, distinct))))))) = tests.0 t in
           record {
             long = long;
-            store_size_lem = store;
+            store_sized = store;
             next_first = next.0;
             next_last = next.1;
             lock = lock;
@@ -158,7 +158,7 @@ sound_state-rule s x =
             end = bytes.1;
             distinct = distinct;
           }),
-      (λ s. tests.1 (s.store_size_lem, (s.long, ((s.next_first, s.next_last), (s.lock, (s.unused, (s.entries, ((s.room, s.end), s.distinct)))))))),
+      (λ s. tests.1 (s.store_sized, (s.long, ((s.next_first, s.next_last), (s.lock, (s.unused, (s.entries, ((s.room, s.end), s.distinct)))))))),
     )
 
 pub short_rule : ShortRule

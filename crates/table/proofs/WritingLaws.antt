@@ -62,7 +62,7 @@ module _ (clock : Millis) (next : ℕ) (f : Figures) (p : List ℕ) (whole : len
       let fields : length (take f.fields_len (drop f.blob_len p)) ≡ f.fields_len = length-take-le _ (drop f.blob_len p) (omega arith) in
       let comment : length (take f.comment_len (drop f.fields_len (drop f.blob_len p))) ≡ f.comment_len
       = length-take-le _ (drop f.fields_len (drop f.blob_len p)) (omega arith) in
-      let lifetime = lifetime_kept f s.limited_flag_lem s.no_seconds in
+      let lifetime = lifetime_kept f s.limited_is_flag s.no_seconds in
       let confirm = flag_kept f.confirm s.confirm_flag in
       let all-comment = take_all f.comment_len (drop f.fields_len (drop f.blob_len p)) (omega arith) in
       record {
@@ -127,7 +127,7 @@ state_numbered s i h =
     λ z. count_held s.columns.numbers i inside (sym (ap (λ (f : Figures). f.number) (entries_at s.columns i no_figures inside)) ∙ z)
 
 pub sound-writing : (s : State) (x : List ℕ) → Sound s x → Writing s.clock s.next (entries_of s) x (view (entries_of s) x)
-sound-writing s x S = writing s.clock s.next (entries_of s) x (state_numbered s) (let l = S.store_size_lem in let r = S.room in omega arith) S.entries
+sound-writing s x S = writing s.clock s.next (entries_of s) x (state_numbered s) (let l = S.store_sized in let r = S.room in omega arith) S.entries
 
 -- the bytes of entries are the lengths of their keys
 pub end_lengths : (ks : List Key) → end_of (map figures_for ks) ≡ all_lengths ks
@@ -177,7 +177,7 @@ sound-canonical s x S =
     let lock = lock_written s.lock S.lock in
     record {
       state = λ j. record { columns = table j; lock = lock j; clock = s.clock; next = s.next };
-      store = zeros_padded store_size (end_of (entries_of s)) x S.store_size_lem S.room S.end ∙ ap (padded store_size) w.store;
+      store = zeros_padded store_size (end_of (entries_of s)) x S.store_sized S.room S.end ∙ ap (padded store_size) w.store;
     }
 
 pub one_writing : OneWriting
@@ -233,7 +233,7 @@ unfolding figures_for
 figures_sound clock next k s = record {
   number_taken = s.number_taken;
   reading_past = s.reading_past;
-  limited_flag_lem = limited_sound k.lifetime;
+  limited_is_flag = limited_sound k.lifetime;
   confirm_flag = flag_sound k.confirm;
   no_seconds = no_seconds_back k.lifetime;
   blob_some = s.lengths.blob_some;
@@ -293,7 +293,7 @@ every_gateway g G =
       gateway = λ j. record { entries = view-is j; lock = lock_back g.lock j; clock = g.clock; next = g.next };
       sound = record {
         long = columns-long fs few;
-        store_size_lem = padded-size store_size (laid ks) fits;
+        store_sized = padded-size store_size (laid ks) fits;
         next_first = G.next_first;
         next_last = G.next_last;
         lock = lock_sound g.lock G.lock_fits;

@@ -73,7 +73,7 @@ pub record PutRoom (blobs fields comments x : List ℕ) (i n : ℕ) : Type 0 whe
   pub long_blobs : length blobs ≡ entries_limit
   pub long_fields : length fields ≡ entries_limit
   pub long_comments : length comments ≡ entries_limit
-  pub store_size_lem : length x ≡ store_size
+  pub store_sized : length x ≡ store_size
   pub room : start_in blobs fields comments entries_limit ≤ store_size
   pub new_room : start_in blobs fields comments entries_limit + n ≤ store_size + (get_or blobs i 0 + (get_or fields i 0 + get_or comments i 0))
   pub end : Zeros (drop (start_in blobs fields comments entries_limit) x)

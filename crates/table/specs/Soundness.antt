@@ -117,7 +117,7 @@ Flag b = b ≤ 1
 pub record SoundFigures (clock : Millis) (next : ℕ) (f : Figures) : Type 0 where
   pub number_taken : f.number < next
   pub reading_past : f.reading.count ≤ clock.count
-  pub limited_flag_lem : Flag f.limited
+  pub limited_is_flag : Flag f.limited
   pub confirm_flag : Flag f.confirm
   pub no_seconds : is_set f.limited ≡ false → f.seconds.count ≡ 0
   pub blob_some : 1 ≤ f.blob_len
@@ -137,7 +137,7 @@ pub record SoundLock (l : LockRecord) : Type 0 where
 
 pub record Sound (s : State) (x : List ℕ) : Type 0 where
   pub long : Long s.columns
-  pub store_size_lem : length x ≡ store_size
+  pub store_sized : length x ≡ store_size
   pub next_first : 1 ≤ s.next
   pub next_last : s.next ≤ last_number
   pub lock : SoundLock s.lock

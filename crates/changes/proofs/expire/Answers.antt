@@ -30,7 +30,7 @@ returns-then-is_zero-2 c =
 pub close-requires : goal.close-requires
 close-requires c =
     let h = shown_closable _ _ c.requires in
-    (h.long, search rules, h.store_size_lem, h.room, h.end)
+    (h.long, search rules, h.store_sized, h.room, h.end)
 
 pub returns : goal.returns
 unfolding begun

@@ -8,7 +8,7 @@ use Rattle.changes.proofs.remove.Goals as goal
 pub close-requires : goal.close-requires
 close-requires c =
     let h = shown_closable _ _ c.requires.1 in
-    (h.long, search rules, h.store_size_lem, h.room, h.end)
+    (h.long, search rules, h.store_sized, h.room, h.end)
 
 pub returns : goal.returns
 returns c =

@@ -42,13 +42,13 @@ bounds-comment_lens-i c =  let e = here (goal.at.bounds-comment_lens-i c).In-loo
 
 pub put_item-place-requires : goal.put_item-place-requires
 put_item-place-requires c =
-    let at_entry_lem = here (goal.at.put_item-place-requires c).In-loop-i in
+    let entry_here = here (goal.at.put_item-place-requires c).In-loop-i in
     let w = c.requires.0 in
     let fits = list_fits w in
     let written = c.loop-i.invariant.2 w.state w.shows w.sound in
-    let index = index_within _ _ _ _ _ fits.housed _ at_entry_lem.held in
+    let index = index_within _ _ _ _ _ fits.housed _ entry_here.held in
     let room = c.requires.1 in
-    (at_entry_lem.within, fits.blobs_fit _ at_entry_lem.held, fits.comments_fit _ at_entry_lem.held, omega arith)
+    (entry_here.within, fits.blobs_fit _ entry_here.held, fits.comments_fit _ entry_here.held, omega arith)
 
 pub offset_bounds-blob_lens-i-in-loop-i : goal.offset_bounds-blob_lens-i-in-loop-i
 offset_bounds-blob_lens-i-in-loop-i c =  let e = here (goal.at.offset_bounds-blob_lens-i-in-loop-i c).In-loop-i in search rules
@@ -79,15 +79,15 @@ overflow_add-from-in-loop-i-2 c =  let e = here (goal.at.overflow_add-from-in-lo
 
 pub loop-i-preserved : goal.loop-i-preserved
 loop-i-preserved c =
-    let at_entry_lem = here (goal.at.loop-i-preserved c).In-loop-i in
-    let next = at_entry_lem.next in
+    let entry_here = here (goal.at.loop-i-preserved c).In-loop-i in
+    let next = entry_here.next in
     let more = c.loop-i-test.true in
     let put = c.put_item-place.ensures in (
       omega arith,
       omega arith,
       λ s shows S.
-          let shown = item-shown s _ shows c.loop-i.i at_entry_lem.held c.loop-i.from at_entry_lem.starts in
-          let there = item-there s c.args.store.now shows c.loop-i.i at_entry_lem.held in
+          let shown = item-shown s _ shows c.loop-i.i entry_here.held c.loop-i.from entry_here.starts in
+          let there = item-there s c.args.store.now shows c.loop-i.i entry_here.held in
           one_written _ (sound-meaning _ _ S) _ _ _ _ _ (c.loop-i.invariant.2 s shows S) c.requires.1 _ _ _ _ there shown put.0 put.1,
     )
 

@@ -31,13 +31,13 @@ told : (c : After-is_equal) (s : State) →
 told c s shows =
     let n = c.count-n.ensures in
     let more = c.loop-i-test.true in
-    let at_entry_lem = entered _ _ _ _ _ c.requires.0 c.loop-i.i (omega arith) c.loop-i.at c.loop-i.invariant.1 in
+    let entry_here = entered _ _ _ _ _ c.requires.0 c.loop-i.i (omega arith) c.loop-i.at c.loop-i.invariant.1 in
     let at = c.loop-i.at in
     let len = get_or c.args.blob_lens.now c.loop-i.i 0 in
     let span : at + len - at ≡ len = omega arith in
     let part : take (at + len - at) (drop at c.args.store.now) ≡ take len (drop (start_in c.args.blob_lens.now c.args.fields_lens.now c.args.comment_lens.now c.loop-i.i) c.args.store.now)
-    = λ j. take (span j) (drop (at_entry_lem.starts j) c.args.store.now) in
-    shown_holds s c.args.store.now _ _ _ _ shows c.loop-i.i at_entry_lem.held c.is_equal.result c.args.blob.now _ part c.is_equal.ensures
+    = λ j. take (span j) (drop (entry_here.starts j) c.args.store.now) in
+    shown_holds s c.args.store.now _ _ _ _ shows c.loop-i.i entry_here.held c.is_equal.result c.args.blob.now _ part c.is_equal.ensures
 
 pub loop-i-init : goal.loop-i-init
 loop-i-init c =
