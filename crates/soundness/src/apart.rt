@@ -1,6 +1,6 @@
 // No two entries have a number or a blob in common. Numbers are compared where they do not rise; blobs are told apart by a short number of each, and
 // where two of these are the same, by their bytes.
-ghost use Rattle.std.specs.Prelude.{◌≡◌, ◌||◌, ◌+◌, ◌≤◌, ◌<◌, length, take, drop, get_or};
+ghost use Rattle.std.specs.Prelude.{true, false, ◌≡◌, ◌||◌, ◌+◌, ◌≤◌, ◌<◌, length, take, drop, get_or};
 ghost use Rattle.std.proofs.Math.Option.{some};
 ghost use Rattle.wire.specs.Limits.{entries_limit, store_size};
 ghost use Rattle.rule.specs.Gateway.{Entry as Key, entry_at};
@@ -101,38 +101,22 @@ fn is_rising(numbers: &[u64], n: usize) -> bool
     true
 }
 
-// Has an entry behind entry i its number? Not where the numbers rise: then none is looked at.
-fn is_number_behind(numbers: &[u64], rises: bool, i: usize, n: usize) -> bool
-    requires { (n ≤ length numbers.now) × (i < n) × (rises ≡ rising (take n numbers.now)) }
-    ensures { result ≡ among (get_or numbers.now i 0) (drop (i + 1) (take n numbers.now)) }
-{
-    if rises {
-        return false;
-    }
-    let next = i + 1;
-    is_number_among(&numbers[next..n], numbers[i])
-}
-
-// Entry i, whose bytes begin at `at`, is unlike all entries behind it.
-fn is_unlike(
+// Entry i, whose bytes begin at `at` and whose number does not stand behind it, is unlike all entries behind it.
+fn is_blob_unlike(
     numbers: &[u64],
     blob_lens: &[usize],
     fields_lens: &[usize],
     comment_lens: &[usize],
     store: &[u8],
     shorts: &[u32],
-    rises: bool,
     i: usize,
     at: usize,
     n: usize,
 ) -> bool
-    requires { Housed numbers.now blob_lens.now fields_lens.now comment_lens.now store.now × (length store.now ≡ store_size) × (n ≡ count_of numbers.now) × (i < n) × (at ≡ start_in blob_lens.now fields_lens.now comment_lens.now i) × (length shorts.now ≡ entries_limit) × (take n shorts.now ≡ shorts_in blob_lens.now fields_lens.now comment_lens.now n store.now) × (rises ≡ rising (take n numbers.now)) }
+    requires { Housed numbers.now blob_lens.now fields_lens.now comment_lens.now store.now × (length store.now ≡ store_size) × (n ≡ count_of numbers.now) × (i < n) × (at ≡ start_in blob_lens.now fields_lens.now comment_lens.now i) × (length shorts.now ≡ entries_limit) × (take n shorts.now ≡ shorts_in blob_lens.now fields_lens.now comment_lens.now n store.now) × (among (get_or numbers.now i 0) (drop (i + 1) (take n numbers.now)) ≡ false) }
     ensures { (s : State) (k : Key) → ShowsParts numbers.now blob_lens.now fields_lens.now comment_lens.now s → entry_at (gateway_of s store.now).entries i ≡ some k → result ≡ every_entry (apart k) (drop (i + 1) (gateway_of s store.now).entries) }
 {
     let next = i + 1;
-    if is_number_behind(numbers, rises, i, n) {
-        return false;
-    }
     if !is_short_among(&shorts[next..n], shorts[i]) {
         return true;
     }
@@ -153,6 +137,38 @@ fn is_unlike(
     }
 }
 
+// Entry i, whose bytes begin at `at`, is unlike all entries behind it.
+fn is_unlike(
+    numbers: &[u64],
+    blob_lens: &[usize],
+    fields_lens: &[usize],
+    comment_lens: &[usize],
+    store: &[u8],
+    shorts: &[u32],
+    i: usize,
+    at: usize,
+    n: usize,
+) -> bool
+    requires { Housed numbers.now blob_lens.now fields_lens.now comment_lens.now store.now × (length store.now ≡ store_size) × (n ≡ count_of numbers.now) × (i < n) × (at ≡ start_in blob_lens.now fields_lens.now comment_lens.now i) × (length shorts.now ≡ entries_limit) × (take n shorts.now ≡ shorts_in blob_lens.now fields_lens.now comment_lens.now n store.now) }
+    ensures { (s : State) (k : Key) → ShowsParts numbers.now blob_lens.now fields_lens.now comment_lens.now s → entry_at (gateway_of s store.now).entries i ≡ some k → result ≡ every_entry (apart k) (drop (i + 1) (gateway_of s store.now).entries) }
+{
+    let next = i + 1;
+    if is_number_among(&numbers[next..n], numbers[i]) {
+        return false;
+    }
+    is_blob_unlike(
+        numbers,
+        blob_lens,
+        fields_lens,
+        comment_lens,
+        store,
+        shorts,
+        i,
+        at,
+        n,
+    )
+}
+
 // All entries are unlike those behind them.
 fn are_unlike(
     numbers: &[u64],
@@ -161,10 +177,9 @@ fn are_unlike(
     comment_lens: &[usize],
     store: &[u8],
     shorts: &[u32],
-    rises: bool,
     n: usize,
 ) -> bool
-    requires { Housed numbers.now blob_lens.now fields_lens.now comment_lens.now store.now × (length store.now ≡ store_size) × (n ≡ count_of numbers.now) × (length shorts.now ≡ entries_limit) × (take n shorts.now ≡ shorts_in blob_lens.now fields_lens.now comment_lens.now n store.now) × (rises ≡ rising (take n numbers.now)) }
+    requires { Housed numbers.now blob_lens.now fields_lens.now comment_lens.now store.now × (length store.now ≡ store_size) × (n ≡ count_of numbers.now) × (length shorts.now ≡ entries_limit) × (take n shorts.now ≡ shorts_in blob_lens.now fields_lens.now comment_lens.now n store.now) }
     ensures { (s : State) → ShowsParts numbers.now blob_lens.now fields_lens.now comment_lens.now s → result ≡ distinct (gateway_of s store.now).entries }
 {
     let mut at = 0;
@@ -177,7 +192,41 @@ fn are_unlike(
             comment_lens,
             store,
             shorts,
-            rises,
+            i,
+            at,
+            n,
+        ) {
+            return false;
+        }
+        at += blob_lens[i] + (fields_lens[i] + comment_lens[i]);
+        i += 1;
+    }
+    true
+}
+
+// As `are_unlike`, where the numbers rise: then none of them is looked at again.
+fn are_blobs_unlike(
+    numbers: &[u64],
+    blob_lens: &[usize],
+    fields_lens: &[usize],
+    comment_lens: &[usize],
+    store: &[u8],
+    shorts: &[u32],
+    n: usize,
+) -> bool
+    requires { Housed numbers.now blob_lens.now fields_lens.now comment_lens.now store.now × (length store.now ≡ store_size) × (n ≡ count_of numbers.now) × (length shorts.now ≡ entries_limit) × (take n shorts.now ≡ shorts_in blob_lens.now fields_lens.now comment_lens.now n store.now) × (rising (take n numbers.now) ≡ true) }
+    ensures { (s : State) → ShowsParts numbers.now blob_lens.now fields_lens.now comment_lens.now s → result ≡ distinct (gateway_of s store.now).entries }
+{
+    let mut at = 0;
+    let mut i = 0;
+    while i < n {
+        if !is_blob_unlike(
+            numbers,
+            blob_lens,
+            fields_lens,
+            comment_lens,
+            store,
+            shorts,
             i,
             at,
             n,
@@ -201,9 +250,19 @@ pub fn is_distinct(
     ensures { (s : State) → ShowsParts numbers.now blob_lens.now fields_lens.now comment_lens.now s → result ≡ distinct (gateway_of s store.now).entries }
 {
     let n = count(numbers);
-    let rises = is_rising(numbers, n);
     let mut shorts = [0u32; limits::ENTRIES_LIMIT];
     put_shorts(&mut shorts, blob_lens, fields_lens, comment_lens, store, n);
+    if is_rising(numbers, n) {
+        return are_blobs_unlike(
+            numbers,
+            blob_lens,
+            fields_lens,
+            comment_lens,
+            store,
+            &shorts,
+            n,
+        );
+    }
     are_unlike(
         numbers,
         blob_lens,
@@ -211,7 +270,6 @@ pub fn is_distinct(
         comment_lens,
         store,
         &shorts,
-        rises,
         n,
     )
 }

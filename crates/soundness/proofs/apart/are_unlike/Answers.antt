@@ -21,8 +21,8 @@ loop-i-init c = (omega arith, sym (start_none _ _ _), λ s shows. refl)
 
 pub is_unlike-requires : goal.is_unlike-requires
 is_unlike-requires c =
-    let (housed, sized, counted, long, put, told) = c.requires in
-    (housed, sized, counted, omega arith, c.loop-i.invariant.1, long, put, told)
+    let (housed, sized, counted, long, put) = c.requires in
+    (housed, sized, counted, omega arith, c.loop-i.invariant.1, long, put)
 
 pub returns-then-not-is_unlike : goal.returns-then-not-is_unlike
 returns-then-not-is_unlike c =
@@ -31,31 +31,31 @@ returns-then-not-is_unlike c =
     distinct-out _ _ _ _ _ l.i _ (omega arith) c.is_unlike.ensures (ap not c.if-not-is_unlike.true) l.invariant.2
 
 pub offset_bounds-blob_lens-i : goal.offset_bounds-blob_lens-i
-offset_bounds-blob_lens-i c =  let e = here (goal.at.offset_bounds-blob_lens-i c).Start c.loop-i.i c.loop-i.at (omega arith) c.loop-i.invariant.1 in search rules
+offset_bounds-blob_lens-i c = let e = here (goal.at.offset_bounds-blob_lens-i c).Start c.loop-i.i c.loop-i.at (omega arith) c.loop-i.invariant.1 in search rules
 
 pub bounds-blob_lens-i : goal.bounds-blob_lens-i
-bounds-blob_lens-i c =  let e = here (goal.at.bounds-blob_lens-i c).Start c.loop-i.i c.loop-i.at (omega arith) c.loop-i.invariant.1 in search rules
+bounds-blob_lens-i c = let e = here (goal.at.bounds-blob_lens-i c).Start c.loop-i.i c.loop-i.at (omega arith) c.loop-i.invariant.1 in search rules
 
 pub offset_bounds-fields_lens-i : goal.offset_bounds-fields_lens-i
-offset_bounds-fields_lens-i c =  let e = here (goal.at.offset_bounds-fields_lens-i c).Start c.loop-i.i c.loop-i.at (omega arith) c.loop-i.invariant.1 in search rules
+offset_bounds-fields_lens-i c = let e = here (goal.at.offset_bounds-fields_lens-i c).Start c.loop-i.i c.loop-i.at (omega arith) c.loop-i.invariant.1 in search rules
 
 pub bounds-fields_lens-i : goal.bounds-fields_lens-i
-bounds-fields_lens-i c =  let e = here (goal.at.bounds-fields_lens-i c).Start c.loop-i.i c.loop-i.at (omega arith) c.loop-i.invariant.1 in search rules
+bounds-fields_lens-i c = let e = here (goal.at.bounds-fields_lens-i c).Start c.loop-i.i c.loop-i.at (omega arith) c.loop-i.invariant.1 in search rules
 
 pub offset_bounds-comment_lens-i : goal.offset_bounds-comment_lens-i
-offset_bounds-comment_lens-i c =  let e = here (goal.at.offset_bounds-comment_lens-i c).Start c.loop-i.i c.loop-i.at (omega arith) c.loop-i.invariant.1 in search rules
+offset_bounds-comment_lens-i c = let e = here (goal.at.offset_bounds-comment_lens-i c).Start c.loop-i.i c.loop-i.at (omega arith) c.loop-i.invariant.1 in search rules
 
 pub bounds-comment_lens-i : goal.bounds-comment_lens-i
-bounds-comment_lens-i c =  let e = here (goal.at.bounds-comment_lens-i c).Start c.loop-i.i c.loop-i.at (omega arith) c.loop-i.invariant.1 in search rules
+bounds-comment_lens-i c = let e = here (goal.at.bounds-comment_lens-i c).Start c.loop-i.i c.loop-i.at (omega arith) c.loop-i.invariant.1 in search rules
 
 pub overflow_add-at : goal.overflow_add-at
-overflow_add-at c =  let e = here (goal.at.overflow_add-at c).Start c.loop-i.i c.loop-i.at (omega arith) c.loop-i.invariant.1 in search rules
+overflow_add-at c = let e = here (goal.at.overflow_add-at c).Start c.loop-i.i c.loop-i.at (omega arith) c.loop-i.invariant.1 in search rules
 
 pub overflow_add-at-in-loop-i : goal.overflow_add-at-in-loop-i
-overflow_add-at-in-loop-i c =  let e = here (goal.at.overflow_add-at-in-loop-i c).Start c.loop-i.i c.loop-i.at (omega arith) c.loop-i.invariant.1 in search rules
+overflow_add-at-in-loop-i c = let e = here (goal.at.overflow_add-at-in-loop-i c).Start c.loop-i.i c.loop-i.at (omega arith) c.loop-i.invariant.1 in search rules
 
 pub overflow_add-at-in-loop-i-2 : goal.overflow_add-at-in-loop-i-2
-overflow_add-at-in-loop-i-2 c =  let e = here (goal.at.overflow_add-at-in-loop-i-2 c).Start c.loop-i.i c.loop-i.at (omega arith) c.loop-i.invariant.1 in search rules
+overflow_add-at-in-loop-i-2 c = let e = here (goal.at.overflow_add-at-in-loop-i-2 c).Start c.loop-i.i c.loop-i.at (omega arith) c.loop-i.invariant.1 in search rules
 
 pub loop-i-preserved : goal.loop-i-preserved
 loop-i-preserved c =

@@ -1,11 +1,11 @@
--- The short numbers are those of the blobs, and whether the numbers rise is told, so entries that are all unlike those behind them are distinct. Assumes nothing.
+-- The short numbers are those of the blobs, and entries whose numbers rise have no number in common, so entries that are all unlike those behind them are distinct. Assumes nothing.
 use native.Mathlib.Omega.{arith}
 use mathlib.Core.Path.{refl}
 use Rattle.table.proofs.EntryLaws.{count_within}
 use Rattle.soundness.proofs.apart.is_distinct.Goals as goal
 
-pub is_rising-rises-requires : goal.is_rising-rises-requires
-is_rising-rises-requires c =
+pub is_rising-requires : goal.is_rising-requires
+is_rising-requires c =
     let few = count_within c.args.numbers.now in
     omega arith
 
