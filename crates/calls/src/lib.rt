@@ -12,7 +12,7 @@
 mod head;
 mod say;
 
-ghost use Rattle.io.specs.Counts.{IsPrefixLen};
+ghost use Rattle.std.specs.Counts.{IsPrefixLen};
 
 use byvalue::call;
 use flat::{answers_of, flat_of};

@@ -1,7 +1,7 @@
 // What is written: one line for each outcome and text.
 ghost use Rattle.std.specs.Prelude.{◌≡◌, ◌≤◌, ◌+◌, ◌*◌, length};
 ghost use Rattle.wire.specs.Limits.{reply_room};
-ghost use Rattle.io.specs.Counts.{IsPrefixLen};
+ghost use Rattle.std.specs.Counts.{IsPrefixLen};
 
 use flat::FlatOutcome;
 use std::io;
