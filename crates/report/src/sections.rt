@@ -1,5 +1,5 @@
 // Sections of records: which record is next, and the lines that are written.
-ghost use Rattle.std.specs.Prelude.{◌≡◌, IfOk, OnErr};
+ghost use Rattle.std.specs.Prelude.{◌≡◌, ◌<◌, length, IfOk, OnErr};
 ghost use Rattle.report.specs.declared.sections.Step.TheVariants.{End};
 ghost use Rattle.report.specs.Sections.{ran_as, section_at, first_at, moved_of, after_of, next_of, WritesLine};
 
@@ -119,10 +119,10 @@ fn read_section(s: &[u8], c: Cursor) -> Step
 }
 
 // The first record from a place on, which is the end or where a section starts. A section without records is malformed. A write can fail only where
-// there is no record.
+// there is no record, before the end.
 pub fn first(rt: &impl Print, s: &[u8], c: Cursor) -> io::Result<Step>
     ensures ok { IfOk result (λ step. step ≡ first_at s.now c.at) }
-    ensures err { OnErr result (first_at s.now c.at ≡ End) }
+    ensures err { OnErr result ((c.at < length s.now) × (first_at s.now c.at ≡ End)) }
 {
     let at = c.at;
     if s.len() <= at {
