@@ -1,7 +1,8 @@
 // What is read of a record before its bytes: a length, or the head of a call, 40 bytes.
 use flat::FlatAnswers;
-use libc::STDIN_FILENO;
 use rule::Millis;
+use std::io;
+use std::io::Read;
 use wire::read::{Cursor, Number, Octet};
 
 #[derive(Clone, Copy)]
@@ -137,17 +138,25 @@ fn head_in(s: &[u8]) -> Headed {
     })
 }
 
-// Reads exactly as many bytes as the part has.
-pub(crate) fn fill(part: &mut [u8]) -> bool {
-    io::read_full(STDIN_FILENO, part) == part.len()
+// Reads exactly as many bytes as the part has, if the input has them.
+pub(crate) fn fill<I: Read>(input: &mut I, part: &mut [u8]) -> io::Result<bool> {
+    let mut done = 0;
+    while done < part.len() {
+        let n = input.read(&mut part[done..])?;
+        if n == 0 {
+            return Ok(false);
+        }
+        done += n;
+    }
+    Ok(true)
 }
 
-pub(crate) fn read_head() -> Headed {
+pub(crate) fn read_head<I: Read>(input: &mut I) -> io::Result<Headed> {
     let mut bytes = [0u8; 40];
-    if !fill(&mut bytes) {
-        return Headed::Malformed;
+    if !fill(input, &mut bytes)? {
+        return Ok(Headed::Malformed);
     }
-    head_in(&bytes)
+    Ok(head_in(&bytes))
 }
 
 #[derive(Clone, Copy)]
@@ -164,10 +173,10 @@ fn length_in(s: &[u8]) -> Length {
     Length::Of(n as usize)
 }
 
-pub(crate) fn read_length() -> Length {
+pub(crate) fn read_length<I: Read>(input: &mut I) -> io::Result<Length> {
     let mut bytes = [0u8; 4];
-    if !fill(&mut bytes) {
-        return Length::Malformed;
+    if !fill(input, &mut bytes)? {
+        return Ok(Length::Malformed);
     }
-    length_in(&bytes)
+    Ok(length_in(&bytes))
 }

@@ -1,29 +1,29 @@
 // What is written: one line for each outcome and text.
 ghost use Rattle.std.specs.Prelude.{◌≡◌, ◌≤◌, ◌+◌, ◌*◌, length};
 ghost use Rattle.wire.specs.Limits.{reply_room};
-ghost use Rattle.io.specs.Counts.{IsPrefixLen};
+ghost use Rattle.std.specs.Counts.{IsPrefixLen};
 
 use flat::FlatOutcome;
-use libc::STDOUT_FILENO;
+use std::io;
 use wire::limits;
 use wire::read::cut;
 
-fn say(text: &[u8]) {
-    io::write_all(STDOUT_FILENO, text);
+fn say(rt: &impl Print, text: &[u8]) -> io::Result<()> {
+    rt.write_all(text)
 }
 
-fn say_number(n: u64) {
-    say(b" ");
-    io::print_decimal(STDOUT_FILENO, n);
+fn say_number(rt: &impl Print, n: u64) -> io::Result<()> {
+    say(rt, b" ")?;
+    rt.print(n)
 }
 
-pub(crate) fn say_line(text: &[u8]) {
-    say(text);
-    say(b"\n");
+pub(crate) fn say_line(rt: &impl Print, text: &[u8]) -> io::Result<()> {
+    say(rt, text)?;
+    say(rt, b"\n")
 }
 
-pub(crate) fn say_malformed() {
-    say(b"malformed\n");
+pub(crate) fn say_malformed(rt: &impl Print) -> io::Result<()> {
+    say(rt, b"malformed\n")
 }
 
 // A digit of base 16, in capitals.
@@ -59,60 +59,59 @@ fn line() -> [u8; 2 * limits::REPLY_ROOM]
     [0; 2 * limits::REPLY_ROOM]
 }
 
-fn say_reply(bytes: &[u8]) {
+fn say_reply(rt: &impl Print, bytes: &[u8]) -> io::Result<()> {
     if limits::REPLY_ROOM < bytes.len() {
-        return;
+        return Ok(());
     }
     let mut text = line();
     let n = put_hex(bytes, &mut text);
-    say(b"reply ");
-    say_line(&text[..n]);
+    say(rt, b"reply ")?;
+    say_line(rt, &text[..n])
 }
 
-fn say_part(o: FlatOutcome) {
-    say_number(o.from as u64);
-    say_number(o.to as u64);
+fn say_part(rt: &impl Print, o: FlatOutcome) -> io::Result<()> {
+    say_number(rt, o.from as u64)?;
+    say_number(rt, o.to as u64)
 }
 
-fn say_signature(o: FlatOutcome) {
-    say(b"ask sign");
-    say_number(o.number);
-    say_part(o);
-    say_number(o.hash as u64);
+fn say_signature(rt: &impl Print, o: FlatOutcome) -> io::Result<()> {
+    say(rt, b"ask sign")?;
+    say_number(rt, o.number)?;
+    say_part(rt, o)?;
+    say_number(rt, o.hash as u64)
 }
 
 // The outcome's name, and its values behind it.
-fn say_named(o: FlatOutcome) {
+fn say_named(rt: &impl Print, o: FlatOutcome) -> io::Result<()> {
     let kind = o.kind;
     let number = o.number;
     match kind {
         0 => {
-            say(b"refused");
-            say_number(number);
+            say(rt, b"refused")?;
+            say_number(rt, number)
         }
         1 => {
-            say(b"ask gate");
-            say_number(number);
+            say(rt, b"ask gate")?;
+            say_number(rt, number)
         }
         2 => {
-            say(b"ask check");
-            say_part(o);
+            say(rt, b"ask check")?;
+            say_part(rt, o)
         }
         3 => {
-            say(b"ask confirm");
-            say_number(number);
+            say(rt, b"ask confirm")?;
+            say_number(rt, number)
         }
-        4 => say_signature(o),
-        _ => say(b"close"),
+        4 => say_signature(rt, o),
+        _ => say(rt, b"close"),
     }
 }
 
-pub(crate) fn say_outcome(o: FlatOutcome, reply: &[u8]) {
+pub(crate) fn say_outcome(rt: &impl Print, o: FlatOutcome, reply: &[u8]) -> io::Result<()> {
     let kind = o.kind;
     if kind == 5 {
-        say_reply(cut(reply, 0, o.to));
-        return;
+        return say_reply(rt, cut(reply, 0, o.to));
     }
-    say_named(o);
-    say(b"\n");
+    say_named(rt, o)?;
+    say(rt, b"\n")
 }

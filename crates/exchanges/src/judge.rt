@@ -126,7 +126,7 @@ fn given(s: &[u8], c: Cursor, kind: u8) -> Ran {
 
 // A change of the section's base, and what is expected of it then.
 fn changed(s: &[u8], c: Cursor, kind: u8, base: &[u8]) -> Ran {
-    let mut room = io::buffer();
+    let mut room = [0u8; 4096];
     let Place::Value(n, next) = read_changed(s, c, base, &mut room) else {
         return Ran::Malformed;
     };

@@ -8,8 +8,9 @@ mod parts;
 ghost use Rattle.std.specs.Prelude.{◌≡◌, length};
 
 use judge::judge;
-use libc::{STDIN_FILENO, STDOUT_FILENO};
+use report::input::read_full;
 use report::sections::{Step, first, next};
+use std::io;
 use wire::read::{Cursor, cut};
 
 fn space() -> [u8; 524288]
@@ -19,25 +20,25 @@ fn space() -> [u8; 524288]
 }
 
 // A record takes up a byte or more, so there are no more of them than bytes.
-fn records(s: &[u8]) {
-    let mut step = first(s, Cursor { at: 0 });
+fn records(rt: &impl Print, s: &[u8]) -> io::Result<()> {
+    let mut step = first(rt, s, Cursor { at: 0 })?;
     let mut left = s.len();
     while left > 0 {
         let Step::Record(x) = step else {
-            return;
+            return Ok(());
         };
         let ran = judge(s, x.next, x.kind, cut(s, x.base.from, x.base.to));
-        step = next(s, x, ran);
+        step = next(rt, s, x, ran)?;
         left -= 1;
     }
+    Ok(())
 }
 
-fn main() {
+fn main(rt: HostRuntime) -> io::Result<()> {
     let mut input = space();
-    let n = io::read_full(STDIN_FILENO, &mut input);
+    let n = read_full(&mut rt.reader(), &mut input)?;
     if n == input.len() {
-        io::write_all(STDOUT_FILENO, b"the input is too long\n");
-        return;
+        return println!(rt; "the input is too long");
     }
-    records(&input[..n]);
+    records(&rt, &input[..n])
 }

@@ -1,10 +1,9 @@
 -- What the test of a state and the search for a place tell.
 use Prim.Native.Nat.{ℕ, ◌+◌, ◌<◌}
 use mathlib.Core.Path.{◌≡◌, refl, sym, ◌∙◌}
-use mathlib.Core.Bool.{Bool, false, not}
+use mathlib.Core.Bool.{Bool, true}
 use mathlib.Core.List.{List}
 use lib.ListN.{length}
-use borrow.Author.Tests.{not-false}
 use Rattle.wire.specs.Limits.{last_number}
 use Rattle.rule.specs.declared.Found.{Found}
 use Rattle.rule.specs.declared.Found.TheVariants.{At}
@@ -17,8 +16,8 @@ use Rattle.table.specs.Shown.{ShowsParts}
 use Rattle.table.proofs.TestLaws.{sound_state-rule}
 
 -- what passed the test is sound
-pub sound-told : (s : State) (x : List ℕ) (b : Bool) → not b ≡ false → b ≡ sound_state s x → Sound s x
-sound-told s x b e f = (sound_state-rule s x).0 (sym f ∙ not-false b e)
+pub sound-told : (s : State) (x : List ℕ) (b : Bool) → b ≡ true → b ≡ sound_state s x → Sound s x
+sound-told s x b e f = (sound_state-rule s x).0 (sym f ∙ e)
 
 -- a state shows its own columns
 abbrev Shows : State → State → Type 0

@@ -12,8 +12,9 @@ ghost use Rattle.std.specs.Prelude.{◌≡◌, length};
 ghost use Rattle.wire.specs.Limits.{store_size};
 
 use judge::{begun, judge};
-use libc::{STDIN_FILENO, STDOUT_FILENO};
+use report::input::read_full;
 use report::sections::{Step, first, next};
+use std::io;
 use table::fresh;
 use wire::limits;
 use wire::read::Cursor;
@@ -31,30 +32,30 @@ fn empty_store() -> [u8; limits::STORE_SIZE]
 }
 
 // A record takes up a byte or more, so there are no more of them than bytes.
-fn records(s: &[u8], store: &mut [u8]) {
-    let mut step = first(s, Cursor { at: 0 });
+fn records(rt: &impl Print, s: &[u8], store: &mut [u8]) -> io::Result<()> {
+    let mut step = first(rt, s, Cursor { at: 0 })?;
     let mut state = fresh();
     let mut left = s.len();
     while left > 0 {
         let Step::Record(x) = step else {
-            return;
+            return Ok(());
         };
         let start = begun(state, store, x.ran);
         let judged = judge(s, x.next, start, store);
         state = judged.state;
         let ran = judged.ran;
-        step = next(s, x, ran);
+        step = next(rt, s, x, ran)?;
         left -= 1;
     }
+    Ok(())
 }
 
-fn main() {
+fn main(rt: HostRuntime) -> io::Result<()> {
     let mut input = space();
     let mut store = empty_store();
-    let n = io::read_full(STDIN_FILENO, &mut input);
+    let n = read_full(&mut rt.reader(), &mut input)?;
     if n == input.len() {
-        io::write_all(STDOUT_FILENO, b"the input is too long\n");
-        return;
+        return println!(rt; "the input is too long");
     }
-    records(&input[..n], &mut store);
+    records(&rt, &input[..n], &mut store)
 }

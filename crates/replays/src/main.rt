@@ -1,6 +1,8 @@
 // Answers of the unchanged Rust agent, replayed. make.py writes the input from them, and says how they were got.
 #![tactic(auto)]
 
-fn main() {
-    calls::run();
+use std::io;
+
+fn main(rt: HostRuntime) -> io::Result<()> {
+    calls::run(&rt)
 }

@@ -1,5 +1,7 @@
 -- What `search all` is handed here: the wire's steps, and how a definition goes on behind a place, a change and a section.
-use Rattle.std.proofs.Common.{◌≡◌, ℕ, ◌+◌, ◌%◌, ◌^◌, List, set}
+use Rattle.std.proofs.Common.{◌≡◌, ◌∙◌, ℕ, ◌+◌, ◌%◌, ◌^◌, List, set}
+use Rattle.std.proofs.lemmas.Result.{IfOk-weaker}
+use Rattle.std.specs.Prelude.{Result, Ok, Err, IfOk, OnErr}
 use Rattle.wire.specs.declared.read.Cursor.{Cursor}
 use Rattle.wire.proofs.Steps.{all as wire-all}
 use Rattle.report.specs.declared.parts.Place.{Place}
@@ -41,6 +43,17 @@ module _ {A : Type 0} (z x : A) where
 -- a byte set in what a call left
 pub set-by : (l m : List ℕ) (i v : ℕ) → l ≡ m → set l i v ≡ set m i v
 set-by l m i v e = cc
+
+-- a call that writes the line of malformed input gives the end, and may fail where the end is what is asked for
+pub gives_end : {E : Type 0} (r : Result Step E) (z : Step) → IfOk r (λ x. x ≡ End) → End ≡ z → IfOk r (λ x. x ≡ z)
+gives_end r z h e = IfOk-weaker r _ _ (λ x g. g ∙ e) h
+
+pub gives_step : {E : Type 0} (r : Result Step E) (y z : Step) → IfOk r (λ x. x ≡ y) → y ≡ z → IfOk r (λ x. x ≡ z)
+gives_step r y z h e = IfOk-weaker r _ _ (λ x g. g ∙ e) h
+
+pub may_fail : {T E P : Type 0} (r : Result T E) → P → OnErr r P
+may_fail (Ok x) p = tt
+may_fail (Err e) p = p
 
 -- what is next, by the calls that each case makes
 module _ (s : List ℕ) (x y : Section) (ran : Ran) (r : Step) where

@@ -1,5 +1,5 @@
 -- Which record is next.
-use Rattle.std.specs.Prelude.{ℕ, ◌+◌, ◌%◌, ◌^◌, Bool, cond, List, length, ◌==◌, nat_lt}
+use Rattle.std.specs.Prelude.{◌≡◌, ℕ, ◌+◌, ◌%◌, ◌^◌, Bool, cond, List, length, ◌==◌, nat_lt}
 use Rattle.wire.specs.declared.read.Cursor.{Cursor}
 use Rattle.wire.specs.Read.{byte_at, number_at, string_at}
 use Rattle.wire.specs.Steps.{byte, number, part}
@@ -63,3 +63,9 @@ unfoldable pub next_of : List ℕ → Section → Ran → Step
 next_of s x (Agrees k) = after_of s (moved_of x ((x.agreed + 1) % 2 ^ 32) k)
 next_of s x (Differs k) = after_of s (moved_of x x.agreed k)
 next_of s x Ran.Malformed = End
+
+-- where a line is written: at a record that differs, behind the last of a section, and where the input is malformed
+abbrev pub WritesLine : Section → Ran → Type 0
+WritesLine x (Agrees k) = (x.ran + 1) % 2 ^ 32 ≡ x.count
+WritesLine x (Differs k) = Unit {0}
+WritesLine x Ran.Malformed = Unit {0}

@@ -1,5 +1,6 @@
-// What the programs share that run vectors: records in sections are read, and a line for each section says how many of them agree.
+// What the programs share that run vectors: the input and its records in sections are read, and a line for each section says how many of them agree.
 #![tactic(auto)]
 
+pub mod input;
 pub mod parts;
 pub mod sections;

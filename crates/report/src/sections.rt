@@ -1,10 +1,10 @@
 // Sections of records: which record is next, and the lines that are written.
-ghost use Rattle.std.specs.Prelude.{◌≡◌};
+ghost use Rattle.std.specs.Prelude.{◌≡◌, ◌<◌, length, IfOk, OnErr};
 ghost use Rattle.report.specs.declared.sections.Step.TheVariants.{End};
-ghost use Rattle.report.specs.Sections.{ran_as, section_at, first_at, moved_of, after_of, next_of};
+ghost use Rattle.report.specs.Sections.{ran_as, section_at, first_at, moved_of, after_of, next_of, WritesLine};
 
 use crate::parts::Span;
-use libc::STDOUT_FILENO;
+use std::io;
 use std::num::{wrapping_add_u32, wrapping_sub_u32};
 use wire::read::{Cursor, Number, Octet, Part, cut};
 
@@ -44,41 +44,41 @@ pub fn ran_as(agrees: bool, next: Cursor) -> Ran
     }
 }
 
-fn write(text: &[u8]) {
-    io::write_all(STDOUT_FILENO, text);
+fn write(rt: &impl Print, text: &[u8]) -> io::Result<()> {
+    rt.write_all(text)
 }
 
-fn write_number(n: u64) {
-    io::print_decimal(STDOUT_FILENO, n);
+fn write_number(rt: &impl Print, n: u64) -> io::Result<()> {
+    rt.print(n)
 }
 
 // Names a record that differs, one of the first 16 of its section.
-fn write_differs(name: &[u8], index: u32, before: u32) {
+fn write_differs(rt: &impl Print, name: &[u8], index: u32, before: u32) -> io::Result<()> {
     if 16 <= before {
-        return;
+        return Ok(());
     }
-    write(name);
-    write(b" ");
-    write_number(index as u64);
-    write(b" differs\n");
+    write(rt, name)?;
+    write(rt, b" ")?;
+    write_number(rt, index as u64)?;
+    write(rt, b" differs\n")
 }
 
-fn write_count(name: &[u8], agreed: u32, count: u32) {
-    write(name);
-    write(b" ");
-    write_number(agreed as u64);
-    write(b" of ");
-    write_number(count as u64);
-    write(b"\n");
+fn write_count(rt: &impl Print, name: &[u8], agreed: u32, count: u32) -> io::Result<()> {
+    write(rt, name)?;
+    write(rt, b" ")?;
+    write_number(rt, agreed as u64)?;
+    write(rt, b" of ")?;
+    write_number(rt, count as u64)?;
+    write(rt, b"\n")
 }
 
-fn malformed(at: usize) -> Step
-    ensures { result ≡ End }
+fn malformed(rt: &impl Print, at: usize) -> io::Result<Step>
+    ensures { IfOk result (λ step. step ≡ End) }
 {
-    write(b"malformed at ");
-    write_number(at as u64);
-    write(b"\n");
-    Step::End
+    write(rt, b"malformed at ")?;
+    write_number(rt, at as u64)?;
+    write(rt, b"\n")?;
+    Ok(Step::End)
 }
 
 // The section that starts at a place: kind, name, base and the number of its records.
@@ -118,21 +118,23 @@ fn read_section(s: &[u8], c: Cursor) -> Step
     })
 }
 
-// The first record from a place on, which is the end or where a section starts. A section without records is malformed.
-pub fn first(s: &[u8], c: Cursor) -> Step
-    ensures { result ≡ first_at s.now c.at }
+// The first record from a place on, which is the end or where a section starts. A section without records is malformed. A write can fail only where
+// there is no record, before the end.
+pub fn first(rt: &impl Print, s: &[u8], c: Cursor) -> io::Result<Step>
+    ensures ok { IfOk result (λ step. step ≡ first_at s.now c.at) }
+    ensures err { OnErr result ((c.at < length s.now) × (first_at s.now c.at ≡ End)) }
 {
     let at = c.at;
     if s.len() <= at {
-        return Step::End;
+        return Ok(Step::End);
     }
     let Step::Record(x) = read_section(s, c) else {
-        return malformed(at);
+        return malformed(rt, at);
     };
     if x.count == 0 {
-        return malformed(at);
+        return malformed(rt, at);
     }
-    Step::Record(x)
+    Ok(Step::Record(x))
 }
 
 // A section behind its next record.
@@ -153,30 +155,33 @@ fn moved(x: Section, agreed: u32, next: Cursor) -> Section
 }
 
 // The next record of the section, or the first behind it.
-fn after(s: &[u8], x: Section) -> Step
-    ensures { result ≡ after_of s.now x }
+fn after(rt: &impl Print, s: &[u8], x: Section) -> io::Result<Step>
+    ensures ok { IfOk result (λ step. step ≡ after_of s.now x) }
+    ensures err { OnErr result (x.ran ≡ x.count) }
 {
     if x.ran == x.count {
-        write_count(cut(s, x.name.from, x.name.to), x.agreed, x.count);
-        return first(s, x.next);
+        write_count(rt, cut(s, x.name.from, x.name.to), x.agreed, x.count)?;
+        return first(rt, s, x.next);
     }
-    Step::Record(x)
+    Ok(Step::Record(x))
 }
 
-// What is next, by what became of a section's record.
-pub fn next(s: &[u8], x: Section, ran: Ran) -> Step
-    ensures { result ≡ next_of s.now x ran }
+// What is next, by what became of a section's record. A write can fail only where there is a line to write.
+pub fn next(rt: &impl Print, s: &[u8], x: Section, ran: Ran) -> io::Result<Step>
+    ensures ok { IfOk result (λ step. step ≡ next_of s.now x ran) }
+    ensures err { OnErr result (WritesLine x ran) }
 {
     match ran {
-        Ran::Agrees(behind) => after(s, moved(x, wrapping_add_u32(x.agreed, 1), behind)),
+        Ran::Agrees(behind) => after(rt, s, moved(x, wrapping_add_u32(x.agreed, 1), behind)),
         Ran::Differs(behind) => {
             write_differs(
+                rt,
                 cut(s, x.name.from, x.name.to),
                 x.ran,
                 wrapping_sub_u32(x.ran, x.agreed),
-            );
-            after(s, moved(x, x.agreed, behind))
+            )?;
+            after(rt, s, moved(x, x.agreed, behind))
         }
-        Ran::Malformed => malformed(x.next.at),
+        Ran::Malformed => malformed(rt, x.next.at),
     }
 }

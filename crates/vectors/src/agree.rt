@@ -29,7 +29,7 @@ pub(crate) fn has_mpint(s: &[u8], at: usize, from: usize, to: usize) -> bool {
 }
 
 fn has_blob(payload: &[u8], places: Places, blob: &[u8]) -> bool {
-    let mut out = io::buffer();
+    let mut out = [0u8; 4096];
     let put = put_blob(payload, 1, places, &mut out);
     match put {
         Blob::Length(n) => is_same(cut(&out, 0, n), blob),

@@ -93,7 +93,7 @@ fn given(s: &[u8], c: Cursor, is_key: bool) -> Ran {
 
 // A change of the section's payload, and what is expected of it then.
 fn changed(s: &[u8], c: Cursor, base: &[u8], is_key: bool) -> Ran {
-    let mut room = io::buffer();
+    let mut room = [0u8; 4096];
     let Place::Value(n, next) = read_changed(s, c, base, &mut room) else {
         return Ran::Malformed;
     };

@@ -1,0 +1,2 @@
+-- The laws that the proofs of functions cite.
+pub mod Rooms
