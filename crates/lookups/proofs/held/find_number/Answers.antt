@@ -34,10 +34,10 @@ pub loop-i-init : goal.loop-i-init
 loop-i-init c = (search rules, λ s x same. refl)
 
 pub offset_bounds-numbers-i : goal.offset_bounds-numbers-i
-offset_bounds-numbers-i c =  let e = here (goal.at.offset_bounds-numbers-i c).In-loop-i in search rules
+offset_bounds-numbers-i c = let e = here (goal.at.offset_bounds-numbers-i c).In-loop-i in search rules
 
 pub bounds-numbers-i : goal.bounds-numbers-i
-bounds-numbers-i c =  let e = here (goal.at.bounds-numbers-i c).In-loop-i in search rules
+bounds-numbers-i c = let e = here (goal.at.bounds-numbers-i c).In-loop-i in search rules
 
 pub returns-then-numbers-i : goal.returns-then-numbers-i
 returns-then-numbers-i c s x same =

@@ -31,10 +31,10 @@ loop-i-init c =
     )
 
 pub offset_bounds-numbers-i : goal.offset_bounds-numbers-i
-offset_bounds-numbers-i c =  let e = here (goal.at.offset_bounds-numbers-i c).In-loop-i in search rules
+offset_bounds-numbers-i c = let e = here (goal.at.offset_bounds-numbers-i c).In-loop-i in search rules
 
 pub bounds-numbers-i : goal.bounds-numbers-i
-bounds-numbers-i c =  let e = here (goal.at.bounds-numbers-i c).In-loop-i in search rules
+bounds-numbers-i c = let e = here (goal.at.bounds-numbers-i c).In-loop-i in search rules
 
 pub loop-i-preserved : goal.loop-i-preserved
 loop-i-preserved c =

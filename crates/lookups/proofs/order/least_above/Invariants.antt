@@ -10,7 +10,7 @@ use Rattle.lookups.specs.Told.{least_above}
 use Rattle.lookups.proofs.order.least_above.Given as goal
 
 abbrev pub invariant-loop-i : goal.invariant-loop-i
-invariant-loop-i l =     (l.i ≤ count_of l.numbers) × ((s : State) (x : List ℕ) → s.columns.numbers ≡ l.numbers → l.best ≡ least_above l.after (drop l.i (gateway_of s x).entries))
+invariant-loop-i l = (l.i ≤ count_of l.numbers) × ((s : State) (x : List ℕ) → s.columns.numbers ≡ l.numbers → l.best ≡ least_above l.after (drop l.i (gateway_of s x).entries))
 
 abbrev pub decreases-loop-i : goal.decreases-loop-i
 decreases-loop-i l = l.i

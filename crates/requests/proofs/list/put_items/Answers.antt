@@ -23,22 +23,22 @@ pub loop-i-init : goal.loop-i-init
 loop-i-init c = (omega arith, sym (start_none _ _ _), λ s shows S. none_written _ _ _)
 
 pub offset_bounds-blob_lens-i : goal.offset_bounds-blob_lens-i
-offset_bounds-blob_lens-i c =  let e = here (goal.at.offset_bounds-blob_lens-i c).In-loop-i in search rules
+offset_bounds-blob_lens-i c = let e = here (goal.at.offset_bounds-blob_lens-i c).In-loop-i in search rules
 
 pub bounds-blob_lens-i : goal.bounds-blob_lens-i
-bounds-blob_lens-i c =  let e = here (goal.at.bounds-blob_lens-i c).In-loop-i in search rules
+bounds-blob_lens-i c = let e = here (goal.at.bounds-blob_lens-i c).In-loop-i in search rules
 
 pub offset_bounds-fields_lens-i : goal.offset_bounds-fields_lens-i
-offset_bounds-fields_lens-i c =  let e = here (goal.at.offset_bounds-fields_lens-i c).In-loop-i in search rules
+offset_bounds-fields_lens-i c = let e = here (goal.at.offset_bounds-fields_lens-i c).In-loop-i in search rules
 
 pub bounds-fields_lens-i : goal.bounds-fields_lens-i
-bounds-fields_lens-i c =  let e = here (goal.at.bounds-fields_lens-i c).In-loop-i in search rules
+bounds-fields_lens-i c = let e = here (goal.at.bounds-fields_lens-i c).In-loop-i in search rules
 
 pub offset_bounds-comment_lens-i : goal.offset_bounds-comment_lens-i
-offset_bounds-comment_lens-i c =  let e = here (goal.at.offset_bounds-comment_lens-i c).In-loop-i in search rules
+offset_bounds-comment_lens-i c = let e = here (goal.at.offset_bounds-comment_lens-i c).In-loop-i in search rules
 
 pub bounds-comment_lens-i : goal.bounds-comment_lens-i
-bounds-comment_lens-i c =  let e = here (goal.at.bounds-comment_lens-i c).In-loop-i in search rules
+bounds-comment_lens-i c = let e = here (goal.at.bounds-comment_lens-i c).In-loop-i in search rules
 
 pub put_item-place-requires : goal.put_item-place-requires
 put_item-place-requires c =
@@ -51,31 +51,31 @@ put_item-place-requires c =
     (entry_here.within, fits.blobs_fit _ entry_here.held, fits.comments_fit _ entry_here.held, omega arith)
 
 pub offset_bounds-blob_lens-i-in-loop-i : goal.offset_bounds-blob_lens-i-in-loop-i
-offset_bounds-blob_lens-i-in-loop-i c =  let e = here (goal.at.offset_bounds-blob_lens-i-in-loop-i c).In-loop-i in search rules
+offset_bounds-blob_lens-i-in-loop-i c = let e = here (goal.at.offset_bounds-blob_lens-i-in-loop-i c).In-loop-i in search rules
 
 pub bounds-blob_lens-i-in-loop-i : goal.bounds-blob_lens-i-in-loop-i
-bounds-blob_lens-i-in-loop-i c =  let e = here (goal.at.bounds-blob_lens-i-in-loop-i c).In-loop-i in search rules
+bounds-blob_lens-i-in-loop-i c = let e = here (goal.at.bounds-blob_lens-i-in-loop-i c).In-loop-i in search rules
 
 pub offset_bounds-fields_lens-i-in-loop-i : goal.offset_bounds-fields_lens-i-in-loop-i
-offset_bounds-fields_lens-i-in-loop-i c =  let e = here (goal.at.offset_bounds-fields_lens-i-in-loop-i c).In-loop-i in search rules
+offset_bounds-fields_lens-i-in-loop-i c = let e = here (goal.at.offset_bounds-fields_lens-i-in-loop-i c).In-loop-i in search rules
 
 pub bounds-fields_lens-i-in-loop-i : goal.bounds-fields_lens-i-in-loop-i
-bounds-fields_lens-i-in-loop-i c =  let e = here (goal.at.bounds-fields_lens-i-in-loop-i c).In-loop-i in search rules
+bounds-fields_lens-i-in-loop-i c = let e = here (goal.at.bounds-fields_lens-i-in-loop-i c).In-loop-i in search rules
 
 pub offset_bounds-comment_lens-i-in-loop-i : goal.offset_bounds-comment_lens-i-in-loop-i
-offset_bounds-comment_lens-i-in-loop-i c =  let e = here (goal.at.offset_bounds-comment_lens-i-in-loop-i c).In-loop-i in search rules
+offset_bounds-comment_lens-i-in-loop-i c = let e = here (goal.at.offset_bounds-comment_lens-i-in-loop-i c).In-loop-i in search rules
 
 pub bounds-comment_lens-i-in-loop-i : goal.bounds-comment_lens-i-in-loop-i
-bounds-comment_lens-i-in-loop-i c =  let e = here (goal.at.bounds-comment_lens-i-in-loop-i c).In-loop-i in search rules
+bounds-comment_lens-i-in-loop-i c = let e = here (goal.at.bounds-comment_lens-i-in-loop-i c).In-loop-i in search rules
 
 pub overflow_add-from : goal.overflow_add-from
-overflow_add-from c =  let e = here (goal.at.overflow_add-from c).In-loop-i in search rules
+overflow_add-from c = let e = here (goal.at.overflow_add-from c).In-loop-i in search rules
 
 pub overflow_add-from-in-loop-i : goal.overflow_add-from-in-loop-i
-overflow_add-from-in-loop-i c =  let e = here (goal.at.overflow_add-from-in-loop-i c).In-loop-i in search rules
+overflow_add-from-in-loop-i c = let e = here (goal.at.overflow_add-from-in-loop-i c).In-loop-i in search rules
 
 pub overflow_add-from-in-loop-i-2 : goal.overflow_add-from-in-loop-i-2
-overflow_add-from-in-loop-i-2 c =  let e = here (goal.at.overflow_add-from-in-loop-i-2 c).In-loop-i in search rules
+overflow_add-from-in-loop-i-2 c = let e = here (goal.at.overflow_add-from-in-loop-i-2 c).In-loop-i in search rules
 
 pub loop-i-preserved : goal.loop-i-preserved
 loop-i-preserved c =

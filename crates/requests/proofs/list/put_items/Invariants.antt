@@ -10,7 +10,7 @@ use Rattle.requests.proofs.ListSteps.{ItemsWritten}
 use Rattle.requests.proofs.list.put_items.Given as goal
 
 abbrev pub invariant-loop-i : goal.invariant-loop-i
-invariant-loop-i l =     (l.i ≤ l.count) × (l.from ≡ start_in l.blob_lens l.fields_lens l.comment_lens l.i)
+invariant-loop-i l = (l.i ≤ l.count) × (l.from ≡ start_in l.blob_lens l.fields_lens l.comment_lens l.i)
     × ((s : State) → ShowsParts l.numbers l.blob_lens l.fields_lens l.comment_lens s → Sound s l.store → ItemsWritten (gateway_of s l.store).entries l.at l.initial.reply l.i l.place l.reply)
 
 abbrev pub decreases-loop-i : goal.decreases-loop-i

@@ -20,13 +20,13 @@ pub find-requires : goal.find-requires
 find-requires c = keys_housed _ _ _ _ _ _ c.requires.2
 
 pub offset_bounds-numbers-i : goal.offset_bounds-numbers-i
-offset_bounds-numbers-i c =  let h = inside (goal.at.offset_bounds-numbers-i c).In-At in record { fits = omega arith }
+offset_bounds-numbers-i c = let h = inside (goal.at.offset_bounds-numbers-i c).In-At in record { fits = omega arith }
 
 pub bounds-numbers-i : goal.bounds-numbers-i
-bounds-numbers-i c =  let h = inside (goal.at.bounds-numbers-i c).In-At in omega arith
+bounds-numbers-i c = let h = inside (goal.at.bounds-numbers-i c).In-At in omega arith
 
 pub bounds-confirm-i : goal.bounds-confirm-i
-bounds-confirm-i c =  let h = inside (goal.at.bounds-confirm-i c).In-At in omega arith
+bounds-confirm-i c = let h = inside (goal.at.bounds-confirm-i c).In-At in omega arith
 
 pub returns-in-Nothing : goal.returns-in-Nothing
 unfolding signing

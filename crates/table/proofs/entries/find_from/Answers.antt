@@ -46,22 +46,22 @@ loop-i-init c =
     (omega arith, c.requires.2, λ s shows. refl)
 
 pub offset_bounds-blob_lens-i : goal.offset_bounds-blob_lens-i
-offset_bounds-blob_lens-i c =  let e = here (goal.at.offset_bounds-blob_lens-i c).In-loop-i in search rules
+offset_bounds-blob_lens-i c = let e = here (goal.at.offset_bounds-blob_lens-i c).In-loop-i in search rules
 
 pub bounds-blob_lens-i : goal.bounds-blob_lens-i
-bounds-blob_lens-i c =  let e = here (goal.at.bounds-blob_lens-i c).In-loop-i in search rules
+bounds-blob_lens-i c = let e = here (goal.at.bounds-blob_lens-i c).In-loop-i in search rules
 
 pub overflow_add-end : goal.overflow_add-end
-overflow_add-end c =  let e = here (goal.at.overflow_add-end c).In-loop-i in search rules
+overflow_add-end c = let e = here (goal.at.overflow_add-end c).In-loop-i in search rules
 
 pub slice_bounds-is_equal-count : goal.slice_bounds-is_equal-count
-slice_bounds-is_equal-count c =  let e = here (goal.at.slice_bounds-is_equal-count c).In-loop-i in search rules
+slice_bounds-is_equal-count c = let e = here (goal.at.slice_bounds-is_equal-count c).In-loop-i in search rules
 
 pub slice_bounds-is_equal-start : goal.slice_bounds-is_equal-start
-slice_bounds-is_equal-start c =  let e = here (goal.at.slice_bounds-is_equal-start c).In-loop-i in search rules
+slice_bounds-is_equal-start c = let e = here (goal.at.slice_bounds-is_equal-start c).In-loop-i in search rules
 
 pub slice_bounds-is_equal-end : goal.slice_bounds-is_equal-end
-slice_bounds-is_equal-end c =  let e = here (goal.at.slice_bounds-is_equal-end c).In-loop-i in search rules
+slice_bounds-is_equal-end c = let e = here (goal.at.slice_bounds-is_equal-end c).In-loop-i in search rules
 
 pub returns-then-is_equal : goal.returns-then-is_equal
 returns-then-is_equal c s shows =
@@ -69,22 +69,22 @@ returns-then-is_equal c s shows =
     sym (c.loop-i.invariant.2 s shows ∙ seek_stop _ _ c.loop-i.i _ entry (test ∙ c.if-is_equal.true))
 
 pub offset_bounds-fields_lens-i : goal.offset_bounds-fields_lens-i
-offset_bounds-fields_lens-i c =  let e = here (goal.at.offset_bounds-fields_lens-i c).In-loop-i in search rules
+offset_bounds-fields_lens-i c = let e = here (goal.at.offset_bounds-fields_lens-i c).In-loop-i in search rules
 
 pub bounds-fields_lens-i : goal.bounds-fields_lens-i
-bounds-fields_lens-i c =  let e = here (goal.at.bounds-fields_lens-i c).In-loop-i in search rules
+bounds-fields_lens-i c = let e = here (goal.at.bounds-fields_lens-i c).In-loop-i in search rules
 
 pub offset_bounds-comment_lens-i : goal.offset_bounds-comment_lens-i
-offset_bounds-comment_lens-i c =  let e = here (goal.at.offset_bounds-comment_lens-i c).In-loop-i in search rules
+offset_bounds-comment_lens-i c = let e = here (goal.at.offset_bounds-comment_lens-i c).In-loop-i in search rules
 
 pub bounds-comment_lens-i : goal.bounds-comment_lens-i
-bounds-comment_lens-i c =  let e = here (goal.at.bounds-comment_lens-i c).In-loop-i in search rules
+bounds-comment_lens-i c = let e = here (goal.at.bounds-comment_lens-i c).In-loop-i in search rules
 
 pub overflow_add-at : goal.overflow_add-at
-overflow_add-at c =  let e = here (goal.at.overflow_add-at c).In-loop-i in search rules
+overflow_add-at c = let e = here (goal.at.overflow_add-at c).In-loop-i in search rules
 
 pub overflow_add-at-in-loop-i : goal.overflow_add-at-in-loop-i
-overflow_add-at-in-loop-i c =  let e = here (goal.at.overflow_add-at-in-loop-i c).In-loop-i in search rules
+overflow_add-at-in-loop-i c = let e = here (goal.at.overflow_add-at-in-loop-i c).In-loop-i in search rules
 
 pub loop-i-preserved : goal.loop-i-preserved
 loop-i-preserved c =

@@ -10,7 +10,7 @@ use Rattle.table.specs.Shown.{ShowsParts}
 use Rattle.table.proofs.entries.find_from.Given as goal
 
 abbrev pub invariant-loop-i : goal.invariant-loop-i
-invariant-loop-i l =     (l.i ≤ l.n) × (l.at ≡ start_in l.blob_lens l.fields_lens l.comment_lens l.i)
+invariant-loop-i l = (l.i ≤ l.n) × (l.at ≡ start_in l.blob_lens l.fields_lens l.comment_lens l.i)
     × ((s : State) → ShowsParts l.numbers l.blob_lens l.fields_lens l.comment_lens s
     → seek (holds l.blob) l.from (drop l.from (gateway_of s l.store).entries) ≡ seek (holds l.blob) l.i (drop l.i (gateway_of s l.store).entries))
 

@@ -27,6 +27,7 @@ module _ (d x y : ℕ) where
       let in-x = and_le_l x y in
       let in-y = and_le_r x y in
       (omega arith, omega arith)
+
   gathers : eqb (gathered d x y) 0 ≡ eqb d 0 && eqb x y
   gathers = cases (eqb d 0) (eqb x y) refl refl
     where
@@ -39,11 +40,14 @@ module _ (d x y : ℕ) where
 module _ (n : ℕ) (bytes p : List ℕ) (within : n ≤ length bytes) where
   front : length (take n bytes) ≡ n
   front = length-take-le n bytes within
+
   another-length : (n ≡ length p → ⊥) → false ≡ same (take n bytes) p
   another-length h = same-long (take n bytes) p (λ e. h (sym front ∙ e))
+
   turn : n ≡ length p → (i d : ℕ) → i < n
       → same_along (eqb d 0) i (take n bytes) p ≡ same_along (eqb (gathered d (get_or bytes i 0) (get_or p i 0)) 0) (i + 1) (take n bytes) p
   turn given i d h = rw (gathers, ← get_or-take n bytes i 0 h) (equal_step (take n bytes) p i (eqb d 0) (omega (arith, front)) (omega arith))
+
   decision : n ≡ length p → (i d : ℕ) → n ≤ i → same_along (eqb d 0) i (take n bytes) p ≡ eqb d 0
   decision given i d h = equal_end (take n bytes) p i (eqb d 0) (omega (arith, front)) (omega arith)
 
