@@ -90,7 +90,7 @@ module _ (s : State) (x : List ℕ) (g : Gateway) (means : Means s x g) where
   asked-told (lands close) f h kind = absurd (⊎_elim (λ e. omega arith) (λ e. omega arith) kind)
 
 pub asked-is_told : AskedIsTold
-asked-is_told state store payload reading answers bytes buffer outcome after storeAfter out S isBytes m kind =
+asked-is_told state store payload reading answers bytes buffer outcome after store_after out S is_bytes m kind =
     let d : Done = call_of state store payload reading (answers_of answers) bytes buffer in
     let k : Step = record {
       request = 0;
@@ -106,7 +106,7 @@ asked-is_told state store payload reading answers bytes buffer outcome after sto
     let g = gateway_of state store in
     let ends = step-ends state store S k made in
     let word = m.outcome_is ∙ ap flat_of (outcomes_apart d.called.outcome (code (call g c).outcome) ends.ended) in
-    let means : Means after storeAfter (call g c).gateway = rw (m.state_is, m.store_is) ends.means in
-    subst (λ (o : FlatOutcome). AskedTold o after storeAfter) (sym word)
-    (asked-told after storeAfter (call g c).gateway means (call g c).outcome (confirmation_held g c) (λ n from to hash. signature_held g c n from to hash isBytes)
+    let means : Means after store_after (call g c).gateway = rw (m.state_is, m.store_is) ends.means in
+    subst (λ (o : FlatOutcome). AskedTold o after store_after) (sym word)
+    (asked-told after store_after (call g c).gateway means (call g c).outcome (confirmation_held g c) (λ n from to hash. signature_held g c n from to hash is_bytes)
     (subst (λ (o : FlatOutcome). (o.kind ≡ 3) ⊎ (o.kind ≡ 4)) word kind))

@@ -43,7 +43,7 @@ export_promises = code-promises ByExport export_calls
 module _ (flags : ℕ) (hash : Hash) (rules : call one_key (past_gate (sign_with flags)) ≡ record { outcome = asks_hash hash; gateway = one_key }) where
   tells : TellsBits flags (hash_bits hash)
   unfolding code flat_of lent_of answers_of said_of confirmed_of signed_of
-  tells state store signature buffer outcome after storeAfter reply means long m =
+  tells state store signature buffer outcome after store_after reply means long m =
       let d : Done = call_of state store (sign_with flags) zero_millis (answers_of gate_yes) signature buffer in
       let k : Step = record {
         request = 0;

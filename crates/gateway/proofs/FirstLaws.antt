@@ -115,11 +115,11 @@ module _ (state : State) (store bytes : List ℕ) (reading : Millis) (buffer : L
 
 pub firsts_tell : FirstsTell
 unfolding first_of
-firsts_tell state store bytes reading buffer x after storeAfter reply m =
+firsts_tell state store bytes reading buffer x after store_after reply m =
     subst (FirstFields bytes buffer) (sym m.first_is) (fields_by state store bytes reading buffer (split_of bytes) refl)
 
 pub call-parts_lie : CallPartsLie
-call-parts_lie state store bytes reading answers signature buffer outcome after storeAfter reply whole m other =
-    let names = (calls_name_within state store (frame_payload bytes) reading answers signature buffer outcome after storeAfter reply m).0 in
+call-parts_lie state store bytes reading answers signature buffer outcome after store_after reply whole m other =
+    let names = (calls_name_within state store (frame_payload bytes) reading answers signature buffer outcome after store_after reply m).0 in
     let inside = names.of_payload other in
     (frame_parts bytes outcome.from outcome.to whole names.ordered inside, omega (arith, inside))

@@ -161,20 +161,20 @@ module _ (payload : List ℕ) where
 -- ## A call
 
 -- refusals 1 and 3 did not apply
-record Passed (buffer : ℕ) (isSound : Bool) : Type 0 where
+record Passed (buffer : ℕ) (is_sound : Bool) : Type 0 where
   room : reply_room ≤ buffer
-  sound-found : isSound ≡ true
+  sound-found : is_sound ≡ true
 
-passed : (buffer store : ℕ) (isSound : Bool) (payload lentBytes : ℕ) → refusal_of buffer store isSound payload lentBytes ≡ none → Passed buffer isSound
+passed : (buffer store : ℕ) (is_sound : Bool) (payload lent_bytes : ℕ) → refusal_of buffer store is_sound payload lent_bytes ≡ none → Passed buffer is_sound
 unfolding refusal_of
-passed buffer store isSound payload lentBytes =
+passed buffer store is_sound payload lent_bytes =
     cond_cases None (ltb buffer reply_room) (λ _. some_refusal 1) λ room.
     cond_cases None (not (eqb store store_size)) (λ _. some_refusal 2) λ _.
-    cond_cases None (not isSound) (λ _. some_refusal 3) λ found _.
+    cond_cases None (not is_sound) (λ _. some_refusal 3) λ found _.
     record { room = ltb-false _ _ room; sound-found = not-false _ found }
   where
     None : Option ℕ → Type 0
-    None o = o ≡ none → Passed buffer isSound
+    None o = o ≡ none → Passed buffer is_sound
 
     some_refusal : (n : ℕ) → None (some n)
     some_refusal n never = absurd (some_not_none never)
@@ -228,7 +228,7 @@ call-names_within state store payload reading answers bytes buffer =
     (λ n _. record { ordered = omega arith; of_payload = λ _. omega arith; of_reply = λ _. omega arith })
 
 pub calls_name_within : CallsNameWithin
-calls_name_within state store payload reading answers bytes buffer outcome after storeAfter out m = (
+calls_name_within state store payload reading answers bytes buffer outcome after store_after out m = (
   subst (NamesWithin payload buffer) (sym m.outcome_is) (call-names_within state store payload reading (answers_of answers) bytes buffer),
   subst UnusedZero (sym m.outcome_is) (flat_unused (call_of state store payload reading (answers_of answers) bytes buffer).called.outcome),
 )

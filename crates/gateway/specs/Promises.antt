@@ -33,8 +33,8 @@ pub record NamesWithin (payload buffer : List ℕ) (o : FlatOutcome) : Type 0 wh
 abbrev pub CallsNameWithin : Type 0
 CallsNameWithin =
     (state : State) (store payload : List ℕ) (reading : Millis) (answers : FlatAnswers) (signature buffer : List ℕ) (outcome : FlatOutcome) (after : State)
-    (storeAfter reply : List ℕ)
-    → FlatMeets state store payload reading answers signature buffer outcome after storeAfter reply
+    (store_after reply : List ℕ)
+    → FlatMeets state store payload reading answers signature buffer outcome after store_after reply
     → NamesWithin payload buffer outcome × UnusedZero outcome
 
 -- ## The exported call
@@ -58,9 +58,9 @@ gate_yes = record { gate = 2; check = 0; confirmation = 0; signature = 0; confir
 -- with one key, the signer is asked for its number, no data and a hash of so many bits
 abbrev pub TellsBits : ℕ → ℕ → Type 0
 TellsBits flags bits =
-    (state : State) (store signature buffer : List ℕ) (outcome : FlatOutcome) (after : State) (storeAfter reply : List ℕ)
+    (state : State) (store signature buffer : List ℕ) (outcome : FlatOutcome) (after : State) (store_after reply : List ℕ)
     → Means state store one_key → length buffer ≡ reply_room
-    → FlatMeets state store (sign_with flags) zero_millis gate_yes signature buffer outcome after storeAfter reply
+    → FlatMeets state store (sign_with flags) zero_millis gate_yes signature buffer outcome after store_after reply
     → outcome ≡ record { kind = 4; hash = bits; number = 1; from = 10; to = 10 }
 
 -- "Flags 6: SHA-256. 4: SHA-512. 1: none."
@@ -72,18 +72,18 @@ pub record FlagsTold : Type 0 where
 -- ## What a question is about
 
 -- `key_agent_key` tells of the number that was asked about, in the state and store that the call left
-pub record AskedTold (outcome : FlatOutcome) (after : State) (storeAfter : List ℕ) : Type 0 where
-  pub told : (key_told after storeAfter outcome.number).number ≢ 0
-  pub number : (key_told after storeAfter outcome.number).number ≡ outcome.number
-  pub confirm : outcome.kind ≡ 3 → (key_told after storeAfter outcome.number).confirm ≡ 1
+pub record AskedTold (outcome : FlatOutcome) (after : State) (store_after : List ℕ) : Type 0 where
+  pub told : (key_told after store_after outcome.number).number ≢ 0
+  pub number : (key_told after store_after outcome.number).number ≡ outcome.number
+  pub confirm : outcome.kind ≡ 3 → (key_told after store_after outcome.number).confirm ≡ 1
 
 -- for every confirmation and every signature that is asked for
 abbrev pub AskedIsTold : Type 0
 AskedIsTold =
     (state : State) (store payload : List ℕ) (reading : Millis) (answers : FlatAnswers) (signature buffer : List ℕ) (outcome : FlatOutcome) (after : State)
-    (storeAfter reply : List ℕ)
-    → Sound state store → Bytes payload → FlatMeets state store payload reading answers signature buffer outcome after storeAfter reply
-    → (outcome.kind ≡ 3) ⊎ (outcome.kind ≡ 4) → AskedTold outcome after storeAfter
+    (store_after reply : List ℕ)
+    → Sound state store → Bytes payload → FlatMeets state store payload reading answers signature buffer outcome after store_after reply
+    → (outcome.kind ≡ 3) ⊎ (outcome.kind ≡ 4) → AskedTold outcome after store_after
 
 -- ## The first call
 
@@ -110,16 +110,16 @@ pub record FirstFields (bytes buffer : List ℕ) (x : FlatFirst) : Type 0 where
 
 abbrev pub FirstsTell : Type 0
 FirstsTell =
-    (state : State) (store bytes : List ℕ) (reading : Millis) (buffer : List ℕ) (x : FlatFirst) (after : State) (storeAfter reply : List ℕ)
-    → FlatFirstMeets state store bytes reading buffer x after storeAfter reply → FirstFields bytes buffer x
+    (state : State) (store bytes : List ℕ) (reading : Millis) (buffer : List ℕ) (x : FlatFirst) (after : State) (store_after reply : List ℕ)
+    → FlatFirstMeets state store bytes reading buffer x after store_after reply → FirstFields bytes buffer x
 
 -- and where a part that a call on the payload names lies in the connection's bytes: not behind the frame's end
 abbrev pub CallPartsLie : Type 0
 CallPartsLie =
     (state : State) (store bytes : List ℕ) (reading : Millis) (answers : FlatAnswers) (signature buffer : List ℕ) (outcome : FlatOutcome) (after : State)
-    (storeAfter reply : List ℕ)
+    (store_after reply : List ℕ)
     → split_number (split_of bytes) ≡ 2
-    → FlatMeets state store (frame_payload bytes) reading answers signature buffer outcome after storeAfter reply → outcome.kind ≢ 5
+    → FlatMeets state store (frame_payload bytes) reading answers signature buffer outcome after store_after reply → outcome.kind ≢ 5
     → LiesIn bytes outcome.from outcome.to × (4 + outcome.to ≤ 4 + length (frame_payload bytes))
 
 -- ## The inner calls (#113)

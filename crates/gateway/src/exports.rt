@@ -1,6 +1,6 @@
 // What C and Rust link. include/key_agent.h says what the other side must keep; of the inner calls, their `requires`.
 ghost use Rattle.std.specs.Prelude.{◌≡◌};
-ghost use Rattle.rule.specs.Gateway.{fresh as freshGateway};
+ghost use Rattle.rule.specs.Gateway.{fresh as fresh_gateway};
 ghost use Rattle.table.specs.Meaning.{state_of};
 ghost use Rattle.table.specs.Soundness.{sound_state, Sound};
 ghost use Rattle.lookups.specs.Told.{key_told, next_told};
@@ -19,7 +19,7 @@ use table::{State, fresh};
 
 #[unsafe(no_mangle)]
 pub extern "C" fn key_agent_fresh() -> State
-    ensures { result ≡ state_of freshGateway }
+    ensures { result ≡ state_of fresh_gateway }
 {
     fresh()
 }

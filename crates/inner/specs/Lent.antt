@@ -10,10 +10,10 @@ use Rattle.engine.specs.declared.first.Heard.{Heard}
 use Rattle.lending.specs.Lent.{beside, kept_in}
 
 -- the inner call is met by the arrays and what goes beside them; what is no array stays in the lent state
-pub record InnerLands (s : State) (k : Kept) (store payload : List ℕ) (reading : Millis) (answers : Answers) (signature buffer : List ℕ) (r : Landed) (z : State) (storeAfter reply : List ℕ) : Type 0 where
-  pub meets : InnerMeets (beside s k) store payload reading answers signature buffer r.outcome (beside z r.kept) storeAfter reply
+pub record InnerLands (s : State) (k : Kept) (store payload : List ℕ) (reading : Millis) (answers : Answers) (signature buffer : List ℕ) (r : Landed) (z : State) (store_after reply : List ℕ) : Type 0 where
+  pub meets : InnerMeets (beside s k) store payload reading answers signature buffer r.outcome (beside z r.kept) store_after reply
   pub stays : kept_in z ≡ kept_in s
 
-pub record InnerHears (s : State) (k : Kept) (store bytes : List ℕ) (reading : Millis) (buffer : List ℕ) (r : Heard) (z : State) (storeAfter reply : List ℕ) : Type 0 where
-  pub meets : InnerFirstMeets (beside s k) store bytes reading buffer r.first (beside z r.kept) storeAfter reply
+pub record InnerHears (s : State) (k : Kept) (store bytes : List ℕ) (reading : Millis) (buffer : List ℕ) (r : Heard) (z : State) (store_after reply : List ℕ) : Type 0 where
+  pub meets : InnerFirstMeets (beside s k) store bytes reading buffer r.first (beside z r.kept) store_after reply
   pub stays : kept_in z ≡ kept_in s

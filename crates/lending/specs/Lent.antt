@@ -18,10 +18,10 @@ abbrev pub kept_in : State → Kept
 kept_in s = record { clock = s.clock; next = s.next; locked = s.lock.len }
 
 -- the call is met by the arrays and what goes beside them; what is no array stays in the lent state
-pub record Lands (s : State) (k : Kept) (store payload : List ℕ) (reading : Millis) (answers : Answers) (signature buffer : List ℕ) (r : Landed) (z : State) (storeAfter reply : List ℕ) : Type 0 where
-  pub meets : Meets (beside s k) store payload reading answers signature buffer r.outcome (beside z r.kept) storeAfter reply
+pub record Lands (s : State) (k : Kept) (store payload : List ℕ) (reading : Millis) (answers : Answers) (signature buffer : List ℕ) (r : Landed) (z : State) (store_after reply : List ℕ) : Type 0 where
+  pub meets : Meets (beside s k) store payload reading answers signature buffer r.outcome (beside z r.kept) store_after reply
   pub stays : kept_in z ≡ kept_in s
 
-pub record Hears (s : State) (k : Kept) (store bytes : List ℕ) (reading : Millis) (buffer : List ℕ) (r : Heard) (z : State) (storeAfter reply : List ℕ) : Type 0 where
-  pub meets : FirstMeets (beside s k) store bytes reading buffer r.first (beside z r.kept) storeAfter reply
+pub record Hears (s : State) (k : Kept) (store bytes : List ℕ) (reading : Millis) (buffer : List ℕ) (r : Heard) (z : State) (store_after reply : List ℕ) : Type 0 where
+  pub meets : FirstMeets (beside s k) store bytes reading buffer r.first (beside z r.kept) store_after reply
   pub stays : kept_in z ≡ kept_in s

@@ -9,7 +9,7 @@ use Rattle.rule.specs.declared.Millis.{Millis}
 use Rattle.rule.specs.Gateway.{Gateway, zero_millis, later, advance}
 use Rattle.rule.specs.Rule.{Question, Answer, Plan, land, ask, rule}
 use Rattle.rule.specs.Calls.{given, lent, Frame, Call, refusal, refused, asks, lands, Result, follow, served, call}
-use Rattle.rule.specs.Runs.{Event, events, end_of, is_accepted, heard, heard_in, greatest, Turn, turn, turns_from, landings, asked, asked_in, Oracle, Landed, alone, served_alone, one_at_aTime, one_at_aTime_end}
+use Rattle.rule.specs.Runs.{Event, events, end_of, is_accepted, heard, heard_in, greatest, Turn, turn, turns_from, landings, asked, asked_in, Oracle, Landed, alone, served_alone, one_at_a_time, one_at_a_time_end}
 use Rattle.rule.specs.Order.{EveryAccepted, Agrees, settled, Keeps, AsOneAtATime, lent_or, own_answers, AcceptedRule, Needs, here, behind}
 use Rattle.rule.proofs.Cases.{given-cases, true_not_false}
 use Rattle.rule.proofs.Clock.{advance-clock, advance-advance, advance-again, advance-heard}
@@ -103,18 +103,18 @@ advance-settled true r g = advance-again r g
 
 -- ## The run
 
-module _ (frame_of : Call → Frame) (oracleOf : Call → Oracle) where
+module _ (frame_of : Call → Frame) (oracle_of : Call → Oracle) where
   record AsAlone (other : Gateway) (ts : List Turn) (b : Bool) (reading : Millis) (end : Gateway) : Type 0 where
-    replies : landings ts ≡ one_at_aTime frame_of oracleOf other ts
-    end_state_same : end ≡ settled b reading (one_at_aTime_end frame_of oracleOf other ts)
+    replies : landings ts ≡ one_at_a_time frame_of oracle_of other ts
+    end_state_same : end ≡ settled b reading (one_at_a_time_end frame_of oracle_of other ts)
 
   one_more : (g : Gateway) (t : Turn) (ts : List Turn) (b : Bool) (reading : Millis) (end : Gateway) (x : Landed)
-      → served_alone frame_of oracleOf g t ≡ x → t.landing ≡ x.landing → AsAlone x.gateway ts b reading end → AsAlone g (t ∷ ts) b reading end
-  unfolding one_at_aTime one_at_aTime_end
+      → served_alone frame_of oracle_of g t ≡ x → t.landing ≡ x.landing → AsAlone x.gateway ts b reading end → AsAlone g (t ∷ ts) b reading end
+  unfolding one_at_a_time one_at_a_time_end
   one_more g t ts b reading end x s e h = record { replies = rw s (λ i. e i ∷ h.replies i); end_state_same = rw s h.end_state_same }
 
   abbrev Kept : List Event → Type 0
-  Kept = EveryAccepted (Keeps frame_of oracleOf)
+  Kept = EveryAccepted (Keeps frame_of oracle_of)
 
   -- events that start here, where other is that gateway in the one-at-a-time rule
   abbrev Crosses : Bool → Millis → Gateway → List Event → Gateway → Type 0
@@ -125,28 +125,28 @@ module _ (frame_of : Call → Frame) (oracleOf : Call → Oracle) where
   From cs b m h c o r = Kept (events r.gateway cs) → Crosses b m h (event_by c r ∷ events r.gateway cs) (end_of r.gateway cs)
 
   crossing : (cs : List Call) (b : Bool) (m : Millis) (g h : Gateway) → Together b m g h → Kept (events g cs) → Crosses b m h (events g cs) (end_of g cs)
-  unfolding events turns_from heard_in end_of asked_in one_at_aTime one_at_aTime_end served_alone heard is_accepted turn asked From
+  unfolding events turns_from heard_in end_of asked_in one_at_a_time one_at_a_time_end served_alone heard is_accepted turn asked From
   crossing [] b m g h t = λ _. record { replies = refl; end_state_same = t.same }
   crossing (c ∷ cs) b m g h t = λ keeps.
       let now : Millis = later m c.reading in
-      let lone : Landed = alone (oracleOf c) (plan_of g c) in
+      let lone : Landed = alone (oracle_of c) (plan_of g c) in
       let clock : lone.gateway.clock ≡ (advance c.reading g).clock
-      = effect_clock (alone-has (Effect (advance c.reading g)) (oracleOf c) (plan_of g c) (rule-effect (advance c.reading g) c.frame.payload)) in
+      = effect_clock (alone-has (Effect (advance c.reading g)) (oracle_of c) (plan_of g c) (rule-effect (advance c.reading g) c.frame.payload)) in
       let landed : now.count ≤ lone.gateway.clock.count = rw clock (together_clock b m c.reading g h t) in
-      let kept : refusal g c ≡ none → Keeps frame_of oracleOf c = λ e. keeps.0 ((accepted_rule g c).1 e) in
-      call-cases g c (oracleOf c) (From cs b m h c)
+      let kept : refusal g c ≡ none → Keeps frame_of oracle_of c = λ e. keeps.0 ((accepted_rule g c).1 e) in
+      call-cases g c (oracle_of c) (From cs b m h c)
       (λ e. (kept e).one_answer)
       (λ n. crossing cs b m g h t)
       (λ q _. crossing cs true now (advance c.reading g) h (together_asked b m c.reading g h t))
       (λ e rest.
       one_more h (record { by = c; reading = now; landing = lone.landing }) _ _ _ _ lone
-      (λ i. alone (oracleOf c) (rule (sym (together_advanced b m c.reading g h t) i) (sym (kept e).frame i).payload))
+      (λ i. alone (oracle_of c) (rule (sym (together_advanced b m c.reading g h t) i) (sym (kept e).frame i).payload))
       refl
       (crossing cs false now lone.gateway lone.gateway (together now lone.gateway landed) rest))
       keeps.1
 
   -- whatever oracle the answers of each call agree with
-  pub any_order : (g : Gateway) (cs : List Call) → EveryAccepted (Keeps frame_of oracleOf) (events g cs) → AsOneAtATime frame_of oracleOf g (events g cs) (end_of g cs)
+  pub any_order : (g : Gateway) (cs : List Call) → EveryAccepted (Keeps frame_of oracle_of) (events g cs) → AsOneAtATime frame_of oracle_of g (events g cs) (end_of g cs)
   any_order g cs keeps =
       let h = crossing cs false zero_millis g g (together zero_millis g zero-le) keeps in
       record {

@@ -8,7 +8,7 @@ use Rattle.rule.specs.declared.Millis.{Millis}
 use Rattle.rule.specs.Gateway.{Gateway, zero_millis}
 use Rattle.rule.specs.Rule.{Landing}
 use Rattle.rule.specs.Calls.{Call, Outcome, refused, asks, lands, call}
-use Rattle.rule.specs.Runs.{Event, events, end_of, calls_of, RunsTo, Every, is_accepted, accepted_in, heard, heard_in, Turn, turn, turns_from, alone, served_alone, one_at_aTime}
+use Rattle.rule.specs.Runs.{Event, events, end_of, calls_of, RunsTo, Every, is_accepted, accepted_in, heard, heard_in, Turn, turn, turns_from, alone, served_alone, one_at_a_time}
 use Rattle.rule.specs.Order.{EveryAccepted, Keeps, own_frame, own_answers, AsLent, AloneFinds, Demand3, RefusedUnread, RefusedDropOut, NeverFall, OwnReadings}
 use Rattle.rule.proofs.Cases.{cond_cases, true_not_false}
 use Rattle.rule.proofs.Clock.{same_count}
@@ -94,7 +94,7 @@ pub own_readings : OwnReadings
 own_readings es = own_from es zero_millis
 
 pub alone-finds : AloneFinds
-unfolding one_at_aTime served_alone
+unfolding one_at_a_time served_alone
 alone-finds g c l other e =
     ap (λ (x : Landing). x ∷ [])
     (own_cases g c (λ o r. r.outcome ≡ lands l → (alone (own_answers c) (plan_of g c)).landing ≡ l)

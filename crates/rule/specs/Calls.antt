@@ -50,12 +50,12 @@ lent_length (some a) = given a.answer 0 length
 -- "Call refusals, first that applies", by the lengths of reply buffer and key store, whether the state is sound, and the lengths of payload
 -- and lent signature
 unfoldable pub refusal_of : ℕ → ℕ → Bool → ℕ → ℕ → Option ℕ
-refusal_of buffer store isSound payload lentBytes =
+refusal_of buffer store is_sound payload lent_bytes =
     cond (ltb buffer reply_room) (some 1)
     (cond (not (eqb store store_size)) (some 2)
-    (cond (not isSound) (some 3)
+    (cond (not is_sound) (some 3)
     (cond (ltb payload_limit payload) (some 4)
-    (cond (ltb signature_limit lentBytes) (some 5)
+    (cond (ltb signature_limit lent_bytes) (some 5)
     none))))
 
 -- ## The call

@@ -7,7 +7,7 @@ use Rattle.rule.specs.Gateway.{Entry, Gateway, entry_at, zero_millis, fresh, loc
 use Rattle.rule.specs.Soundness.{Sound, sound}
 use Rattle.rule.specs.Rule.{Question, gate, check, confirmation, signature, Answer, Landing, reply, FAILURE, SUCCESS, Plan, land, ask, rule}
 use Rattle.rule.specs.Calls.{given, lent, Frame, Call, refusal, refused, asks, lands, call}
-use Rattle.rule.specs.Runs.{Event, events, end_of, RunsTo, Every, is_accepted, accepted_in, heard, greatest, Turn, turns, landings, asked_in, some_accepted, Oracle, one_at_aTime, one_at_aTime_end}
+use Rattle.rule.specs.Runs.{Event, events, end_of, RunsTo, Every, is_accepted, accepted_in, heard, greatest, Turn, turns, landings, asked_in, some_accepted, Oracle, one_at_a_time, one_at_a_time_end}
 use Rattle.rule.specs.Words.{Begins, Carries}
 
 -- ## Demand 3
@@ -24,19 +24,19 @@ unfoldable pub settled : Bool → Millis → Gateway → Gateway
 settled false reading g = g
 settled true reading g = advance reading g
 
-module _ (frame_of : Call → Frame) (oracleOf : Call → Oracle) where
+module _ (frame_of : Call → Frame) (oracle_of : Call → Oracle) where
   -- the call brings its request's frame, and the answers lent to it are those that its request's questions get
   pub record Keeps (c : Call) : Type 0 where
     pub frame : c.frame ≡ frame_of c
-    pub one_answer : Agrees (lent c.answers) (oracleOf c)
+    pub one_answer : Agrees (lent c.answers) (oracle_of c)
 
   -- The run's landings are those of the one-at-a-time rule run in landing order, each landing at the greatest reading accepted so far (the
   -- turn's reading). The end states are the same once the greatest reading accepted in the run is applied to both; exactly: the run's is
   -- the other, advanced if accepted calls have only asked since the last landing.
   pub record AsOneAtATime (g : Gateway) (es : List Event) (end : Gateway) : Type 0 where
-    pub replies : landings (turns es) ≡ one_at_aTime frame_of oracleOf g (turns es)
-    pub end_states : advance (greatest es) end ≡ advance (greatest es) (one_at_aTime_end frame_of oracleOf g (turns es))
-    pub exactly : end ≡ settled (asked_in false es) (greatest es) (one_at_aTime_end frame_of oracleOf g (turns es))
+    pub replies : landings (turns es) ≡ one_at_a_time frame_of oracle_of g (turns es)
+    pub end_states : advance (greatest es) end ≡ advance (greatest es) (one_at_a_time_end frame_of oracle_of g (turns es))
+    pub exactly : end ≡ settled (asked_in false es) (greatest es) (one_at_a_time_end frame_of oracle_of g (turns es))
 
 -- the oracle that gives what a call is lent, and else says no and gives nothing
 unfoldable pub refusing : Oracle
@@ -62,7 +62,7 @@ AsLent = (g : Gateway) (cs : List Call) → AsOneAtATime own_frame own_answers g
 abbrev pub AloneFinds : Type 0
 AloneFinds =
     (g : Gateway) (c : Call) (l other : Landing) → (call g c).outcome ≡ lands l
-    → one_at_aTime own_frame own_answers g (record { by = c; reading = c.reading; landing = other } ∷ []) ≡ l ∷ []
+    → one_at_a_time own_frame own_answers g (record { by = c; reading = c.reading; landing = other } ∷ []) ≡ l ∷ []
 
 -- "each request keeps its frame, and a question asked twice within it gets one answer": frame and oracle go by the request
 abbrev pub Demand3 : Type 0

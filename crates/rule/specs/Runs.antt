@@ -108,16 +108,16 @@ unfoldable pub alone : Oracle → Plan → Landed
 alone oracle (land l after) = record { landing = l; gateway = after }
 alone oracle (ask q onwards) = alone oracle (onwards (oracle q))
 
-module _ (frame_of : Call → Frame) (oracleOf : Call → Oracle) where
+module _ (frame_of : Call → Frame) (oracle_of : Call → Oracle) where
   -- a turn's request served alone, at the turn's reading
   unfoldable pub served_alone : Gateway → Turn → Landed
-  served_alone g t = alone (oracleOf t.by) (rule (advance t.reading g) (frame_of t.by).payload)
+  served_alone g t = alone (oracle_of t.by) (rule (advance t.reading g) (frame_of t.by).payload)
 
   -- each from the state that the one before it left
-  unfoldable pub one_at_aTime : Gateway → List Turn → List Landing
-  one_at_aTime g [] = []
-  one_at_aTime g (t ∷ ts) = (served_alone g t).landing ∷ one_at_aTime (served_alone g t).gateway ts
+  unfoldable pub one_at_a_time : Gateway → List Turn → List Landing
+  one_at_a_time g [] = []
+  one_at_a_time g (t ∷ ts) = (served_alone g t).landing ∷ one_at_a_time (served_alone g t).gateway ts
 
-  unfoldable pub one_at_aTime_end : Gateway → List Turn → Gateway
-  one_at_aTime_end g [] = g
-  one_at_aTime_end g (t ∷ ts) = one_at_aTime_end (served_alone g t).gateway ts
+  unfoldable pub one_at_a_time_end : Gateway → List Turn → Gateway
+  one_at_a_time_end g [] = g
+  one_at_a_time_end g (t ∷ ts) = one_at_a_time_end (served_alone g t).gateway ts

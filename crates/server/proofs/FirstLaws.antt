@@ -245,13 +245,13 @@ missing_not_given : (i : ℕ) → Missing ≡ Given i → ⊥
 missing_not_given i never = let z : ◌≡◌ {A = ℕ} 0 1 = cc in omega arith
 
 -- with a payload and a signature within their limits, one of the first three
-first_three : (buffer store payload lent n : ℕ) (isSound : Bool) → payload ≤ payload_limit → lent ≤ signature_limit → refusal_of buffer store isSound payload lent ≡ some n
+first_three : (buffer store payload lent n : ℕ) (is_sound : Bool) → payload ≤ payload_limit → lent ≤ signature_limit → refusal_of buffer store is_sound payload lent ≡ some n
     → (1 ≤ n) × (n ≤ 3)
 unfolding refusal_of
-first_three buffer store payload lent n isSound short few =
+first_three buffer store payload lent n is_sound short few =
     cond_cases Within (ltb buffer reply_room) (λ _. is 1 (omega arith) (omega arith))
     (λ _. cond_cases Within (not (eqb store store_size)) (λ _. is 2 (omega arith) (omega arith))
-    (λ _. cond_cases Within (not isSound) (λ _. is 3 (omega arith) (omega arith))
+    (λ _. cond_cases Within (not is_sound) (λ _. is 3 (omega arith) (omega arith))
     (λ _. rw (le-ltb payload_limit payload short, le-ltb signature_limit lent few) (λ never. absurd (some_not_none (sym never))))))
   where
     Within : Option ℕ → Type 0

@@ -26,10 +26,10 @@ use Rattle.server.proofs.FirstRuns.{call-first_promises}
 one_call : (state : State) (store : List ℕ) (k : Step) → Sound state store → ByCall state store k → NeverUnsound state store (k ∷ [])
 one_call state store k S by = (code-promises ByCall (λ s x j m. m)).never_refused_3 state store (k ∷ []) S (by, tt)
 
-pub inner_meets : (state : State) (store payload : List ℕ) (reading : Millis) (answers : Answers) (signature buffer : List ℕ) (outcome : Outcome) (after : State) (storeAfter reply : List ℕ) → Sound state store
-    → Meets state store payload reading answers signature buffer outcome after storeAfter reply → InnerMeets state store payload reading answers signature buffer outcome after storeAfter reply
+pub inner_meets : (state : State) (store payload : List ℕ) (reading : Millis) (answers : Answers) (signature buffer : List ℕ) (outcome : Outcome) (after : State) (store_after reply : List ℕ) → Sound state store
+    → Meets state store payload reading answers signature buffer outcome after store_after reply → InnerMeets state store payload reading answers signature buffer outcome after store_after reply
 unfolding end_state end_store
-inner_meets state store payload reading answers signature buffer outcome after storeAfter reply S m =
+inner_meets state store payload reading answers signature buffer outcome after store_after reply S m =
     let k : Step = record {
       request = 0;
       payload = payload;
@@ -37,15 +37,15 @@ inner_meets state store payload reading answers signature buffer outcome after s
       answers = answers;
       signature = signature;
       buffer = buffer;
-      gave = record { ended = outcome_values outcome; state = after; store = storeAfter; reply = reply };
+      gave = record { ended = outcome_values outcome; state = after; store = store_after; reply = reply };
     } in
     let never = one_call state store k S (record { outcome = outcome; ended_is = refl; meets = m }) in
     record { meets = m; sound = never.end_sound; never_2 = λ e. never.never_2.0 (ap outcome_values e); never_3 = λ e. never.never_3.0 (ap outcome_values e) }
 
-pub inner_first_meets : (state : State) (store bytes : List ℕ) (reading : Millis) (buffer : List ℕ) (answer : First) (after : State) (storeAfter reply : List ℕ) → Sound state store
-    → FirstMeets state store bytes reading buffer answer after storeAfter reply → InnerFirstMeets state store bytes reading buffer answer after storeAfter reply
+pub inner_first_meets : (state : State) (store bytes : List ℕ) (reading : Millis) (buffer : List ℕ) (answer : First) (after : State) (store_after reply : List ℕ) → Sound state store
+    → FirstMeets state store bytes reading buffer answer after store_after reply → InnerFirstMeets state store bytes reading buffer answer after store_after reply
 unfolding any_end_state any_end_store
-inner_first_meets state store bytes reading buffer answer after storeAfter reply S m =
+inner_first_meets state store bytes reading buffer answer after store_after reply S m =
     let run = call-first_promises.runs state store (first f ∷ []) (by, tt) in
     let never = call-first_promises.as_calls_all.never_refused_3 state store (steps_in (first f ∷ [])) S run.run in
     record {
@@ -56,7 +56,7 @@ inner_first_meets state store bytes reading buffer answer after storeAfter reply
     }
   where
     f : FirstStep
-    f = record { request = 0; bytes = bytes; reading = reading; buffer = buffer; gave = record { ended = first_values answer; state = after; store = storeAfter; reply = reply } }
+    f = record { request = 0; bytes = bytes; reading = reading; buffer = buffer; gave = record { ended = first_values answer; state = after; store = store_after; reply = reply } }
 
     by : ByFirst state store f
     by = record { first = answer; ended_is = refl; meets = m }

@@ -155,9 +155,9 @@ module _ (state : State) (store : List ℕ) (ks : List Step) (is : IsARun state 
 pub code-demand_3 : CodeDemand3 ByCall
 code-demand_3 frames oracles state store ks S run =
     let frame_of : Call → Frame = λ c. frames c.request in
-    let oracleOf : Call → Oracle = λ c. oracles c.request in
+    let oracle_of : Call → Oracle = λ c. oracles c.request in
     let g = gateway_of state store in
-    as_run state store ks (code-is_a_run state store ks S run) (λ es end. EveryAccepted (Keeps frame_of oracleOf) es → AsOneAtATime frame_of oracleOf g es end)
+    as_run state store ks (code-is_a_run state store ks S run) (λ es end. EveryAccepted (Keeps frame_of oracle_of) es → AsOneAtATime frame_of oracle_of g es end)
     (demands.demand_3 frames oracles g (calls_of (events_of ks)))
 
 pub code-as_lent : CodeAsLent ByCall
@@ -187,13 +187,13 @@ refused_steps n [] all = tt
 refused_steps n (k ∷ ks) all = ((λ v. all.0 (ap (λ (vs : List ℕ). outcome_in vs k.gave.reply) v)), refused_steps n ks all.1)
 
 -- a store of the right length is not refused
-not_2 : (buffer payload lentBytes : ℕ) (isSound : Bool) → refusal_of buffer store_size isSound payload lentBytes ≢ some 2
+not_2 : (buffer payload lent_bytes : ℕ) (is_sound : Bool) → refusal_of buffer store_size is_sound payload lent_bytes ≢ some 2
 unfolding refusal_of
-not_2 buffer payload lentBytes isSound =
+not_2 buffer payload lent_bytes is_sound =
     cond_cases Not (ltb buffer reply_room) (λ _. other 1 (omega arith)) λ _.
-    cond_cases Not (not isSound) (λ _. other 3 (omega arith)) λ _.
+    cond_cases Not (not is_sound) (λ _. other 3 (omega arith)) λ _.
     cond_cases Not (ltb payload_limit payload) (λ _. other 4 (omega arith)) λ _.
-    cond_cases Not (ltb signature_limit lentBytes) (λ _. other 5 (omega arith)) λ _ never.
+    cond_cases Not (ltb signature_limit lent_bytes) (λ _. other 5 (omega arith)) λ _ never.
     some_not_none (sym never)
   where
     Not : Option ℕ → Type 0

@@ -22,8 +22,8 @@ module _ (state : State) (store payload : List ℕ) (reading : Millis) (answers 
       λ n. record { called = record { outcome = Refused n; state = state }; store = store; reply = buffer }
 
   -- what a call gave is what `call_of` gives: the contract of every form of the call
-  pub record Meets (outcome : Outcome) (after : State) (storeAfter reply : List ℕ) : Type 0 where
+  pub record Meets (outcome : Outcome) (after : State) (store_after reply : List ℕ) : Type 0 where
     pub outcome_is : outcome ≡ call_of.called.outcome
     pub state_is : after ≡ call_of.called.state
-    pub store_is : storeAfter ≡ call_of.store
+    pub store_is : store_after ≡ call_of.store
     pub reply_is : reply ≡ call_of.reply

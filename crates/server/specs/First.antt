@@ -64,8 +64,8 @@ module _ (state : State) (store bytes : List ℕ) (reading : Millis) (buffer : L
   first_of = first_by (split_of bytes)
 
   -- what a first call gave is what `first_of` gives: the contract of every form of it
-  pub record FirstMeets (first : First) (after : State) (storeAfter reply : List ℕ) : Type 0 where
+  pub record FirstMeets (first : First) (after : State) (store_after reply : List ℕ) : Type 0 where
     pub first_is : first ≡ first_of.first
     pub state_is : after ≡ first_of.state
-    pub store_is : storeAfter ≡ first_of.store
+    pub store_is : store_after ≡ first_of.store
     pub reply_is : reply ≡ first_of.reply

@@ -8,7 +8,7 @@ pub mod entries;
 pub mod locks;
 
 ghost use Rattle.std.specs.Prelude.{◌≡◌};
-ghost use Rattle.rule.specs.Gateway.{fresh as freshGateway};
+ghost use Rattle.rule.specs.Gateway.{fresh as fresh_gateway};
 ghost use Rattle.table.specs.Meaning.{is_set, state_of};
 
 use rule::Millis;
@@ -75,7 +75,7 @@ pub fn is_set(flag: u8) -> bool
 
 // All zero, next insertion number 1.
 pub fn fresh() -> State
-    ensures { result ≡ state_of freshGateway }
+    ensures { result ≡ state_of fresh_gateway }
 {
     State {
         columns: Columns {
