@@ -1,4 +1,4 @@
-/* The key agent for C: seven functions of the archive of the crate gateway. rust/archive makes it, for x86-64 Linux and
+/* The key agent for C: seven functions of the archive of the crate gateway_c. rust/archive makes it, for x86-64 Linux and
  * aarch64 Linux. It exports two more, which ask for a sound state and test nothing: they are for the Rust crate, which
  * owns its state. A call from here keeps the test.
  *

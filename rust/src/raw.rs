@@ -1,4 +1,4 @@
-//! What the archive exports, as it stands in `crates/gateway` and `crates/table`. Nothing outside this crate sees it.
+//! What the archive exports, as it stands in `crates/gateway_c` and `crates/table`. Nothing outside this crate sees it.
 
 /// A comment: its first `len` bytes; the rest is zero.
 #[repr(C)]
