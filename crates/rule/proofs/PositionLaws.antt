@@ -7,8 +7,8 @@ use mathlib.Core.Bool.{Bool, true, false}
 use mathlib.Core.Option.{none, some}
 use mathlib.Core.List.{List, [], ◌∷◌, ◌++◌}
 use lib.ListN.{length, take, drop}
-use lib.Dec.{eqb, leb}
-use borrow.Author.Tests.{eqb-true, eqb-false, leb-true, leb-false}
+use lib.Dec.{eqb}
+use borrow.Author.Tests.{eqb-true, eqb-false}
 use Rattle.wire.specs.Read.{same}
 use Rattle.wire.proofs.Reading.{same-rule}
 use Rattle.rule.specs.declared.Millis.{Millis}
@@ -208,20 +208,6 @@ remove_elsewhere zero (e ∷ es) zero x n h = absurd (n refl)
 remove_elsewhere zero (e ∷ es) (suc j) x n h = (j, h)
 remove_elsewhere (suc i) (e ∷ es) zero x n h = (0, h)
 remove_elsewhere (suc i) (e ∷ es) (suc j) x n h = let (k, there) = remove_elsewhere i es j x (λ p. n (ap suc p)) h in (suc k, there)
-
--- among distinct entries, what is taken out is gone
-pub remove_gone : (es : List Entry) → Distinct es → (i : ℕ) (e : Entry) → Holds es i e → (k : ℕ) → Holds (remove_at i es) k e → ⊥
-remove_gone es d i e h k m = by_side (leb i k) refl
-  where
-    by_side : (b : Bool) → leb i k ≡ b → ⊥
-    by_side true t =
-        let behind : i ≤ k = leb-true i k t in
-        let p = one_position es d i (suc k) e h (sym (remove_back i es k behind) ∙ m) in
-        omega arith
-    by_side false t =
-        let before : k < i = leb-false i k t in
-        let p = one_position es d i k e h (sym (remove_front i es k before) ∙ m) in
-        omega arith
 
 pub remove_parts : (i : ℕ) (es : List Entry) → remove_at i es ≡ take i es ++ drop (suc i) es
 unfolding remove_at

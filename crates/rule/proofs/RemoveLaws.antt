@@ -1,11 +1,15 @@
 -- Removing past the gate: it succeeds exactly where the blob is held, takes that entry out and closes the gap, or takes all out.
-use Prim.Native.Nat.{ℕ}
+use Prim.Native.Nat.{ℕ, suc, ◌≤◌, ◌<◌}
+use native.Mathlib.Omega.{arith}
+use lib.Dec.{leb}
+use borrow.Author.Tests.{leb-true, leb-false}
+use mathlib.Core.Bool.{Bool, true, false}
 use mathlib.Core.Path.{◌≡◌, refl, sym, ◌∙◌}
 use mathlib.Core.Logic.{◌≢◌}
 use mathlib.Core.List.{List}
 use Rattle.wire.specs.Steps.{part}
 use Rattle.wire.specs.Read.{cut_of, string_at}
-use Rattle.rule.specs.Gateway.{Entry, Gateway, seek, holds, without, without_all}
+use Rattle.rule.specs.Gateway.{Entry, Gateway, remove_at, seek, holds, without, without_all}
 use Rattle.rule.specs.Soundness.{Distinct}
 use Rattle.rule.specs.Rule.{SUCCESS, Plan, removing, removing_all}
 use Rattle.rule.specs.Calls.{lent, Call, lands, follow, call}
@@ -13,13 +17,27 @@ use Rattle.rule.specs.Words.{Begins, Carries, HeldAt, Held, at_call, payload_of}
 use Rattle.rule.specs.Rows.{remove, remove_all}
 use Rattle.rule.specs.Removing.{Gone, RemoveRule, RemoveTakes, RemoveCloses, RemoveAllRule}
 use Rattle.rule.proofs.Cases.{part-cases, found-cases}
-use Rattle.rule.proofs.PositionLaws.{some_not_none, same-entry, every_at, one_blob, fewer_held, remove_fewer, remove_front, remove_back, remove_elsewhere, remove_gone, absent_differs, found_at}
+use Rattle.rule.proofs.PositionLaws.{Holds, one_position, some_not_none, same-entry, every_at, one_blob, fewer_held, remove_fewer, remove_front, remove_back, remove_elsewhere, absent_differs, found_at}
 use Rattle.rule.proofs.RefusalLaws.{accepted}
 use Rattle.rule.proofs.SoundLaws.{sound-advance, sound-rule}
 use Rattle.rule.proofs.RequestLaws.{one_carried}
 use Rattle.rule.proofs.RowLaws.{past_gate_lem, success_beyond, through, OnSuccess, failure_shows, success_shows}
 
 -- ## One
+
+-- among distinct entries, what is taken out is gone
+pub remove_gone : (es : List Entry) → Distinct es → (i : ℕ) (e : Entry) → Holds es i e → (k : ℕ) → Holds (remove_at i es) k e → ⊥
+remove_gone es d i e h k m = by_side (leb i k) refl
+  where
+    by_side : (b : Bool) → leb i k ≡ b → ⊥
+    by_side true t =
+        let behind : i ≤ k = leb-true i k t in
+        let p = one_position es d i (suc k) e h (sym (remove_back i es k behind) ∙ m) in
+        omega arith
+    by_side false t =
+        let before : k < i = leb-false i k t in
+        let p = one_position es d i k e h (sym (remove_front i es k before) ∙ m) in
+        omega arith
 
 -- the entry that the request names stood at a position, and is taken out
 record TakenOut (g : Gateway) (payload : List ℕ) (after : Gateway) : Type 0 where

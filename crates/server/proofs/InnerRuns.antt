@@ -17,17 +17,13 @@ use Rattle.table.specs.declared.State.{State}
 use Rattle.table.specs.Soundness.{sound_state, Sound}
 use Rattle.table.proofs.TestLaws.{sound_state-rule}
 use Rattle.table.proofs.WritingLaws.{fresh-means}
-use Rattle.requests.specs.declared.Outcome.TheVariants.{Refused}
 use Rattle.requests.specs.Outcomes.{outcome_for, outcome_in}
-use Rattle.requests.proofs.OutcomeLaws.{outcomes_apart}
-use Rattle.server.specs.declared.first.First.TheVariants as answer
 use Rattle.server.specs.Runs.{Gave, Step, ByCall, EndedWith, Accepted, giving}
 use Rattle.server.specs.FirstPromises.{FirstStep, ByFirst, FirstEnded, first_giving, Whole, AnyCall, first, later, AnyRun, any_end_state, any_end_store}
-use Rattle.server.specs.InnerPromises.{ByInner, ByInnerFirst, SameCalls, LikeOuter, InnerPromises}
+use Rattle.server.specs.InnerPromises.{SameCalls, LikeOuter, InnerPromises}
 use Rattle.server.proofs.Leavings.{no_second_answer, code-refusals}
-use Rattle.server.proofs.FirstLaws.{firsts_apart, whole_told}
+use Rattle.server.proofs.FirstLaws.{whole_told}
 use Rattle.server.proofs.FirstRuns.{call-first_promises}
-use Rattle.server.proofs.InnerLaws.{inner_meets, inner_first_meets}
 
 -- ## What was not refused was tested
 
@@ -170,34 +166,3 @@ module _ (OuterFirst : State → List ℕ → FirstStep → Type 0) (by_first : 
       call-too = call-too;
       first_too = first_too;
     }
-
--- ## Of the inner call and first call
-
-by_inner : (state : State) (store : List ℕ) (k : Step) → Sound state store → ByInner state store k → InnerCall ByCall state store k
-by_inner state store k S i =
-    let g = i S in
-    record {
-      outer = record { outcome = g.outcome; ended_is = g.ended_is; meets = g.meets.meets };
-      sound = g.meets.sound;
-      never_2 = λ e. g.meets.never_2 (outcomes_apart g.outcome (Refused 2) (sym g.ended_is ∙ e));
-      never_3 = λ e. g.meets.never_3 (outcomes_apart g.outcome (Refused 3) (sym g.ended_is ∙ e));
-    }
-
-by_inner_first : (state : State) (store : List ℕ) (f : FirstStep) → Sound state store → ByInnerFirst state store f → InnerFirstCall ByFirst state store f
-by_inner_first state store f S i =
-    let g = i S in
-    record {
-      outer = record { first = g.first; ended_is = g.ended_is; meets = g.meets.meets };
-      sound = g.meets.sound;
-      never_2 = λ e. g.meets.never_2 (firsts_apart g.first (answer.Refused 2) (sym g.ended_is ∙ e));
-      never_3 = λ e. g.meets.never_3 (firsts_apart g.first (answer.Refused 3) (sym g.ended_is ∙ e));
-    }
-
-call-inner_too : (state : State) (store : List ℕ) (k : Step) → ByCall state store k → ByInner state store k
-call-inner_too state store k m S = record { outcome = m.outcome; ended_is = m.ended_is; meets = inner_meets _ _ _ _ _ _ _ _ _ _ _ S m.meets }
-
-first_inner_too : (state : State) (store : List ℕ) (f : FirstStep) → ByFirst state store f → ByInnerFirst state store f
-first_inner_too state store f m S = record { first = m.first; ended_is = m.ended_is; meets = inner_first_meets _ _ _ _ _ _ _ _ _ S m.meets }
-
-pub call-inner_promises : InnerPromises ByFirst ByCall ByInnerFirst ByInner
-call-inner_promises = inner_promises ByFirst (λ s x f m. m) ByCall (λ s x k m. m) ByInnerFirst by_inner_first ByInner by_inner first_inner_too call-inner_too

@@ -10,3 +10,4 @@ pub mod FirstLaws
 pub mod FirstRuns
 pub mod InnerLaws
 pub mod InnerRuns
+pub mod InnerTheorem

@@ -1,5 +1,5 @@
 -- Runs of inner calls (#113): one that begins with an outer call, or from a fresh state, and goes on with inner ones is the run of outer calls, byte for
--- byte. The proofs are in proofs/InnerRuns.antt; four relations say what kinds of calls these are, in crate gateway those of the exports.
+-- byte. The proofs are in proofs/InnerRuns.antt and InnerTheorem.antt; four relations say what kinds of calls these are, in crate gateway those of the exports.
 use Rattle.std.specs.Prelude.{ℕ, ◌≡◌, true, List, [], ◌∷◌, replicate}
 use Rattle.wire.specs.Limits.{store_size}
 use Rattle.rule.specs.Gateway.{fresh}
