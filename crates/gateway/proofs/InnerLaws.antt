@@ -1,9 +1,7 @@
--- What an inner call ensures says the same of its flat values, since these tell outcomes apart; so the promises of its runs hold of the exports.
--- Assumes nothing.
+-- What an inner call ensures holds of its flat values (InnerFlat); so the promises of its runs hold of the exports. Assumes nothing.
 use Prim.Native.Nat.{ℕ}
 use mathlib.Core.Path.{◌≡◌, refl, sym, ap, ◌∙◌}
 use mathlib.Core.List.{List, [], ◌∷◌}
-use Rattle.rule.specs.declared.Millis.{Millis}
 use Rattle.table.specs.declared.State.{State}
 use Rattle.table.specs.Soundness.{Sound}
 use Rattle.requests.specs.declared.Outcome.{Outcome}
@@ -13,46 +11,21 @@ use Rattle.server.specs.declared.first.First.{First}
 use Rattle.server.specs.declared.first.First.TheVariants as answer
 use Rattle.server.specs.Calls.{call_of}
 use Rattle.server.specs.First.{first_of}
-use Rattle.server.specs.Inner.{InnerMeets, InnerFirstMeets}
 use Rattle.server.specs.Runs.{Step}
 use Rattle.server.specs.FirstPromises.{FirstStep}
 use Rattle.server.proofs.FirstLaws.{firsts_apart}
 use Rattle.server.proofs.InnerLaws.{inner_meets, inner_first_meets}
 use Rattle.server.proofs.InnerRuns.{InnerCall, InnerFirstCall, inner_promises}
-use Rattle.flat.specs.declared.FlatAnswers.{FlatAnswers}
 use Rattle.flat.specs.declared.FlatOutcome.{FlatOutcome}
 use Rattle.flat.specs.declared.FlatFirst.{FlatFirst}
 use Rattle.flat.specs.Flat.{answers_of, numbered, flat_of, unbegun_first, flat_first}
-use Rattle.gateway.specs.Exports.{FlatInnerMeets, FlatInnerFirstMeets}
 use Rattle.flat.specs.Promises.{flat_values, flat_first_values}
 use Rattle.gateway.specs.Promises.{ByExport, ByFirstExport, ByInnerExport, ByInnerFirstExport, InnerExportPromises}
-use Rattle.flat.proofs.FlatLaws.{same-values, flat_apart}
+use Rattle.flat.proofs.FlatLaws.{same-values}
+use Rattle.gateway.proofs.InnerFlat.{inner_flat, inner_first_flat}
 use Rattle.gateway.proofs.ExportLaws.{export_calls}
-use Rattle.flat.proofs.FlatLaws.{same-first_values, flat_first-apart}
+use Rattle.flat.proofs.FlatLaws.{same-first_values}
 use Rattle.gateway.proofs.FirstLaws.{export_first}
-
--- ## The contracts
-
-pub inner_flat : (state : State) (store payload : List ℕ) (reading : Millis) (answers : FlatAnswers) (signature buffer : List ℕ) (outcome : FlatOutcome) (o : Outcome) (after : State)
-    (store_after reply : List ℕ) → outcome ≡ flat_of o → InnerMeets state store payload reading (answers_of answers) signature buffer o after store_after reply
-    → FlatInnerMeets state store payload reading answers signature buffer outcome after store_after reply
-unfolding flat_of
-inner_flat state store payload reading answers signature buffer outcome o after store_after reply f e = record {
-  meets = record { outcome_is = f ∙ ap flat_of e.meets.outcome_is; state_is = e.meets.state_is; store_is = e.meets.store_is; reply_is = e.meets.reply_is };
-  sound = e.sound;
-  never_2 = λ is. e.never_2 (flat_apart o (Refused 2) (sym f ∙ is));
-  never_3 = λ is. e.never_3 (flat_apart o (Refused 3) (sym f ∙ is));
-}
-
-pub inner_first_flat : (state : State) (store bytes : List ℕ) (reading : Millis) (buffer : List ℕ) (first : FlatFirst) (x : First) (after : State) (store_after reply : List ℕ)
-    → first ≡ flat_first x → InnerFirstMeets state store bytes reading buffer x after store_after reply → FlatInnerFirstMeets state store bytes reading buffer first after store_after reply
-unfolding flat_first
-inner_first_flat state store bytes reading buffer first x after store_after reply f m = record {
-  meets = record { first_is = f ∙ ap flat_first m.meets.first_is; state_is = m.meets.state_is; store_is = m.meets.store_is; reply_is = m.meets.reply_is };
-  sound = m.sound;
-  never_2 = λ is. m.never_2 (flat_first-apart x (answer.Refused 2) (sym f ∙ is));
-  never_3 = λ is. m.never_3 (flat_first-apart x (answer.Refused 3) (sym f ∙ is));
-}
 
 -- ## Runs
 

@@ -3,4 +3,5 @@ pub mod WithinLaws
 pub mod ExportLaws
 pub mod AskedLaws
 pub mod FirstLaws
+pub mod InnerFlat
 pub mod InnerLaws

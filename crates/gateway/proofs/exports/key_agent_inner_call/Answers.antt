@@ -1,5 +1,5 @@
 -- What the inner call ensures of the outcome is said of the flat one. Assumes nothing.
-use Rattle.gateway.proofs.InnerLaws.{inner_flat}
+use Rattle.gateway.proofs.InnerFlat.{inner_flat}
 use Rattle.gateway.proofs.exports.key_agent_inner_call.Goals as goal
 
 pub returns : goal.returns

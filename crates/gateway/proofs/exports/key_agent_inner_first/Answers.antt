@@ -1,5 +1,5 @@
 -- What the first inner call ensures is said of the flat one. Assumes nothing.
-use Rattle.gateway.proofs.InnerLaws.{inner_first_flat}
+use Rattle.gateway.proofs.InnerFlat.{inner_first_flat}
 use Rattle.gateway.proofs.exports.key_agent_inner_first.Goals as goal
 
 pub returns : goal.returns
