@@ -45,7 +45,7 @@ fn respond(
     reply: &mut [u8],
 ) -> Landed
     requires { (reply_room ≤ length reply.old) × (lent_length (lent_of answers signature.now).signature ≤ signature_limit) × Sound (held (columns numbers.old readings.old blob_lens.old fields_lens.old comment_lens.old seconds.old limited.old confirm.old) passphrase.old kept) store.old }
-    ensures { Ends reply.old (record { outcome = result.outcome; state = (held (columns numbers.new readings.new blob_lens.new fields_lens.new comment_lens.new seconds.new limited.new confirm.new) passphrase.new result.kept) }) store.new reply.new (served (gateway_of (held (columns numbers.old readings.old blob_lens.old fields_lens.old comment_lens.old seconds.old limited.old confirm.old) passphrase.old kept) store.old) (record { payload = payload.entry.now }) (lent_of answers signature.now)) }
+    ensures { Ends reply.old (record { outcome = result.outcome; state = (held (columns numbers.new readings.new blob_lens.new fields_lens.new comment_lens.new seconds.new limited.new confirm.new) passphrase.new result.kept) }) store.new reply.new (served (gateway_of (held (columns numbers.old readings.old blob_lens.old fields_lens.old comment_lens.old seconds.old limited.old confirm.old) passphrase.old kept) store.old) (record { payload = payload.now }) (lent_of answers signature.now)) }
 {
     let locked = is_locked(kept.locked);
     let gate = answers.gate;

@@ -1,4 +1,5 @@
-// What C and Rust link. include/key_agent.h says what the other side must keep; of the inner calls, their `requires`.
+// What C and Rust link, by crate `gateway_c`, which exports each of these. include/key_agent.h says what the other side must keep; of the inner
+// calls, their `requires`.
 ghost use Rattle.std.specs.Prelude.{◌≡◌};
 ghost use Rattle.rule.specs.Gateway.{fresh as fresh_gateway};
 ghost use Rattle.table.specs.Meaning.{state_of};

@@ -64,7 +64,8 @@ next_of s x (Agrees k) = after_of s (moved_of x ((x.agreed + 1) % 2 ^ 32) k)
 next_of s x (Differs k) = after_of s (moved_of x x.agreed k)
 next_of s x Ran.Malformed = End
 
--- where a line is written: at a record that differs, behind the last of a section, and where the input is malformed
+-- where a line may be written: at a record that differs (the first 16 of a section are named), behind the last of a section, and where the input is
+-- malformed
 abbrev pub WritesLine : Section → Ran → Type 0
 WritesLine x (Agrees k) = (x.ran + 1) % 2 ^ 32 ≡ x.count
 WritesLine x (Differs k) = Unit {0}

@@ -185,7 +185,7 @@ fn is_rest_zero(store: &[u8], end: usize) -> bool
 }
 
 fn is_lock_sound(bytes: &[u8], len: usize) -> bool
-    ensures { result ≡ sound_lock (record { bytes = bytes.entry.now; len = len }) }
+    ensures { result ≡ sound_lock (record { bytes = bytes.now; len = len }) }
 {
     if bytes.len() != limits::PASSPHRASE_LIMIT {
         return false;

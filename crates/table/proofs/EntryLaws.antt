@@ -5,13 +5,10 @@ use mathlib.Core.Logic.{◌≢◌, ◌⊎◌, inl, inr}
 use mathlib.Core.List.{List, [], ◌∷◌, ◌++◌, map}
 use native.Mathlib.Omega.{arith}
 use native.Mathlib.Nat.{not-suc-le-zero, le_of_suc-le-suc}
-use borrow.Author.Tests.{eqb-true, eqb-false, eq-eqb, ne_eqb}
 use lib.ListN.{length, take, drop, get_or, replicate, length-map, drop_of_length-le}
 use lib.Seq.{take-nil, drop-cons}
-use lib.Dec.{eqb}
 use Rattle.wire.specs.Limits.{entries_limit}
 use Rattle.wire.proofs.Reading.{le_or_lt}
-use Rattle.rule.proofs.Cases.{cond_cases}
 use Rattle.table.specs.declared.Columns.{Columns}
 use Rattle.table.specs.declared.Figures.{Figures}
 use Rattle.table.specs.Bytes.{Zeros, sum_of, padded}
@@ -21,6 +18,7 @@ use Rattle.table.specs.Meaning.{size, no_figures}
 use Rattle.table.specs.Soundness.{ZeroBehind}
 use Rattle.table.proofs.ByteLaws.{padded-size, padded-rest, zeros_padded}
 use Rattle.table.proofs.EachLaws.{offset_step}
+pub use Rattle.table.proofs.CountLaws.{count_within, count_held, count_unused, count_is, count_step}
 
 -- ## A list by its index
 
@@ -53,48 +51,6 @@ map-up h f zero = refl
 map-up h f (suc n) = ap (λ ys. h (f 0) ∷ ys) (map-up h (λ i. f (suc i)) n)
 
 -- ## How many there are
-
-pub count_within : (ns : List ℕ) → count_of ns ≤ length ns
-unfolding count_of
-count_within [] = omega arith
-count_within (n ∷ ns) = cond_cases (λ c. c ≤ suc (length ns)) (eqb n 0) (λ _. omega arith) (λ _. let r = count_within ns in omega arith)
-
-pub count_held : (ns : List ℕ) (i : ℕ) → i < count_of ns → get_or ns i 0 ≢ 0
-unfolding count_of
-count_held [] i = λ h. absurd (not-suc-le-zero h)
-count_held (n ∷ ns) i = cond_cases (λ c. i < c → get_or (n ∷ ns) i 0 ≢ 0) (eqb n 0) (λ _ h. absurd (not-suc-le-zero h)) (λ f. by_index i (count_held ns) (eqb-false n 0 f))
-  where
-    by_index : (i : ℕ) → ((i : ℕ) → i < count_of ns → get_or ns i 0 ≢ 0) → n ≢ 0 → i < suc (count_of ns) → get_or (n ∷ ns) i 0 ≢ 0
-    by_index zero rest f h = f
-    by_index (suc i) rest f h = rest i (le_of_suc-le-suc h)
-
-pub count_unused : (ns : List ℕ) → get_or ns (count_of ns) 0 ≡ 0
-unfolding count_of
-count_unused [] = refl
-count_unused (n ∷ ns) = cond_cases (λ c. get_or (n ∷ ns) c 0 ≡ 0) (eqb n 0) (λ t. eqb-true n 0 t) (λ _. count_unused ns)
-
--- n numbers that are not 0, and then a 0 or the end
-pub count_is : (ns : List ℕ) (n : ℕ) → n ≤ length ns → ((i : ℕ) → i < n → get_or ns i 0 ≢ 0) → get_or ns n 0 ≡ 0 → count_of ns ≡ n
-unfolding count_of
-count_is [] zero h held end = refl
-count_is [] (suc n) h held end = absurd (not-suc-le-zero h)
-count_is (m ∷ ns) zero h held end = rw (eq-eqb m 0 end)
-count_is (m ∷ ns) (suc n) h held end = rw (ne_eqb m 0 (held 0 (omega arith))) (ap suc (count_is ns n (le_of_suc-le-suc h) (λ i k. held (suc i) (omega arith)) end))
-
--- a turn of the count, and its end
-pub count_step : (ns : List ℕ) (i : ℕ) → i ≤ count_of ns → get_or ns i 0 ≢ 0 → i + 1 ≤ count_of ns
-unfolding count_of
-count_step [] zero = λ h f. absurd (f refl)
-count_step [] (suc i) = λ h f. absurd (not-suc-le-zero h)
-count_step (n ∷ ns) i = cond_cases (λ c. i ≤ c → get_or (n ∷ ns) i 0 ≢ 0 → i + 1 ≤ c) (eqb n 0) (λ t h f. absurd (by_zero i h (eqb-true n 0 t) f)) (λ _. by_index i (count_step ns))
-  where
-    by_zero : (i : ℕ) → i ≤ 0 → n ≡ 0 → get_or (n ∷ ns) i 0 ≢ 0 → ⊥
-    by_zero zero h z f = f z
-    by_zero (suc i) h z f = not-suc-le-zero h
-
-    by_index : (i : ℕ) → ((i : ℕ) → i ≤ count_of ns → get_or ns i 0 ≢ 0 → i + 1 ≤ count_of ns) → i ≤ suc (count_of ns) → get_or (n ∷ ns) i 0 ≢ 0 → i + 1 ≤ suc (count_of ns)
-    by_index zero rest h f = omega arith
-    by_index (suc i) rest h f = let r = rest i (le_of_suc-le-suc h) f in omega arith
 
 pub count_ends : (ns : List ℕ) (i : ℕ) → i ≤ count_of ns → get_or ns i 0 ≡ 0 → i ≡ count_of ns
 count_ends ns i h z = by_order (le_or_lt (count_of ns) i)

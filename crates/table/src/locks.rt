@@ -34,7 +34,7 @@ pub fn is_passphrase(bytes: &[u8], len: usize, p: &[u8]) -> bool
 // The record keeps this passphrase, whose length comes back; an empty one opens. Who locks has tested the length.
 pub fn keep_passphrase(bytes: &mut [u8], p: &[u8]) -> usize
     requires { (length bytes.old ≡ passphrase_limit) × (length p.now ≤ passphrase_limit) }
-    ensures { record { bytes = bytes.exit.now; len = result } ≡ lock_of p.now }
+    ensures { record { bytes = bytes.new; len = result } ≡ lock_of p.now }
 {
     pad(bytes, p);
     p.len()
