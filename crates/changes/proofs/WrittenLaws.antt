@@ -13,8 +13,8 @@ use Rattle.rule.specs.declared.Millis.{Millis}
 use Rattle.rule.specs.Gateway.{Entry as Key, due_at, lasting, remove_at, put_at}
 use Rattle.rule.proofs.Cases.{cond_cases}
 use Rattle.rule.proofs.PositionLaws.{Fewer, ended, gone, kept, fewer_none}
-use Rattle.keys.specs.declared.constraints.Lifetime.{Lifetime}
-use Rattle.keys.specs.declared.constraints.Lifetime.TheVariants.{Forever, For}
+use Rattle.keys.specs.Constraints.{Lifetime}
+use Rattle.std.specs.Prelude.{Some, None}
 use Rattle.table.specs.declared.Columns.{Columns}
 use Rattle.table.specs.declared.Figures.{Figures}
 use Rattle.table.specs.Bytes.{padded}
@@ -82,8 +82,8 @@ one_marked (suc n) (suc i) (k ∷ ks) h = ap (λ (l : List Key). k ∷ l) (one_m
 -- ## What is due
 
 lifetime_back_lem : (l : Lifetime) → limited_lifetime (limited_flag l) (kept_seconds l) ≡ l
-lifetime_back_lem Forever = refl
-lifetime_back_lem (For seconds) = refl
+lifetime_back_lem None = refl
+lifetime_back_lem (Some seconds) = refl
 
 flag_back : (b : Bool) → is_set (flag_of b) ≡ b
 flag_back true = refl
@@ -152,7 +152,7 @@ unmarked-trailed (m ∷ ms) (x ∷ xs) k = inside (is_set m) (unmarked ms (xs ++
     inside true whole front t = t
     inside false whole front t = record { count = t.count; is = ap (λ (l : List ℕ). x ∷ l) t.is }
 
-closed-padded : (ms xs : List ℕ) (n : ℕ) → length xs ≤ n → closed ms (padded n xs) ≡ padded n (unmarked ms xs)
+closed-padded : (ms xs : List ℕ) (n : ℕ) → length xs ≤ n → closed 0 ms (padded n xs) ≡ padded n (unmarked ms xs)
 unfolding closed padded
 closed-padded ms xs n h =
     let all : length (padded n xs) ≡ n = padded-size n xs h in
@@ -160,7 +160,7 @@ closed-padded ms xs n h =
     ap (λ (m : ℕ). padded m (unmarked ms (padded n xs))) all ∙ trailed_padded n (unmarked ms (padded n xs)) (unmarked ms xs) (unmarked-trailed ms xs (n - length xs)) few
 
 module _ (ms : List ℕ) (ks : List Key) (few : length ks ≤ entries_limit) where
-  column_closed : (field : Figures → ℕ) → closed ms (padded entries_limit (map field (map figures_for ks))) ≡ padded entries_limit (map field (map figures_for (unmarked ms ks)))
+  column_closed : (field : Figures → ℕ) → closed 0 ms (padded entries_limit (map field (map figures_for ks))) ≡ padded entries_limit (map field (map figures_for (unmarked ms ks)))
   column_closed field =
       let l = length-map (map figures_for ks) field in
       let h = few_figures ks few in

@@ -1,5 +1,5 @@
 -- Constraints as they are written: how long they are, and one more of them behind those that stand in the output.
-use Prim.Native.Nat.{ℕ, zero, suc, ◌+◌, ◌≤◌, ◌<◌}
+use Prim.Native.Nat.{ℕ, ◌+◌, ◌≤◌, ◌<◌}
 use mathlib.Core.Path.{◌≡◌, refl, sym, ap, ◌∙◌}
 use mathlib.Core.List.{List, [], ◌∷◌, ◌++◌, append_assoc, append-nil}
 use native.Mathlib.Omega.{arith}
@@ -29,20 +29,11 @@ form_size : (c : Constraint) → length (constraint_form c) ≤ 5
 form_size (KeyLifetime seconds) = omega arith
 form_size Confirm = omega arith
 
-form_some : (c : Constraint) → 1 ≤ length (constraint_form c)
-form_some (KeyLifetime seconds) = omega arith
-form_some Confirm = omega arith
-
-forms_none : (i : ℕ) → length (constraint_forms (take i [])) ≡ 0
-forms_none zero = refl
-forms_none (suc i) = refl
-
 -- fewer constraints are no longer
-fewer : (cs : List Constraint) (i j : ℕ) → i ≤ j → length (constraint_forms (take i cs)) ≤ length (constraint_forms (take j cs))
-fewer [] i j h = omega (arith, forms_none i)
-fewer (c ∷ cs) zero j h = omega arith
-fewer (c ∷ cs) (suc i) zero h = absurd (omega arith)
-fewer (c ∷ cs) (suc i) (suc j) h = let r = fewer cs i j (omega arith) in simp length-append (omega arith)
+fewer : (cs : List Constraint) (i : ℕ) → length (constraint_forms (take i cs)) ≤ length (constraint_forms cs)
+fewer cs i =
+    let e = ap constraint_forms (sym (take-append-drop i cs)) ∙ forms_append (take i cs) (drop i cs) in
+    omega (arith, simp length-append at (ap length e))
 
 -- the lengths of constraints, added up one by one
 module _ (cs : List Constraint) (i : ℕ) (d : Constraint) (r : ℕ) (e : r ≡ length (constraint_form (get_or cs i d))) where
@@ -52,23 +43,13 @@ module _ (cs : List Constraint) (i : ℕ) (d : Constraint) (r : ℕ) (e : r ≡ 
   pub length_more : (n : ℕ) → n ≡ length (constraint_forms (take i cs)) → i < length cs → n + r ≡ length (constraint_forms (take (i + 1) cs))
   length_more n f h = rw (one_more cs i d h, length-append) (omega arith)
 
--- one constraint, as its case writes it
-module _ (c : Constraint) (out : List ℕ) (at : ℕ) (room : at + length (constraint_form c) ≤ length out) where
-  pub some_room : at < length out
-  some_room = omega (arith, form_some c)
-
-  module _ (seconds : Seconds) (e : c ≡ KeyLifetime seconds) where
-    pub lifetime_room : at + 5 ≤ length out
-    lifetime_room = rw e at room
-
-    pub lifetime_put : (m o : List ℕ) (n r : ℕ) → m ≡ write out at (1 ∷ []) → n ≡ at + 1 → o ≡ write m n (be32 seconds.count) → r ≡ n + 4
-        → (r ≡ at + length (constraint_form c)) × (o ≡ write out at (constraint_form c))
-    lifetime_put m o n r f g h k =
-        let l = lifetime_room in
-        rw e (omega arith, write-behind out at (1 ∷ []) m n (be32 seconds.count) o f h g (omega arith))
-
-  pub confirm_put : (o : List ℕ) (r : ℕ) → c ≡ Confirm → o ≡ write out at (2 ∷ []) → r ≡ at + 1 → (r ≡ at + length (constraint_form c)) × (o ≡ write out at (constraint_form c))
-  confirm_put o r e f g = rw e (g, f)
+-- a lifetime, as its case writes it
+module _ (c : Constraint) (out : List ℕ) (at : ℕ) (room : at + length (constraint_form c) ≤ length out) (seconds : Seconds) (e : c ≡ KeyLifetime seconds) where
+  pub lifetime_put : (m o : List ℕ) (n r : ℕ) → m ≡ write out at (1 ∷ []) → n ≡ at + 1 → o ≡ write m n (be32 seconds.count) → r ≡ n + 4
+      → (r ≡ at + length (constraint_form c)) × (o ≡ write out at (constraint_form c))
+  lifetime_put m o n r f g h k =
+      let l : at + 5 ≤ length out = rw e at room in
+      rw e (omega arith, write-behind out at (1 ∷ []) m n (be32 seconds.count) o f h g (omega arith))
 
 -- the first i constraints stand in the output at `at`, up to `end`
 pub record Standing (cs : List Constraint) (out : List ℕ) (at i end : ℕ) (o : List ℕ) : Type 0 where
@@ -76,15 +57,15 @@ pub record Standing (cs : List Constraint) (out : List ℕ) (at i end : ℕ) (o 
   pub holds : o ≡ write out at (constraint_forms (take i cs))
   pub size : length o ≡ length out
 
--- and there is room for `count` of them
-module _ (cs : List Constraint) (out : List ℕ) (at count : ℕ) (room : at + length (constraint_forms (take count cs)) ≤ length out) where
+-- and there is room for all of them
+module _ (cs : List Constraint) (out : List ℕ) (at : ℕ) (room : at + length (constraint_forms cs) ≤ length out) where
   pub none_standing : Standing cs out at 0 at out
   unfolding write
   none_standing = record { place = omega arith; holds = rw (add-zero, append_assoc (take at out) [] (drop at out)) (sym (take-append-drop at out)); size = refl }
 
-  module _ (i end : ℕ) (o : List ℕ) (s : Standing cs out at i end o) (d : Constraint) (h : i < count) (k : i < length cs) where
-    longer : length (constraint_forms (take i cs)) + length (constraint_form (get_or cs i d)) ≤ length (constraint_forms (take count cs))
-    longer = let f = fewer cs (i + 1) count (omega arith) in omega (arith, rw (one_more cs i d k, length-append) at f)
+  module _ (i end : ℕ) (o : List ℕ) (s : Standing cs out at i end o) (d : Constraint) (k : i < length cs) where
+    longer : length (constraint_forms (take i cs)) + length (constraint_form (get_or cs i d)) ≤ length (constraint_forms cs)
+    longer = let f = fewer cs (i + 1) in omega (arith, rw (one_more cs i d k, length-append) at f)
 
     pub room_for_one : end + length (constraint_form (get_or cs i d)) ≤ length o
     room_for_one = omega (arith, longer, s.place, s.size)
@@ -98,7 +79,3 @@ module _ (cs : List Constraint) (out : List ℕ) (at count : ℕ) (room : at + l
               ∙ ap (write out at) (sym (one_more cs i d k));
           size = rw f (length-write o end (constraint_form (get_or cs i d)) room_for_one ∙ s.size);
         }
-
-pub all-standing : (cs : List Constraint) (out : List ℕ) (at count i end : ℕ) (o : List ℕ) → Standing cs out at i end o → i ≡ count
-    → (end ≡ at + length (constraint_forms (take count cs))) × (o ≡ write out at (constraint_forms (take count cs)))
-all-standing cs out at count i end o s h = rw (← h) (s.place, s.holds)

@@ -15,8 +15,7 @@ use Rattle.wire.specs.Numbers.{Bytes, be32}
 use Rattle.wire.specs.Write.{write, string}
 use Rattle.wire.specs.Constraints.{constraint_form, constraint_forms}
 use Rattle.wire.specs.declared.refusal.Refusal.{Refusal}
-use Rattle.wire.specs.declared.refusal.Wrote.{Wrote}
-use Rattle.wire.specs.declared.refusal.Wrote.TheVariants.{Refused}
+use Rattle.std.specs.Prelude.{Result, Err}
 use Rattle.wire.proofs.Laws.{byte_rule, string-rule}
 use Rattle.wire.proofs.FrameLaws.{splits}
 use Rattle.wire.proofs.ByteLaws.{bytes-none, bytes-cons, bytes-append, be32-bytes, bytes-string}
@@ -46,7 +45,7 @@ module _ (p out : List ℕ) (n : ℕ) (left : List ℕ) (s : Stage (length p) p 
         splits = rw first (splits p s.small).alone;
       }
 
-module _ (p out : List ℕ) (answer : Wrote) (left : List ℕ) (e : Met (length p) p out answer left) where
+module _ (p out : List ℕ) (answer : Result ℕ Refusal) (left : List ℕ) (e : Met (length p) p out answer left) where
   writes : Writes p out answer left
   writes = record {
     sent = λ n f. sent p out n left (stage (length p) p out answer left e n (wrote_written answer n f));
@@ -57,7 +56,7 @@ pub writer_rule : WriterRule
 writer_rule p out = writes p out _ _ (refl, refl)
 
 -- a test before a writer
-tested : (p out : List ℕ) (r : Refusal) (b : Bool) (answer : Wrote) (left : List ℕ) → Writes p out answer left → Writes p out (cond b answer (Refused r)) (cond b left out)
+tested : (p out : List ℕ) (r : Refusal) (b : Bool) (answer : Result ℕ Refusal) (left : List ℕ) → Writes p out answer left → Writes p out (cond b answer (Err r)) (cond b left out)
 tested p out r true answer left w = w
 tested p out r false answer left w = record { sent = λ n e. not_granted e; untouched = λ n w e. refl }
 
@@ -70,8 +69,8 @@ unfolding add_smartcard_answer add_smartcard_left
 add_smartcard-rule id pin cs count out =
     unless_many (ltb 4 count) (tested _ out (Malformed (utf8_end id)) (eqb (utf8_end id) (length id)) _ _ (writer_rule _ out))
   where
-    unless_many : (b : Bool) {answer : Wrote} {left : List ℕ} → Writes (add_smartcard id pin cs count) out answer left
-        → Writes (add_smartcard id pin cs count) out (cond b (Refused TooManyConstraints) answer) (cond b out left)
+    unless_many : (b : Bool) {answer : Result ℕ Refusal} {left : List ℕ} → Writes (add_smartcard id pin cs count) out answer left
+        → Writes (add_smartcard id pin cs count) out (cond b (Err TooManyConstraints) answer) (cond b out left)
     unless_many true w = record { sent = λ n e. not_granted e; untouched = λ n w e. refl }
     unless_many false w = w
 

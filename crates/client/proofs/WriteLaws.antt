@@ -11,14 +11,15 @@ use Rattle.wire.specs.Numbers.{be32}
 use Rattle.wire.specs.Write.{write, string}
 use Rattle.wire.specs.declared.refusal.Refusal.{Refusal}
 use Rattle.wire.specs.declared.refusal.Refusal.TheVariants.{OutputTooShort, PayloadTooLong}
-use Rattle.wire.specs.declared.refusal.Wrote.{Wrote}
-use Rattle.wire.specs.declared.refusal.Wrote.TheVariants.{Written, Refused}
+use Rattle.std.specs.Prelude.{Result, Ok, Err}
+use Rattle.std.specs.Result.{IsErrAnd}
+use Rattle.std.proofs.lemmas.Result.{err_from_is_err_and}
 use Rattle.wire.proofs.Reading.{le_or_lt}
 use Rattle.wire.proofs.Writing.{length-write, write-behind}
 use Rattle.client.specs.Requests.{head_answer, head_left}
 
 -- what a writer ensures of its answer and of the output
-abbrev pub Met : ℕ → List ℕ → List ℕ → Wrote → List ℕ → Type 0
+abbrev pub Met : ℕ → List ℕ → List ℕ → Result ℕ Refusal → List ℕ → Type 0
 Met n head out r m = (r ≡ head_answer n head out) × (m ≡ head_left n head out)
 
 -- the room was there, and m is the output with the head of a payload of n bytes written up to `at`
@@ -29,26 +30,26 @@ pub record Stage (n : ℕ) (head out : List ℕ) (at : ℕ) (m : List ℕ) : Typ
   pub holds : m ≡ write out 0 (be32 n ++ head)
 
 module _ (n : ℕ) (head out : List ℕ) where
-  pub too_long : payload_limit < n → Met n head out (Refused PayloadTooLong) out
+  pub too_long : payload_limit < n → Met n head out (Err PayloadTooLong) out
   unfolding head_answer head_left
   too_long h = rw (lt-ltb payload_limit n h) (refl, refl)
 
-  pub too_short : n ≤ payload_limit → length out < 4 + n → Met n head out (Refused OutputTooShort) out
+  pub too_short : n ≤ payload_limit → length out < 4 + n → Met n head out (Err OutputTooShort) out
   unfolding head_answer head_left
   too_short h k = rw (le-ltb payload_limit n h, lt-ltb (length out) (4 + n) k) (refl, refl)
 
   -- a stage is what the writer so far ensures
-  pub met : (at : ℕ) (m : List ℕ) → Stage n head out at m → Met n head out (Written at) m
+  pub met : (at : ℕ) (m : List ℕ) → Stage n head out at m → Met n head out (Ok at) m
   unfolding head_answer head_left
-  met at m s = rw (le-ltb payload_limit n s.small, le-ltb (length out) (4 + n) s.fits) (ap Written s.place, s.holds)
+  met at m s = rw (le-ltb payload_limit n s.small, le-ltb (length out) (4 + n) s.fits) (ap Ok s.place, s.holds)
 
 -- the three ways out of a writer
-data Way (n : ℕ) (head out : List ℕ) : Wrote → List ℕ → Type 0 where
-  long : payload_limit < n → Way n head out (Refused PayloadTooLong) out
-  short : n ≤ payload_limit → length out < 4 + n → Way n head out (Refused OutputTooShort) out
-  wrote : (at : ℕ) (m : List ℕ) → Stage n head out at m → Way n head out (Written at) m
+data Way (n : ℕ) (head out : List ℕ) : Result ℕ Refusal → List ℕ → Type 0 where
+  long : payload_limit < n → Way n head out (Err PayloadTooLong) out
+  short : n ≤ payload_limit → length out < 4 + n → Way n head out (Err OutputTooShort) out
+  wrote : (at : ℕ) (m : List ℕ) → Stage n head out at m → Way n head out (Ok at) m
 
-way : (n : ℕ) (head out : List ℕ) (r : Wrote) (m : List ℕ) → Met n head out r m → Way n head out r m
+way : (n : ℕ) (head out : List ℕ) (r : Result ℕ Refusal) (m : List ℕ) → Met n head out r m → Way n head out r m
 way n head out r m e =
     ⊎_elim
     (λ (h : n ≤ payload_limit).
@@ -63,25 +64,27 @@ way n head out r m e =
     (le_or_lt n payload_limit)
 
 module _ (n : ℕ) (head out : List ℕ) where
-  staged : (r : Wrote) (m : List ℕ) → Way n head out r m → (at : ℕ) → r ≡ Written at → Stage n head out at m
+  staged : (r : Result ℕ Refusal) (m : List ℕ) → Way n head out r m → (at : ℕ) → r ≡ Ok at → Stage n head out at m
   staged _ _ (long h) at g = let z : ◌≡◌ {A = ℕ} 0 1 = cc in absurd (omega arith)
   staged _ _ (short h k) at g = let z : ◌≡◌ {A = ℕ} 0 1 = cc in absurd (omega arith)
   staged _ _ (wrote from m s) at g = let q : from ≡ at = cc in rw q at s
 
-  stopped : (r : Wrote) (m : List ℕ) → Way n head out r m → (k : Refusal) → r ≡ Refused k → (p : ℕ) (longer : List ℕ) → n ≡ p → Met p longer out r m × (m ≡ out)
+  stopped : (r : Result ℕ Refusal) (m : List ℕ) → Way n head out r m → (k : Refusal) → r ≡ Err k → (p : ℕ) (longer : List ℕ) → n ≡ p → Met p longer out r m × (m ≡ out)
   stopped _ _ (long h) k g p longer q = (too_long p longer out (omega arith), refl)
   stopped _ _ (short h l) k g p longer q = (too_short p longer out (omega arith) (omega arith), refl)
   stopped _ _ (wrote at m s) k g p longer q = let z : ◌≡◌ {A = ℕ} 0 1 = cc in absurd (omega arith)
 
-  module _ (r : Wrote) (m : List ℕ) (e : Met n head out r m) where
+  module _ (r : Result ℕ Refusal) (m : List ℕ) (e : Met n head out r m) where
     -- a writer that wrote came to a stage
-    pub stage : (at : ℕ) → r ≡ Written at → Stage n head out at m
+    pub stage : (at : ℕ) → r ≡ Ok at → Stage n head out at m
     stage at g = staged r m (way n head out r m e) at g
 
-    module _ (k : Refusal) (g : r ≡ Refused k) where
-      -- a refusal of a head is that of every other of the same room
-      pub refused : (p : ℕ) (longer : List ℕ) → n ≡ p → Met p longer out r m
-      refused p longer q = (stopped r m (way n head out r m e) k g p longer q).0
+    module _ (k : Refusal) (g : r ≡ Err k) where
+      -- a refusal of a head, handed on, is that of every other of the same room
+      pub refused : (p : ℕ) (longer : List ℕ) → n ≡ p → (q : Result ℕ Refusal) → IsErrAnd q (λ y. y ≡ k) → Met p longer out q m
+      refused p longer h q d =
+          let (y, is, same) = err_from_is_err_and q d in
+          rw (is, same, ← g) (stopped r m (way n head out r m e) k g p longer h).0
 
       pub untouched : m ≡ out
       untouched = (stopped r m (way n head out r m e) k g n head refl).1
@@ -114,8 +117,8 @@ pub behind-two : (kind : ℕ) (a b v : List ℕ) → (kind ∷ (string a ++ stri
 behind-two kind a b v = ap (λ (l : List ℕ). kind ∷ l) (append_assoc (string a) (string b) v)
 
 -- a head as long as was counted is the payload
-pub counted : (n : ℕ) (payload out : List ℕ) (r : Wrote) (m : List ℕ) → Met n payload out r m → n ≡ length payload → Met (length payload) payload out r m
+pub counted : (n : ℕ) (payload out : List ℕ) (r : Result ℕ Refusal) (m : List ℕ) → Met n payload out r m → n ≡ length payload → Met (length payload) payload out r m
 counted n payload out r m e q = rw (← q) e
 
-pub whole : (n : ℕ) (payload out : List ℕ) (at : ℕ) (m : List ℕ) → Stage n payload out at m → n ≡ length payload → Met (length payload) payload out (Written at) m
-whole n payload out at m s q = counted n payload out (Written at) m (met n payload out at m s) q
+pub whole : (n : ℕ) (payload out : List ℕ) (at : ℕ) (m : List ℕ) → Stage n payload out at m → n ≡ length payload → Met (length payload) payload out (Ok at) m
+whole n payload out at m s q = counted n payload out (Ok at) m (met n payload out at m s) q

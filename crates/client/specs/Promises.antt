@@ -1,15 +1,15 @@
 -- What writers promise, as statements; the proofs are in proofs/.
-use Rattle.std.specs.Prelude.{ℕ, ◌+◌, ◌^◌, ◌≤◌, ◌<◌, ◌≡◌, List, [], ◌∷◌, ◌↔◌, length, take, drop}
+use Rattle.std.specs.Prelude.{ℕ, ◌+◌, ◌^◌, ◌≤◌, ◌<◌, ◌≡◌, List, [], ◌∷◌, ◌↔◌, Result, length, take, drop}
 use Rattle.wire.specs.Limits.{payload_limit}
 use Rattle.wire.specs.declared.Constraint.{Constraint}
 use Rattle.wire.specs.Numbers.{Bytes, be32}
 use Rattle.wire.specs.Abnf.{Octets}
 use Rattle.wire.specs.Read.{cut_of, byte_at, string_at}
-use Rattle.wire.specs.Values.{read, octet_reads, part_reads}
+use Rattle.wire.specs.Values.{read, number_reads, part_reads}
 use Rattle.wire.specs.Write.{string}
 use Rattle.wire.specs.Promises.{Longest, Holds}
 use Rattle.wire.specs.Constraints.{constraint_forms}
-use Rattle.wire.specs.declared.refusal.Wrote.{Wrote}
+use Rattle.wire.specs.declared.refusal.Refusal.{Refusal}
 use Rattle.wire.specs.Refusals.{Where, no_place, at_place, grants, refuses, wrote_says}
 use Rattle.client.specs.Forms.{CardForm}
 use Rattle.client.specs.Requests.{request_identities, sign_request, lock_request, unlock_request, plain_smartcard, constrained_smartcard, remove_smartcard, add_smartcard, answered, filled, remove_smartcard_answer, remove_smartcard_left, add_smartcard_answer, add_smartcard_left}
@@ -23,7 +23,7 @@ pub record Sent (payload out left : List ℕ) (n : ℕ) : Type 0 where
   pub splits : Holds (take n left) payload
 
 -- a writer sends its payload, or leaves the output as it was
-pub record Writes (payload out : List ℕ) (answer : Wrote) (left : List ℕ) : Type 0 where
+pub record Writes (payload out : List ℕ) (answer : Result ℕ Refusal) (left : List ℕ) : Type 0 where
   pub sent : (n : ℕ) → wrote_says answer ≡ grants n → Sent payload out left n
   pub untouched : (n : ℕ) (place : Where) → wrote_says answer ≡ refuses n place → left ≡ out
 
@@ -41,7 +41,7 @@ AddSmartcardRule =
 -- when each answer comes: "writers 18, 12, 17, 11"
 
 -- a payload's own writer
-pub record Framed (payload out : List ℕ) (answer : Wrote) : Type 0 where
+pub record Framed (payload out : List ℕ) (answer : Result ℕ Refusal) : Type 0 where
   pub too_long : payload_limit < length payload → wrote_says answer ≡ refuses 17 no_place
   pub too_short : length payload ≤ payload_limit → length out < 4 + length payload → wrote_says answer ≡ refuses 11 no_place
   pub written : length payload ≤ payload_limit → 4 + length payload ≤ length out → wrote_says answer ≡ grants (4 + length payload)
@@ -87,7 +87,7 @@ abbrev pub CardFormRule : Type 0
 CardFormRule = (id pin : List ℕ) (cs : List Constraint) (payload : List ℕ) → CardForm id pin cs payload ↔ (payload ≡ constrained_smartcard id pin cs)
 
 -- a frame stands at the front of an output, and its length is answered
-abbrev pub AtFront : List ℕ → Wrote → List ℕ → Type 0
+abbrev pub AtFront : List ℕ → Result ℕ Refusal → List ℕ → Type 0
 AtFront frame answer left = (wrote_says answer ≡ grants (length frame)) × (take (length frame) left ≡ frame)
 
 -- at most four constraints, an id of UTF-8, the draft's form of all that was given, within the limit, and room for its frame
@@ -114,7 +114,7 @@ pub data Strings (s : List ℕ) : ℕ → List (List ℕ) → ℕ → Type 0 whe
 
 -- the number, behind it the strings, and behind them `rest`
 pub record RequestReads (byte : ℕ) (payload : List ℕ) (vs : List (List ℕ)) (rest : List ℕ) : Type 0 where
-  pub first : octet_reads (byte_at payload 0) ≡ read byte 1
+  pub first : number_reads (byte_at payload 0) ≡ read byte 1
   pub end : ℕ
   pub strings : Strings payload 1 vs end
   pub behind : drop end payload ≡ rest

@@ -3,7 +3,6 @@
 ghost use Rattle.std.specs.Prelude.{◌≡◌, ◌≤◌, length};
 ghost use Rattle.wire.specs.Limits.{signature_limit, reply_room};
 ghost use Rattle.rule.specs.Calls.{lent_length, served};
-ghost use Rattle.table.specs.Entries.{columns};
 ghost use Rattle.table.specs.Meaning.{gateway_of, held};
 ghost use Rattle.table.specs.Soundness.{Sound};
 ghost use Rattle.requests.specs.Outcomes.{lent_of};
@@ -16,41 +15,31 @@ use requests::list::request_identities;
 use requests::lock::{lock, unlock};
 use requests::replies::failure;
 use requests::sign::try_sign;
-use requests::{Answers, Landed, Outcome};
-use rule::Millis;
+use requests::{Asked, Landed, Outcome};
 use server::call::{Row, lent_length, row_in};
 use soundness::is_sound;
-use table::Kept;
 use table::locks::is_locked;
+use table::{Columns, Kept};
 use turnover::add::add_key;
 use turnover::remove::{remove_all_identities, remove_identity};
 use wire::limits;
 
 // The request served on the present state, its clock raised.
 fn respond(
-    numbers: &mut [u64; limits::ENTRIES_LIMIT],
-    readings: &mut [u64; limits::ENTRIES_LIMIT],
-    blob_lens: &mut [usize; limits::ENTRIES_LIMIT],
-    fields_lens: &mut [usize; limits::ENTRIES_LIMIT],
-    comment_lens: &mut [usize; limits::ENTRIES_LIMIT],
-    seconds: &mut [u32; limits::ENTRIES_LIMIT],
-    limited: &mut [u8; limits::ENTRIES_LIMIT],
-    confirm: &mut [u8; limits::ENTRIES_LIMIT],
+    t: &mut Columns,
     passphrase: &mut [u8; limits::PASSPHRASE_LIMIT],
     kept: Kept,
     store: &mut [u8],
-    payload: &[u8],
-    answers: Answers,
-    signature: &[u8],
+    asked: Asked<'_>,
     reply: &mut [u8],
 ) -> Landed
-    requires { (reply_room ≤ length reply.old) × (lent_length (lent_of answers signature.now).signature ≤ signature_limit) × Sound (held (columns numbers.old readings.old blob_lens.old fields_lens.old comment_lens.old seconds.old limited.old confirm.old) passphrase.old kept) store.old }
-    ensures { Ends reply.old (record { outcome = result.outcome; state = (held (columns numbers.new readings.new blob_lens.new fields_lens.new comment_lens.new seconds.new limited.new confirm.new) passphrase.new result.kept) }) store.new reply.new (served (gateway_of (held (columns numbers.old readings.old blob_lens.old fields_lens.old comment_lens.old seconds.old limited.old confirm.old) passphrase.old kept) store.old) (record { payload = payload.now }) (lent_of answers signature.now)) }
+    requires { (reply_room ≤ length reply.old) × (lent_length (lent_of asked.answers asked.signature.now).signature ≤ signature_limit) × Sound (held t.old passphrase.old kept) store.old }
+    ensures { Ends reply.old (record { outcome = result.outcome; state = (held t.new passphrase.new result.kept) }) store.new reply.new (served (gateway_of (held t.old passphrase.old kept) store.old) (record { payload = asked.entry.payload.now }) (lent_of asked.entry.answers asked.entry.signature.now)) }
 {
     let locked = is_locked(kept.locked);
-    let gate = answers.gate;
-    let check = answers.check;
-    match row_in(payload, locked, gate) {
+    let gate = asked.answers.gate;
+    let check = asked.answers.check;
+    match row_in(asked.payload, locked, gate) {
         Row::Fails => Landed {
             outcome: failure(reply),
             kept,
@@ -60,83 +49,28 @@ fn respond(
             kept,
         },
         Row::List => Landed {
-            outcome: request_identities(
-                numbers,
-                blob_lens,
-                fields_lens,
-                comment_lens,
-                store,
-                reply,
-            ),
+            outcome: request_identities(t, store, reply),
             kept,
         },
-        Row::Add(constrained) => add_key(
-            numbers,
-            readings,
-            blob_lens,
-            fields_lens,
-            comment_lens,
-            seconds,
-            limited,
-            confirm,
-            kept,
-            store,
-            payload,
-            constrained,
-            check,
-            reply,
-        ),
+        Row::Add(constrained) => add_key(t, kept, store, asked.payload, constrained, check, reply),
         Row::Remove => Landed {
-            outcome: remove_identity(
-                numbers,
-                readings,
-                blob_lens,
-                fields_lens,
-                comment_lens,
-                seconds,
-                limited,
-                confirm,
-                store,
-                payload,
-                reply,
-            ),
+            outcome: remove_identity(t, store, asked.payload, reply),
             kept,
         },
         Row::RemoveAll => Landed {
-            outcome: remove_all_identities(
-                numbers,
-                readings,
-                blob_lens,
-                fields_lens,
-                comment_lens,
-                seconds,
-                limited,
-                confirm,
-                store,
-                reply,
-            ),
+            outcome: remove_all_identities(t, store, reply),
             kept,
         },
         Row::Sign => Landed {
-            outcome: try_sign(
-                numbers,
-                confirm,
-                blob_lens,
-                fields_lens,
-                comment_lens,
-                store,
-                payload,
-                answers,
-                signature,
-                reply,
-            ),
+            outcome: try_sign(t, store, asked, reply),
             kept,
         },
-        Row::Lock => lock(passphrase, kept, payload, reply),
-        Row::Unlock => unlock(passphrase, kept, payload, reply),
+        Row::Lock => lock(passphrase, kept, asked.payload, reply),
+        Row::Unlock => unlock(passphrase, kept, asked.payload, reply),
     }
 }
 
+// By 01's number, as an outcome has it.
 fn refused(number: u8, kept: Kept) -> Landed
     ensures { result ≡ record { outcome = Outcome.Refused number; kept = kept } }
 {
@@ -149,88 +83,39 @@ fn refused(number: u8, kept: Kept) -> Landed
 // The inner call (#113), over the lent arrays of a sound state: nothing is tested that a sound state has. Its `requires` is met by
 // `call_lent`, which has tested, and by the Rust crate's Gateway, whose state only ever comes from the core.
 pub fn inner_lent(
-    numbers: &mut [u64; limits::ENTRIES_LIMIT],
-    readings: &mut [u64; limits::ENTRIES_LIMIT],
-    blob_lens: &mut [usize; limits::ENTRIES_LIMIT],
-    fields_lens: &mut [usize; limits::ENTRIES_LIMIT],
-    comment_lens: &mut [usize; limits::ENTRIES_LIMIT],
-    seconds: &mut [u32; limits::ENTRIES_LIMIT],
-    limited: &mut [u8; limits::ENTRIES_LIMIT],
-    confirm: &mut [u8; limits::ENTRIES_LIMIT],
+    t: &mut Columns,
     passphrase: &mut [u8; limits::PASSPHRASE_LIMIT],
     kept: Kept,
     store: &mut [u8],
-    payload: &[u8],
-    reading: Millis,
-    answers: Answers,
-    signature: &[u8],
+    asked: Asked<'_>,
     reply: &mut [u8],
 ) -> Landed
-    requires { Sound (held (columns numbers.old readings.old blob_lens.old fields_lens.old comment_lens.old seconds.old limited.old confirm.old) passphrase.old kept) store.old }
-    ensures { InnerMeets (held (columns numbers.old readings.old blob_lens.old fields_lens.old comment_lens.old seconds.old limited.old confirm.old) passphrase.old kept) store.old payload.now reading answers signature.now reply.old result.outcome (held (columns numbers.new readings.new blob_lens.new fields_lens.new comment_lens.new seconds.new limited.new confirm.new) passphrase.new result.kept) store.new reply.new }
+    requires { Sound (held t.old passphrase.old kept) store.old }
+    ensures { InnerMeets (held t.old passphrase.old kept) store.old asked.entry.payload.now asked.entry.reading asked.entry.answers asked.entry.signature.now reply.old result.outcome (held t.new passphrase.new result.kept) store.new reply.new }
 {
     if reply.len() < limits::REPLY_ROOM {
         return refused(1, kept);
     }
-    if limits::PAYLOAD_LIMIT < payload.len() {
+    if limits::PAYLOAD_LIMIT < asked.payload.len() {
         return refused(4, kept);
     }
-    let given = answers.signature;
-    if limits::SIGNATURE_LIMIT < lent_length(given, signature) {
+    if limits::SIGNATURE_LIMIT < lent_length(asked.answers.signature, asked.signature) {
         return refused(5, kept);
     }
-    let raised = advance(
-        numbers,
-        readings,
-        blob_lens,
-        fields_lens,
-        comment_lens,
-        seconds,
-        limited,
-        confirm,
-        kept,
-        store,
-        reading,
-    );
-    respond(
-        numbers,
-        readings,
-        blob_lens,
-        fields_lens,
-        comment_lens,
-        seconds,
-        limited,
-        confirm,
-        passphrase,
-        raised,
-        store,
-        payload,
-        answers,
-        signature,
-        reply,
-    )
+    let raised = advance(t, kept, store, asked.reading);
+    respond(t, passphrase, raised, store, asked, reply)
 }
 
 // One call over the lent arrays of a state; what is no array goes by value and comes back. Outcome, state, store and reply buffer are what `call_of` says.
 pub fn call_lent(
-    numbers: &mut [u64; limits::ENTRIES_LIMIT],
-    readings: &mut [u64; limits::ENTRIES_LIMIT],
-    blob_lens: &mut [usize; limits::ENTRIES_LIMIT],
-    fields_lens: &mut [usize; limits::ENTRIES_LIMIT],
-    comment_lens: &mut [usize; limits::ENTRIES_LIMIT],
-    seconds: &mut [u32; limits::ENTRIES_LIMIT],
-    limited: &mut [u8; limits::ENTRIES_LIMIT],
-    confirm: &mut [u8; limits::ENTRIES_LIMIT],
+    t: &mut Columns,
     passphrase: &mut [u8; limits::PASSPHRASE_LIMIT],
     kept: Kept,
     store: &mut [u8],
-    payload: &[u8],
-    reading: Millis,
-    answers: Answers,
-    signature: &[u8],
+    asked: Asked<'_>,
     reply: &mut [u8],
 ) -> Landed
-    ensures { Meets (held (columns numbers.old readings.old blob_lens.old fields_lens.old comment_lens.old seconds.old limited.old confirm.old) passphrase.old kept) store.old payload.now reading answers signature.now reply.old result.outcome (held (columns numbers.new readings.new blob_lens.new fields_lens.new comment_lens.new seconds.new limited.new confirm.new) passphrase.new result.kept) store.new reply.new }
+    ensures { Meets (held t.old passphrase.old kept) store.old asked.entry.payload.now asked.entry.reading asked.entry.answers asked.entry.signature.now reply.old result.outcome (held t.new passphrase.new result.kept) store.new reply.new }
 {
     if reply.len() < limits::REPLY_ROOM {
         return refused(1, kept);
@@ -238,37 +123,8 @@ pub fn call_lent(
     if store.len() != limits::STORE_SIZE {
         return refused(2, kept);
     }
-    if !is_sound(
-        numbers,
-        readings,
-        blob_lens,
-        fields_lens,
-        comment_lens,
-        seconds,
-        limited,
-        confirm,
-        passphrase,
-        kept,
-        store,
-    ) {
+    if !is_sound(t.show(), passphrase, kept, store) {
         return refused(3, kept);
     }
-    inner_lent(
-        numbers,
-        readings,
-        blob_lens,
-        fields_lens,
-        comment_lens,
-        seconds,
-        limited,
-        confirm,
-        passphrase,
-        kept,
-        store,
-        payload,
-        reading,
-        answers,
-        signature,
-        reply,
-    )
+    inner_lent(t, passphrase, kept, store, asked, reply)
 }

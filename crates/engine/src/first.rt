@@ -1,15 +1,15 @@
 // Derived from keys/agent/server.rs of russh 0.65.0 (Apache-2.0), and changed: see NOTICE.
 // The first call of a request over lent columns: the splitter, and once a frame is whole the call on its payload with nothing lent.
-ghost use Rattle.table.specs.Entries.{columns};
 ghost use Rattle.table.specs.Meaning.{held};
 ghost use Rattle.table.specs.Soundness.{Sound};
 ghost use Rattle.server.specs.First.{FirstMeets};
 ghost use Rattle.server.specs.Inner.{InnerFirstMeets};
 
 use crate::call::{call_lent, inner_lent};
+use requests::Asked;
 use rule::Millis;
 use server::first::{First, first_in, nothing_lent};
-use table::Kept;
+use table::{Columns, Kept};
 use wire::frame::{Split, frame_payload, read_frame};
 use wire::limits;
 use wire::read::cut;
@@ -23,14 +23,7 @@ pub struct Heard {
 
 // What the bytes that no request has used come to, over the lent arrays of a state; state, store and reply buffer as `first_of` says.
 pub fn first_lent(
-    numbers: &mut [u64; limits::ENTRIES_LIMIT],
-    readings: &mut [u64; limits::ENTRIES_LIMIT],
-    blob_lens: &mut [usize; limits::ENTRIES_LIMIT],
-    fields_lens: &mut [usize; limits::ENTRIES_LIMIT],
-    comment_lens: &mut [usize; limits::ENTRIES_LIMIT],
-    seconds: &mut [u32; limits::ENTRIES_LIMIT],
-    limited: &mut [u8; limits::ENTRIES_LIMIT],
-    confirm: &mut [u8; limits::ENTRIES_LIMIT],
+    t: &mut Columns,
     passphrase: &mut [u8; limits::PASSPHRASE_LIMIT],
     kept: Kept,
     store: &mut [u8],
@@ -38,7 +31,7 @@ pub fn first_lent(
     reading: Millis,
     reply: &mut [u8],
 ) -> Heard
-    ensures { FirstMeets (held (columns numbers.old readings.old blob_lens.old fields_lens.old comment_lens.old seconds.old limited.old confirm.old) passphrase.old kept) store.old bytes.now reading reply.old result.first (held (columns numbers.new readings.new blob_lens.new fields_lens.new comment_lens.new seconds.new limited.new confirm.new) passphrase.new result.kept) store.new reply.new }
+    ensures { FirstMeets (held t.old passphrase.old kept) store.old bytes.now reading reply.old result.first (held t.new passphrase.new result.kept) store.new reply.new }
 {
     match read_frame(bytes) {
         Split::MoreNeeded => Heard {
@@ -50,47 +43,25 @@ pub fn first_lent(
             kept,
         },
         Split::Frame { from: _, to } => {
-            let payload = frame_payload(bytes);
-            let signature = cut(bytes, 0, 0);
-            let landed = call_lent(
-                numbers,
-                readings,
-                blob_lens,
-                fields_lens,
-                comment_lens,
-                seconds,
-                limited,
-                confirm,
-                passphrase,
-                kept,
-                store,
-                payload,
+            let asked = Asked {
+                payload: frame_payload(bytes),
                 reading,
-                nothing_lent(),
-                signature,
-                reply,
-            );
-            let outcome = landed.outcome;
-            let after = landed.kept;
+                answers: nothing_lent(),
+                signature: cut(bytes, 0, 0),
+            };
+            let landed = call_lent(t, passphrase, kept, store, asked, reply);
             Heard {
-                first: first_in(to, outcome),
-                kept: after,
+                first: first_in(to, landed.outcome),
+                kept: landed.kept,
             }
         }
     }
 }
 
 // The same on the inner path (#113), over the lent arrays of a sound state. Its `requires` is met by the Rust crate's Gateway, whose state
-// only ever comes from the core.
+// only ever comes from the core. One function over either call would have to say what that call requires and ensures of six arguments.
 pub fn inner_first_lent(
-    numbers: &mut [u64; limits::ENTRIES_LIMIT],
-    readings: &mut [u64; limits::ENTRIES_LIMIT],
-    blob_lens: &mut [usize; limits::ENTRIES_LIMIT],
-    fields_lens: &mut [usize; limits::ENTRIES_LIMIT],
-    comment_lens: &mut [usize; limits::ENTRIES_LIMIT],
-    seconds: &mut [u32; limits::ENTRIES_LIMIT],
-    limited: &mut [u8; limits::ENTRIES_LIMIT],
-    confirm: &mut [u8; limits::ENTRIES_LIMIT],
+    t: &mut Columns,
     passphrase: &mut [u8; limits::PASSPHRASE_LIMIT],
     kept: Kept,
     store: &mut [u8],
@@ -98,8 +69,8 @@ pub fn inner_first_lent(
     reading: Millis,
     reply: &mut [u8],
 ) -> Heard
-    requires { Sound (held (columns numbers.old readings.old blob_lens.old fields_lens.old comment_lens.old seconds.old limited.old confirm.old) passphrase.old kept) store.old }
-    ensures { InnerFirstMeets (held (columns numbers.old readings.old blob_lens.old fields_lens.old comment_lens.old seconds.old limited.old confirm.old) passphrase.old kept) store.old bytes.now reading reply.old result.first (held (columns numbers.new readings.new blob_lens.new fields_lens.new comment_lens.new seconds.new limited.new confirm.new) passphrase.new result.kept) store.new reply.new }
+    requires { Sound (held t.old passphrase.old kept) store.old }
+    ensures { InnerFirstMeets (held t.old passphrase.old kept) store.old bytes.now reading reply.old result.first (held t.new passphrase.new result.kept) store.new reply.new }
 {
     match read_frame(bytes) {
         Split::MoreNeeded => Heard {
@@ -111,31 +82,16 @@ pub fn inner_first_lent(
             kept,
         },
         Split::Frame { from: _, to } => {
-            let payload = frame_payload(bytes);
-            let signature = cut(bytes, 0, 0);
-            let landed = inner_lent(
-                numbers,
-                readings,
-                blob_lens,
-                fields_lens,
-                comment_lens,
-                seconds,
-                limited,
-                confirm,
-                passphrase,
-                kept,
-                store,
-                payload,
+            let asked = Asked {
+                payload: frame_payload(bytes),
                 reading,
-                nothing_lent(),
-                signature,
-                reply,
-            );
-            let outcome = landed.outcome;
-            let after = landed.kept;
+                answers: nothing_lent(),
+                signature: cut(bytes, 0, 0),
+            };
+            let landed = inner_lent(t, passphrase, kept, store, asked, reply);
             Heard {
-                first: first_in(to, outcome),
-                kept: after,
+                first: first_in(to, landed.outcome),
+                kept: landed.kept,
             }
         }
     }

@@ -5,33 +5,14 @@ mod agree;
 mod judge;
 mod parts;
 
-ghost use Rattle.std.specs.Prelude.{◌≡◌, length};
-
 use judge::judge;
 use report::input::read_full;
-use report::sections::{Step, first, next};
+use report::sections::records;
 use std::io;
-use wire::read::{Cursor, cut};
 
-fn space() -> [u8; 524288]
-    ensures { 524288 ≡ length result }
-{
+// A function of its own, so that no proof writes out so many bytes.
+fn space() -> [u8; 524288] {
     [0; 524288]
-}
-
-// A record takes up a byte or more, so there are no more of them than bytes.
-fn records(rt: &impl Print, s: &[u8]) -> io::Result<()> {
-    let mut step = first(rt, s, Cursor { at: 0 })?;
-    let mut left = s.len();
-    while left > 0 {
-        let Step::Record(x) = step else {
-            return Ok(());
-        };
-        let ran = judge(s, x.next, x.kind, cut(s, x.base.from, x.base.to));
-        step = next(rt, s, x, ran)?;
-        left -= 1;
-    }
-    Ok(())
 }
 
 fn main(rt: HostRuntime) -> io::Result<()> {
@@ -40,5 +21,6 @@ fn main(rt: HostRuntime) -> io::Result<()> {
     if n == input.len() {
         return println!(rt; "the input is too long");
     }
-    records(&rt, &input[..n])
+    let s = &input[..n];
+    records(&rt, s, |x| judge(s, x.next, x.kind, x.base.of(s)))
 }

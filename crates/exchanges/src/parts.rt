@@ -1,6 +1,7 @@
-// What the records of this program are read as.
-use report::parts::{Flag, Place, Span, read_flag, read_place};
-use wire::read::{Cursor, Number, Octet, Part};
+// What the records of this program are read as: a value and the place behind it, or none where it is malformed.
+use readers::identities::Blob;
+use report::parts::{read_flag, read_place};
+use wire::read::{Cursor, Span};
 use wire::{Constraint, Seconds};
 
 // Bytes, and as many letters behind them.
@@ -19,218 +20,120 @@ pub struct Request {
     pub flags: u32,
 }
 
-// The number of a refusal, 0 where there is none, and the place of its fault, 0 where it has none.
-#[derive(Clone, Copy)]
+// The number of a refusal, and the place of its fault, 0 where it has none. No `Refusal`: a record may say what none has, and is then to differ.
+#[derive(Clone, Copy, PartialEq, Eq)]
 pub struct Why {
     pub number: u8,
     pub place: usize,
 }
 
-// What a writer is to do: its refusal, and what it writes.
+// The room that a writer is lent, and what it is to do: its refusal, or what it writes.
 #[derive(Clone, Copy)]
 pub struct Writing {
-    pub refusal: Why,
+    pub room: usize,
+    pub refusal: Option<Why>,
     pub front: Piece,
     pub tail: Span,
 }
 
+// What is expected of an item: its refusal, or its blob.
 #[derive(Clone, Copy)]
-pub enum Pieced {
-    Value(Piece, Cursor),
-    Malformed,
-}
-
-#[derive(Clone, Copy)]
-pub enum Requested {
-    Value(Request, Cursor),
-    Malformed,
-}
-
-#[derive(Clone, Copy)]
-pub enum Limit {
-    Value(Constraint, Cursor),
-    Malformed,
-}
-
-// The room that a writer is lent, and what it is to do.
-#[derive(Clone, Copy)]
-pub enum Wanted {
-    Of {
-        room: usize,
-        writing: Writing,
-        next: Cursor,
-    },
-    Malformed,
+pub struct Entry {
+    pub refusal: Option<Why>,
+    pub blob: Blob,
 }
 
 // What is expected of a list, and of the item with an index.
 #[derive(Clone, Copy)]
-pub enum Items {
-    Of {
-        refusal: Why,
-        count: usize,
-        index: usize,
-        item: Entry,
-        next: Cursor,
-    },
-    Malformed,
+pub struct Items {
+    pub refusal: Option<Why>,
+    pub count: usize,
+    pub index: usize,
+    pub item: Entry,
 }
 
-#[derive(Clone, Copy)]
-pub struct Entry {
-    pub refusal: Why,
-    pub from: usize,
-    pub to: usize,
-    pub certificate: bool,
+pub(crate) fn read_piece(s: &[u8], c: Cursor) -> Option<(Piece, Cursor)> {
+    let bytes = c.string(s).ok()?;
+    let (letters, next) = read_place(s, bytes.next)?;
+    let piece = Piece {
+        bytes: Span::from(bytes),
+        letters,
+    };
+    Some((piece, next))
 }
 
-#[derive(Clone, Copy)]
-enum Reason {
-    Value(Why, Cursor),
-    Malformed,
-}
-
-#[derive(Clone, Copy)]
-enum Entered {
-    Value(Entry, Cursor),
-    Malformed,
-}
-
-pub(crate) fn read_piece(s: &[u8], c: Cursor) -> Pieced {
-    let Part::Whole { from, to, next } = c.string(s) else {
-        return Pieced::Malformed;
+pub(crate) fn read_request(s: &[u8], c: Cursor) -> Option<(Request, Cursor)> {
+    let (message, a) = c.byte(s).ok()?;
+    let (first, b) = read_piece(s, a)?;
+    let (second, d) = read_piece(s, b)?;
+    let (flags, next) = d.number(s).ok()?;
+    let request = Request {
+        message,
+        first,
+        second,
+        flags,
     };
-    let Place::Value(letters, after) = read_place(s, next) else {
-        return Pieced::Malformed;
-    };
-    Pieced::Value(
-        Piece {
-            bytes: Span { from, to },
-            letters,
-        },
-        after,
-    )
-}
-
-pub(crate) fn read_request(s: &[u8], c: Cursor) -> Requested {
-    let Octet::Value(message, a) = c.byte(s) else {
-        return Requested::Malformed;
-    };
-    let Pieced::Value(first, b) = read_piece(s, a) else {
-        return Requested::Malformed;
-    };
-    let Pieced::Value(second, d) = read_piece(s, b) else {
-        return Requested::Malformed;
-    };
-    let Number::Value(flags, next) = d.number(s) else {
-        return Requested::Malformed;
-    };
-    Requested::Value(
-        Request {
-            message,
-            first,
-            second,
-            flags,
-        },
-        next,
-    )
+    Some((request, next))
 }
 
 // Whether there is a lifetime, and its seconds.
-pub(crate) fn read_limit(s: &[u8], c: Cursor) -> Limit {
-    let Flag::Value(limited, a) = read_flag(s, c) else {
-        return Limit::Malformed;
-    };
-    let Number::Value(count, next) = a.number(s) else {
-        return Limit::Malformed;
-    };
-    if limited {
-        return Limit::Value(
-            Constraint::KeyLifetime {
-                seconds: Seconds { count },
-            },
-            next,
-        );
+pub(crate) fn read_limit(s: &[u8], c: Cursor) -> Option<(Constraint, Cursor)> {
+    let (limited, a) = read_flag(s, c)?;
+    let (count, next) = a.number(s).ok()?;
+    if !limited {
+        return Some((Constraint::Confirm, next));
     }
-    Limit::Value(Constraint::Confirm, next)
+    let seconds = Seconds { count };
+    Some((Constraint::KeyLifetime { seconds }, next))
 }
 
-fn read_reason(s: &[u8], c: Cursor) -> Reason {
-    let Octet::Value(number, a) = c.byte(s) else {
-        return Reason::Malformed;
-    };
-    let Place::Value(place, next) = read_place(s, a) else {
-        return Reason::Malformed;
-    };
-    Reason::Value(Why { number, place }, next)
+// A number of 0 is no refusal.
+fn read_reason(s: &[u8], c: Cursor) -> Option<(Option<Why>, Cursor)> {
+    let (number, a) = c.byte(s).ok()?;
+    let (place, next) = read_place(s, a)?;
+    if number == 0 {
+        return Some((None, next));
+    }
+    Some((Some(Why { number, place }), next))
 }
 
-pub(crate) fn read_wanted(s: &[u8], c: Cursor) -> Wanted {
-    let Place::Value(room, a) = read_place(s, c) else {
-        return Wanted::Malformed;
-    };
-    let Reason::Value(refusal, b) = read_reason(s, a) else {
-        return Wanted::Malformed;
-    };
-    let Pieced::Value(front, d) = read_piece(s, b) else {
-        return Wanted::Malformed;
-    };
-    let Part::Whole { from, to, next } = d.string(s) else {
-        return Wanted::Malformed;
-    };
-    Wanted::Of {
+pub(crate) fn read_writing(s: &[u8], c: Cursor) -> Option<(Writing, Cursor)> {
+    let (room, a) = read_place(s, c)?;
+    let (refusal, b) = read_reason(s, a)?;
+    let (front, d) = read_piece(s, b)?;
+    let tail = d.string(s).ok()?;
+    let writing = Writing {
         room,
-        writing: Writing {
-            refusal,
-            front,
-            tail: Span { from, to },
-        },
-        next,
-    }
+        refusal,
+        front,
+        tail: Span::from(tail),
+    };
+    Some((writing, tail.next))
 }
 
-fn read_entry(s: &[u8], c: Cursor) -> Entered {
-    let Reason::Value(refusal, a) = read_reason(s, c) else {
-        return Entered::Malformed;
+fn read_entry(s: &[u8], c: Cursor) -> Option<(Entry, Cursor)> {
+    let (refusal, a) = read_reason(s, c)?;
+    let (from, b) = read_place(s, a)?;
+    let (to, d) = read_place(s, b)?;
+    let (certificate, next) = read_flag(s, d)?;
+    let blob = Blob {
+        from,
+        to,
+        certificate,
     };
-    let Place::Value(from, b) = read_place(s, a) else {
-        return Entered::Malformed;
-    };
-    let Place::Value(to, d) = read_place(s, b) else {
-        return Entered::Malformed;
-    };
-    let Flag::Value(certificate, next) = read_flag(s, d) else {
-        return Entered::Malformed;
-    };
-    Entered::Value(
-        Entry {
-            refusal,
-            from,
-            to,
-            certificate,
-        },
-        next,
-    )
+    Some((Entry { refusal, blob }, next))
 }
 
-pub(crate) fn read_items(s: &[u8], c: Cursor) -> Items {
-    let Reason::Value(refusal, a) = read_reason(s, c) else {
-        return Items::Malformed;
-    };
-    let Place::Value(count, b) = read_place(s, a) else {
-        return Items::Malformed;
-    };
-    let Place::Value(index, d) = read_place(s, b) else {
-        return Items::Malformed;
-    };
-    let Entered::Value(item, next) = read_entry(s, d) else {
-        return Items::Malformed;
-    };
-    Items::Of {
+pub(crate) fn read_items(s: &[u8], c: Cursor) -> Option<(Items, Cursor)> {
+    let (refusal, a) = read_reason(s, c)?;
+    let (count, b) = read_place(s, a)?;
+    let (index, d) = read_place(s, b)?;
+    let (item, next) = read_entry(s, d)?;
+    let items = Items {
         refusal,
         count,
         index,
         item,
-        next,
-    }
+    };
+    Some((items, next))
 }

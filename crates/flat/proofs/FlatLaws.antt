@@ -1,7 +1,7 @@
 -- The flat values say what they stand for: answers, outcomes, the split and first calls case by case. Assumes nothing.
 use Prim.Native.Nat.{ℕ, ◌≤◌, ◌<◌}
 use mathlib.Core.Path.{◌≡◌, refl, sym, ap, ◌∙◌}
-use mathlib.Core.Bool.{true, false}
+use mathlib.Core.Bool.{Bool, true, false}
 use mathlib.Core.List.{List, ◌∷◌}
 use mathlib.Core.Logic.{◌⊎◌, inl, inr}
 use native.Mathlib.Omega.{arith}
@@ -12,8 +12,8 @@ use Rattle.wire.proofs.Format.{part_length}
 use Rattle.wire.proofs.FrameLaws.{frame_read}
 use Rattle.requests.specs.declared.Said.{Said}
 use Rattle.requests.specs.declared.Said.TheVariants as said
-use Rattle.requests.specs.declared.Confirmed.{Confirmed}
-use Rattle.requests.specs.declared.Confirmed.TheVariants as confirmed
+use Rattle.requests.specs.declared.Confirmation.{Confirmation}
+use Rattle.std.specs.Prelude.{Option, Some, None}
 use Rattle.requests.specs.declared.Signed.{Signed}
 use Rattle.requests.specs.declared.Signed.TheVariants as signed
 use Rattle.requests.specs.declared.Outcome.TheVariants.{Refused, Gate, Check, Confirm, Sign, Reply, Close}
@@ -21,7 +21,7 @@ use Rattle.requests.proofs.OutcomeLaws.{outcomes_apart}
 use Rattle.server.specs.declared.first.First.TheVariants as first
 use Rattle.server.proofs.FirstLaws.{firsts_apart}
 use Rattle.flat.specs.Flat.{said_of, confirmed_of, signed_of, answers_of, flat_of, flat_split, split_as, flat_first}
-use Rattle.flat.specs.Promises.{OthersMissing, said_number, confirmed_number, confirmed_for, signed_number, signed_for, EveryAnswer, flat_values, SameValues, FlatApart, FlatUnused, SplitsAs, SplitRule, flat_first_values, SameFirstValues, FlatFirstApart, FlatFirstUnused}
+use Rattle.flat.specs.Promises.{grant_number, OthersMissing, said_number, confirmed_number, confirmed_for, signed_number, signed_for, EveryAnswer, flat_values, SameValues, FlatApart, FlatUnused, SplitsAs, SplitRule, flat_first_values, SameFirstValues, FlatFirstApart, FlatFirstUnused}
 use Rattle.flat.proofs.FlatSteps.{told-nothing}
 
 -- ## Answers
@@ -40,11 +40,14 @@ said_back said.Missing = refl
 said_back said.No = refl
 said_back said.Yes = refl
 
-confirmed_back : (x : Confirmed) → confirmed_of (confirmed_number x) (confirmed_for x) ≡ x
+confirmed_back : (x : Option Confirmation) → confirmed_of (confirmed_number x) (confirmed_for x) ≡ x
 unfolding confirmed_of
-confirmed_back confirmed.Missing = refl
-confirmed_back (confirmed.Given n true) = refl
-confirmed_back (confirmed.Given n false) = refl
+confirmed_back None = refl
+confirmed_back (Some c) = back c.granted refl
+  where
+    back : (b : Bool) → c.granted ≡ b → confirmed_of (grant_number c.granted) c.number ≡ Some c
+    back true e = rw e refl
+    back false e = rw e refl
 
 signed_back : (x : Signed) → signed_of (signed_number x) (signed_for x) ≡ x
 unfolding signed_of

@@ -1,12 +1,11 @@
 -- What the flat values stand for: 01's numbers and values in the place of each enum.
-use Rattle.std.specs.Prelude.{ℕ, true, false, cond, List, eqb}
+use Rattle.std.specs.Prelude.{Option, Some, None, ℕ, true, false, cond, List, eqb}
 use Rattle.wire.specs.declared.frame.Split.{Split}
 use Rattle.wire.specs.declared.frame.Split.TheVariants.{MoreNeeded, TooLong, Frame}
 use Rattle.wire.specs.Frames.{split_of}
 use Rattle.requests.specs.declared.Said.{Said}
 use Rattle.requests.specs.declared.Said.TheVariants as said
-use Rattle.requests.specs.declared.Confirmed.{Confirmed}
-use Rattle.requests.specs.declared.Confirmed.TheVariants as confirmed
+use Rattle.requests.specs.declared.Confirmation.{Confirmation}
 use Rattle.requests.specs.declared.Signed.{Signed}
 use Rattle.requests.specs.declared.Signed.TheVariants as signed
 use Rattle.requests.specs.declared.Answers.{Answers}
@@ -29,8 +28,8 @@ told n denied granted missing = cond (eqb n 1) denied (cond (eqb n 2) granted mi
 unfoldable pub said_of : ℕ → Said
 said_of n = told n said.No said.Yes said.Missing
 
-unfoldable pub confirmed_of : ℕ → ℕ → Confirmed
-confirmed_of n number = told n (confirmed.Given number false) (confirmed.Given number true) confirmed.Missing
+unfoldable pub confirmed_of : ℕ → ℕ → Option Confirmation
+confirmed_of n number = told n (Some (record { number = number; granted = false })) (Some (record { number = number; granted = true })) None
 
 unfoldable pub signed_of : ℕ → ℕ → Signed
 signed_of n number = told n (signed.Nothing number) (signed.Given number) signed.Missing

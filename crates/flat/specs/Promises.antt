@@ -1,12 +1,11 @@
 -- What the flat values promise, as statements; the proofs are in proofs/FlatLaws.antt.
-use Rattle.std.specs.Prelude.{ℕ, ◌+◌, ◌≤◌, ◌≡◌, ◌⊎◌, ◌≢◌, Bool, true, false, cond, List, [], ◌∷◌, length, eqb}
+use Rattle.std.specs.Prelude.{Option, Some, None, ℕ, ◌+◌, ◌≤◌, ◌≡◌, ◌⊎◌, ◌≢◌, Bool, true, false, cond, List, [], ◌∷◌, length, eqb}
 use Rattle.wire.specs.Read.{cut_of}
 use Rattle.wire.specs.Frames.{split_of, split_number, frame_payload}
 use Rattle.wire.specs.Promises.{OneToOne}
 use Rattle.requests.specs.declared.Said.{Said}
 use Rattle.requests.specs.declared.Said.TheVariants as said
-use Rattle.requests.specs.declared.Confirmed.{Confirmed}
-use Rattle.requests.specs.declared.Confirmed.TheVariants as confirmed
+use Rattle.requests.specs.declared.Confirmation.{Confirmation}
 use Rattle.requests.specs.declared.Signed.{Signed}
 use Rattle.requests.specs.declared.Signed.TheVariants as signed
 use Rattle.requests.specs.declared.Answers.{Answers}
@@ -28,7 +27,7 @@ pub record Unspoken (n : ℕ) : Type 0 where
 -- whatever stands outside in the place of an answer, only 1 and 2 are one
 pub record OthersMissing : Type 0 where
   pub gate_and_check : (n : ℕ) → Unspoken n → said_of n ≡ said.Missing
-  pub confirmation : (n number : ℕ) → Unspoken n → confirmed_of n number ≡ confirmed.Missing
+  pub confirmation : (n number : ℕ) → Unspoken n → confirmed_of n number ≡ None
   pub signature : (n number : ℕ) → Unspoken n → signed_of n number ≡ signed.Missing
 
 abbrev pub said_number : Said → ℕ
@@ -40,13 +39,13 @@ abbrev pub grant_number : Bool → ℕ
 grant_number false = 1
 grant_number true = 2
 
-abbrev pub confirmed_number : Confirmed → ℕ
-confirmed_number confirmed.Missing = 0
-confirmed_number (confirmed.Given n granted) = grant_number granted
+abbrev pub confirmed_number : Option Confirmation → ℕ
+confirmed_number None = 0
+confirmed_number (Some c) = grant_number c.granted
 
-abbrev pub confirmed_for : Confirmed → ℕ
-confirmed_for confirmed.Missing = 0
-confirmed_for (confirmed.Given n granted) = n
+abbrev pub confirmed_for : Option Confirmation → ℕ
+confirmed_for None = 0
+confirmed_for (Some c) = c.number
 
 abbrev pub signed_number : Signed → ℕ
 signed_number signed.Missing = 0

@@ -6,7 +6,7 @@ ghost use Rattle.std.specs.Prelude.{◌≡◌};
 ghost use Rattle.requests.specs.Outcomes.{hash_bits};
 ghost use Rattle.flat.specs.Flat.{said_of, confirmed_of, signed_of, answers_of, flat_of, flat_split, unbegun_first, flat_first};
 
-use requests::{Answers, Confirmed, Outcome, Said, Signed};
+use requests::{Answers, Confirmation, Outcome, Said, Signed};
 use rule::Hash;
 use server::first::First;
 use wire::frame::{Split, read_frame};
@@ -53,6 +53,7 @@ pub struct FlatFirst {
     pub outcome: FlatOutcome,
 }
 
+#[tactic(auto, unfolding(crate::specs::Flat::said_of))]
 fn said_of(word: u8) -> Said
     ensures { result ≡ said_of word }
 {
@@ -63,22 +64,24 @@ fn said_of(word: u8) -> Said
     }
 }
 
-fn confirmed_of(word: u8, number: u64) -> Confirmed
+#[tactic(auto, unfolding(crate::specs::Flat::confirmed_of))]
+fn confirmed_of(word: u8, number: u64) -> Option<Confirmation>
     ensures { result ≡ confirmed_of word number }
 {
     match word {
-        1 => Confirmed::Given {
+        1 => Some(Confirmation {
             number,
             granted: false,
-        },
-        2 => Confirmed::Given {
+        }),
+        2 => Some(Confirmation {
             number,
             granted: true,
-        },
-        _ => Confirmed::Missing,
+        }),
+        _ => None,
     }
 }
 
+#[tactic(auto, unfolding(crate::specs::Flat::signed_of))]
 fn signed_of(word: u8, number: u64) -> Signed
     ensures { result ≡ signed_of word number }
 {
@@ -89,6 +92,7 @@ fn signed_of(word: u8, number: u64) -> Signed
     }
 }
 
+#[tactic(auto, unfolding(crate::specs::Flat::answers_of))]
 pub fn answers_of(flat: FlatAnswers) -> Answers
     ensures { result ≡ answers_of flat }
 {
@@ -134,6 +138,7 @@ fn part(kind: u8, from: usize, to: usize) -> FlatOutcome
     }
 }
 
+#[tactic(auto, unfolding(crate::specs::Flat::flat_of))]
 pub fn flat_of(outcome: Outcome) -> FlatOutcome
     ensures { result ≡ flat_of outcome }
 {
@@ -159,6 +164,7 @@ pub fn flat_of(outcome: Outcome) -> FlatOutcome
     }
 }
 
+#[tactic(auto, unfolding(crate::specs::Flat::flat_split, crate::specs::Flat::split_as))]
 pub fn split(bytes: &[u8]) -> FlatSplit
     ensures { result ≡ flat_split bytes.now }
 {
@@ -187,6 +193,7 @@ fn unbegun(kind: u8, number: u64) -> FlatFirst
     }
 }
 
+#[tactic(auto, unfolding(crate::specs::Flat::flat_first))]
 pub fn first_of(first: First) -> FlatFirst
     ensures { result ≡ flat_first first }
 {

@@ -1,13 +1,15 @@
--- Laws of the loops that close gaps: bytes that move down, one turn of each loop, the zeroed end.
+-- Laws of the loops that close gaps: bytes that move, one turn of each loop, the zeroed end.
 use Prim.Native.Nat.{ℕ, suc, ◌+◌, ◌-◌, ◌≤◌, ◌<◌}
 use native.Mathlib.Omega.{arith}
+use Rattle.std.proofs.lemmas.List.{length-replicate}
+use Rattle.std.proofs.lemmas.List.Edits.{fill_from_more, paste_all}
 use native.Mathlib.Numerals.{add-one}
-use mathlib.Core.Path.{◌≡◌, refl, sym, ap, ◌∙◌}
+use mathlib.Core.Path.{◌≡◌, refl, sym, ap, subst, ◌∙◌}
 use mathlib.Core.Bool.{Bool, true, false, cond}
 use mathlib.Core.List.{List, [], ◌∷◌, ◌++◌, append-nil, append_assoc}
 use borrow.Rule.Slice.PartMut.{mid_of, put_mid, mid_len, Post-is}
 use lib.ListN.{length, take, drop, get_or, set, replicate, length-drop, drop_of_length-le, take-append-drop, replicate-append-replicate}
-use lib.Seq.{length-take-le, drop-cons, drop-drop, drop-length, take-add, take-set-le, drop-set-lt, take-suc-set, append_snoc, get_or-drop, paste, paste-suc, take-paste, drop-paste, length-paste}
+use lib.Seq.{length-take-le, drop-cons, drop-drop, drop-length, take-add, take-set-le, drop-set-lt, take-suc-set, append_snoc, paste, take-paste, drop-paste, length-paste}
 use Rattle.wire.specs.Limits.{entries_limit}
 use Rattle.wire.specs.Write.{write}
 use Rattle.table.specs.Bytes.{Zeros, padded}
@@ -18,33 +20,16 @@ use Rattle.table.specs.Meaning.{is_set, flag_of, limited_lifetime}
 use Rattle.table.specs.Changes.{unmarked, unmarked_parts, sizes_in, closed, closed_parts, due_marks}
 use Rattle.table.proofs.EntryLaws.{up_length, up_at, start-step, start_none, start-mono}
 
--- ## Bytes that move down
+-- ## Bytes that move
 
 -- lists that are the same from m on are so from k on
 pub drop-beyond : (y x : List ℕ) (m k : ℕ) → m ≤ k → drop m y ≡ drop m x → drop k y ≡ drop k x
 drop-beyond y x m k h e = let at : k ≡ m + (k - m) = omega arith in rw at (sym (drop-drop (k - m) m y) ∙ ap (drop (k - m)) e ∙ drop-drop (k - m) m x)
 
--- what lies ahead of the bytes that were moved is as it was
-read_ahead : (x s : List ℕ) (from to k : ℕ) → to ≤ from → to + k ≤ length x → k ≤ length s → get_or (paste x to s k) (from + k) 0 ≡ get_or x (from + k) 0
-read_ahead x s from to k h l m =
-    let at : from + k ≡ to + k + (from - to) = omega arith in
-    rw at (sym (get_or-drop (to + k) (paste x to s k) (from - to) 0) ∙ ap (λ (r : List ℕ). get_or r (from - to) 0) (drop-paste x to s k (omega arith) m) ∙ get_or-drop (to + k) x (from - to) 0)
-
-pub down_step : (x p : List ℕ) (from to k : ℕ) → to ≤ from → from + k < length x → p ≡ paste x to (drop from x) k
-    → set p (to + k) (get_or p (from + k) 0) ≡ paste x to (drop from x) (k + 1)
-down_step x p from to k h l e =
-    let s = drop from x in
-    let long : k < length s = rw length-drop (omega arith) in
-    let read : get_or p (from + k) 0 ≡ get_or s k 0 = rw e (read_ahead x s from to k h (omega arith) (omega arith) ∙ sym (get_or-drop from x k 0)) in
-    rw (add-one, read, e) (paste-suc x to s k 0 (omega arith) long)
-
 -- as many bytes as there are, written elsewhere
 pub write-paste : (x s : List ℕ) (to n : ℕ) → n ≤ length s → write x to (take n s) ≡ paste x to s n
 unfolding write
 write-paste x s to n l = rw (length-take-le n s l)
-
-pub moved_end : (x s : List ℕ) (to k n : ℕ) → k ≤ n → n ≤ k → n ≤ length s → paste x to s k ≡ write x to (take n s)
-moved_end x s to k n h m l = let is : k ≡ n = omega arith in rw is (sym (write-paste x s to n l))
 
 -- bytes that lie there already
 pub stays : (x : List ℕ) (from to n : ℕ) → from ≤ to → to ≤ from → from + n ≤ length x → x ≡ write x to (take n (drop from x))
@@ -72,18 +57,31 @@ wiped_end to x p h e = wiped_behind to (length x) x p h (omega arith) (rw drop-l
 
 -- ## A column
 
+pub filled-more : {A : Type 0} (d : List A) (v : A) (i : ℕ) → i < length d → set (paste d 0 (replicate i v) i) i v ≡ paste d 0 (replicate (i + 1) v) (i + 1)
+filled-more d v i h =
+    let at : 0 + i ≡ i = omega arith in
+    subst (λ (k : ℕ). set (paste d 0 (replicate i v) i) k v ≡ paste d 0 (replicate (i + 1) v) (i + 1)) at (fill_from_more d 0 i v (omega arith))
+
+pub filled-all : {A : Type 0} (d : List A) (v : A) (i : ℕ) → i ≡ length d → paste d 0 (replicate i v) i ≡ replicate (length d) v
+filled-all d v i e =
+    let end : length d ≤ 0 + i = omega arith in
+    paste_all d 0 (replicate i v) i (sym (length-replicate i v)) ∙ rw (drop_of_length-le d end, append-nil, e) refl
+
 -- what stays of the part that was passed, and of the part that is left
-abbrev pub closing : List ℕ → ℕ → ℕ → List ℕ → List ℕ
+abbrev pub closing : {A : Type 0} → List ℕ → ℕ → ℕ → List A → List A
 closing marks i to x = take to x ++ unmarked (drop i marks) (drop i x)
 
-module _ (marks x : List ℕ) (i to : ℕ) (h : to ≤ i) (l : i < length x) where
-  by_mark : (b : Bool) (rest : List ℕ) → take (to + cond b 0 1) (set x to (get_or x i 0)) ++ rest ≡ take to x ++ cond b rest (get_or x i 0 ∷ rest)
-  by_mark true rest = let is : to + 0 ≡ to = omega arith in rw (is, take-set-le to x to (get_or x i 0) (omega arith))
-  by_mark false rest = rw (add-one to, take-suc-set x to (get_or x i 0) (omega arith)) (append_snoc (take to x) (get_or x i 0) rest)
+module _ {A : Type 0} (marks : List ℕ) (x : List A) (i to : ℕ) where
+  by_mark : (v : A) (b : Bool) (rest : List A) → to < length x → take (to + cond b 0 1) (set x to v) ++ rest ≡ take to x ++ cond b rest (v ∷ rest)
+  by_mark v true rest h = let is : to + 0 ≡ to = omega arith in rw (is, take-set-le to x to v (omega arith))
+  by_mark v false rest h = rw (add-one to, take-suc-set x to v h) (append_snoc (take to x) v rest)
 
-  pub close_step : i < length marks → closing marks (i + 1) (to + cond (is_set (get_or marks i 0)) 0 1) (set x to (get_or x i 0)) ≡ closing marks i to x
+  -- v is what stands at place i
+  pub close_step : (v d : A) → v ≡ get_or x i d → to ≤ i → i < length x → i < length marks
+      → closing marks (i + 1) (to + cond (is_set (get_or marks i 0)) 0 1) (set x to v) ≡ closing marks i to x
   unfolding unmarked
-  close_step m = rw (add-one i, drop-set-lt (suc i) x to (get_or x i 0) (omega arith), drop-cons marks i 0 m, drop-cons x i 0 l) (by_mark (is_set (get_or marks i 0)) _)
+  close_step v d is h l m =
+      rw (add-one i, drop-set-lt (suc i) x to v (omega arith), drop-cons marks i 0 m, drop-cons x i d l, ← is) (by_mark v (is_set (get_or marks i 0)) _ (omega arith))
 
 pub step-inside : (mark n : ℕ) → n ≡ cond (is_set mark) 0 1 → n ≤ 1
 step-inside mark n e = by_mark (is_set mark) e
@@ -92,13 +90,16 @@ step-inside mark n e = by_mark (is_set mark) e
     by_mark true e = omega arith
     by_mark false e = omega arith
 
--- .. which is all once the marks are passed
-pub close_end : (marks c x p : List ℕ) (i to : ℕ) → closing marks i to x ≡ unmarked marks c → length x ≡ length c → to ≤ length x → length marks ≤ i
-    → p ≡ replicate (length (mid_of to (length x - to) x)) 0 → put_mid to (length x - to) x p ≡ closed marks c
+-- .. which is all once the marks are passed, and the part from `to` on is filled
+pub close_end : {A : Type 0} (none : A) (marks : List ℕ) (c x p : List A) (i to : ℕ) → closing marks i to x ≡ unmarked marks c → length x ≡ length c → to ≤ length x → length marks ≤ i
+    → p ≡ replicate (length (mid_of to (length x - to) x)) none → put_mid to (length x - to) x p ≡ closed none marks c
 unfolding unmarked closed
-close_end marks c x p i to inv l h m e =
+close_end none marks c x p i to inv l h m e =
     let front : take to x ≡ unmarked marks c = sym (append-nil (take to x)) ∙ (rw (drop_of_length-le marks m) at inv) in
-    wiped_end to x p h e ∙ rw (l, front)
+    let size : length (mid_of to (length x - to) x) ≡ length x - to = mid_len to (length x) x (omega arith) in
+    let kept : length (take to x) ≡ to = length-take-le to x h in
+    let stays : length (unmarked marks c) ≡ to = ap length (sym front) ∙ kept in
+    rw (Post-is to (length x) x h, e, size, drop-length, append-nil, stays, ← l, front) refl
 
 -- ## The store
 

@@ -1,45 +1,17 @@
 -- Laws of the moves that make room for a key, and of the parts that fill it.
-use Prim.Native.Nat.{ℕ, zero, suc, ◌+◌, ◌-◌, ◌≤◌, ◌<◌}
+use Prim.Native.Nat.{ℕ, zero, suc, ◌+◌, ◌-◌, ◌≤◌}
 use native.Mathlib.Omega.{arith}
-use native.Mathlib.Numerals.{add-one}
 use mathlib.Core.Path.{◌≡◌, refl, sym, ap, ◌∙◌}
 use mathlib.Core.List.{List, [], ◌∷◌, ◌++◌, append_assoc}
 use borrow.Rule.Slice.PartMut.{mid_of, put_mid}
-use lib.ListN.{length, take, drop, get_or, set, replicate, length-drop, length-append, length-replicate, get_or-append, take-append-drop}
-use lib.Seq.{length-take-le, drop-cons, drop-drop, take-suc, take-nil, set_at, get_or-take, drop-length, take-paste, drop-paste, length-paste}
+use lib.ListN.{length, take, drop, replicate, length-drop, length-append, length-replicate}
+use lib.Seq.{drop-drop, take-nil, take-paste, drop-paste, length-paste}
 use Rattle.wire.specs.Write.{write}
 use Rattle.wire.proofs.Writing.{write-behind}
 use Rattle.table.specs.Bytes.{Zeros, padded}
 use Rattle.table.specs.Changes.{resized}
 use Rattle.table.proofs.ByteLaws.{zeros_padded}
 use Rattle.gaps.proofs.ClosingLaws.{drop-beyond, write-paste, wiped_behind}
-
--- ## Bytes that move up
-
--- the bytes of s from k on are written; those before them are as they were
-abbrev pub raised : List ℕ → ℕ → List ℕ → ℕ → List ℕ
-raised x to s k = take (to + k) x ++ (drop k s ++ drop (to + length s) x)
-
-pub up_begun : (x s : List ℕ) (to k : ℕ) → k ≡ length s → x ≡ raised x to s k
-up_begun x s to k e = rw (e, drop-length s) (sym (take-append-drop (to + length s) x))
-
-pub up_step : (x p s : List ℕ) (from to k : ℕ) → from ≤ to → k < length s → to + length s ≤ length x → get_or s k 0 ≡ get_or x (from + k) 0 → p ≡ raised x to s (k + 1)
-    → set p (to + k) (get_or p (from + k) 0) ≡ raised x to s k
-up_step x p s from to k h l room is e =
-    let rest = drop (to + length s) x in
-    let next : to + (k + 1) ≡ to + k + 1 = omega arith in
-    let front : length (take (to + k + 1) x) ≡ to + k + 1 = length-take-le (to + k + 1) x (omega arith) in
-    let read : get_or p (from + k) 0 ≡ get_or s k 0 = rw (e, next) (get_or-append (take (to + k + 1) x) (drop (k + 1) s ++ rest) 0 (from + k) (omega arith) ∙ get_or-take (to + k + 1) x (from + k) 0 (omega arith) ∙ sym is) in
-    let split : take (to + k + 1) x ≡ take (to + k) x ++ (get_or x (to + k) 0 ∷ []) = rw add-one (take-suc x (to + k) 0 (omega arith)) in
-    let was : p ≡ take (to + k) x ++ (get_or x (to + k) 0 ∷ (drop (suc k) s ++ rest)) = e ∙ rw (next, split, add-one k) (append_assoc (take (to + k) x) (get_or x (to + k) 0 ∷ []) (drop (suc k) s ++ rest)) in
-    rw (read, was) (set_at (take (to + k) x) (get_or x (to + k) 0) (drop (suc k) s ++ rest) (get_or s k 0) (to + k) (length-take-le (to + k) x (omega arith)) ∙ rw (drop-cons s k 0 l))
-
-pub up_end : (x s : List ℕ) (to k : ℕ) → k ≤ 0 → raised x to s k ≡ write x to s
-unfolding write
-up_end x s to k h =
-    let none : k ≡ 0 = omega arith in
-    let at : to + 0 ≡ to = omega arith in
-    rw (none, at) (sym (append_assoc (take to x) s (drop (to + length s) x)))
 
 -- ## Bytes that were moved, up or down
 

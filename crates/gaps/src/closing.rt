@@ -4,121 +4,57 @@ ghost use Rattle.std.specs.Prelude.{◌≡◌, cond, ◌+◌, ◌≤◌, length,
 ghost use Rattle.wire.specs.Limits.{entries_limit, store_size};
 ghost use Rattle.wire.specs.Write.{write};
 ghost use Rattle.table.specs.Bytes.{Zeros};
-ghost use Rattle.table.specs.Entries.{Long, columns, start_in};
+ghost use Rattle.table.specs.Entries.{start_in};
 ghost use Rattle.table.specs.Meaning.{is_set};
 ghost use Rattle.table.specs.Changes.{sizes_in, closed, closed_parts, closed_columns};
 
 use table::bytes::wipe;
-use table::is_set;
+use table::{Columns, is_set};
 use wire::limits;
 
 // How far the one that stays moves the next.
 fn step(mark: u8) -> usize
     ensures { result ≡ cond (is_set mark) 0 1 }
 {
-    if is_set(mark) {
-        return 0;
-    }
-    1
+    usize::from(!is_set(mark))
 }
 
-fn zero_numbers(column: &mut [u64])
-    ensures { column.new ≡ replicate (length column.old) 0 }
+// All places of the part hold this. (`fill` would ask for a clone that cannot fail.)
+fn fill<T: Copy>(part: &mut [T], value: T)
+    ensures { part.new ≡ replicate (length part.old) value }
 {
-    let mut i = 0;
-    while i < column.len() {
-        column[i] = 0;
-        i += 1;
+    for i in 0..part.len() {
+        part[i] = value;
     }
 }
 
-fn zero_lengths(column: &mut [usize])
-    ensures { column.new ≡ replicate (length column.old) 0 }
-{
-    let mut i = 0;
-    while i < column.len() {
-        column[i] = 0;
-        i += 1;
-    }
-}
-
-fn zero_seconds(column: &mut [u32])
-    ensures { column.new ≡ replicate (length column.old) 0 }
-{
-    let mut i = 0;
-    while i < column.len() {
-        column[i] = 0;
-        i += 1;
-    }
-}
-
-// Of 64-bit numbers; the others likewise, of their width.
-fn close_numbers(column: &mut [u64], marks: &[u8])
+// What stays of a column moves to its front, and the freed end is zero, of the column's own type.
+fn close_column<T: Copy>(column: &mut [T], marks: &[u8], zero: T)
     requires { length marks.now ≡ length column.old }
-    ensures { column.new ≡ closed marks.now column.old }
+    ensures { column.new ≡ closed zero marks.now column.old }
 {
     let mut to = 0;
-    let mut i = 0;
-    while i < column.len() {
+    for i in 0..column.len() {
         column[to] = column[i];
         to += step(marks[i]);
-        i += 1;
     }
-    zero_numbers(&mut column[to..]);
+    fill(&mut column[to..], zero);
 }
 
-fn close_lengths(column: &mut [usize], marks: &[u8])
-    requires { length marks.now ≡ length column.old }
-    ensures { column.new ≡ closed marks.now column.old }
+// The n bytes at `from` move to `to`, either way.
+pub(crate) fn move_bytes(store: &mut [u8], from: usize, to: usize, n: usize)
+    requires { (from + n ≤ length store.old) × (to + n ≤ length store.old) }
+    ensures { store.new ≡ write store.old to (take n (drop from store.old)) }
 {
-    let mut to = 0;
-    let mut i = 0;
-    while i < column.len() {
-        column[to] = column[i];
-        to += step(marks[i]);
-        i += 1;
-    }
-    zero_lengths(&mut column[to..]);
+    store.copy_within(from..from + n, to);
 }
 
-fn close_seconds(column: &mut [u32], marks: &[u8])
-    requires { length marks.now ≡ length column.old }
-    ensures { column.new ≡ closed marks.now column.old }
-{
-    let mut to = 0;
-    let mut i = 0;
-    while i < column.len() {
-        column[to] = column[i];
-        to += step(marks[i]);
-        i += 1;
-    }
-    zero_seconds(&mut column[to..]);
-}
-
-fn close_flags(column: &mut [u8], marks: &[u8])
-    requires { length marks.now ≡ length column.old }
-    ensures { column.new ≡ closed marks.now column.old }
-{
-    let mut to = 0;
-    let mut i = 0;
-    while i < column.len() {
-        column[to] = column[i];
-        to += step(marks[i]);
-        i += 1;
-    }
-    wipe(&mut column[to..]);
-}
-
-// The n bytes at `from` move down to `to`, the first one first.
+// The n bytes at `from` move down to `to`.
 pub fn move_down(store: &mut [u8], from: usize, to: usize, n: usize)
     requires { (to ≤ from) × (from + n ≤ length store.old) }
     ensures { store.new ≡ write store.old to (take n (drop from store.old)) }
 {
-    let mut k = 0;
-    while k < n {
-        store[to + k] = store[from + k];
-        k += 1;
-    }
+    move_bytes(store, from, to, n);
 }
 
 // The part of n bytes at `from` moves down to `to`, unless it is marked or lies there; where the next one goes.
@@ -136,78 +72,39 @@ fn close_part(store: &mut [u8], mark: u8, from: usize, to: usize, n: usize) -> u
 }
 
 // Each part that stays moves once, in list order.
-fn close_store(
-    blob_lens: &[usize],
-    fields_lens: &[usize],
-    comment_lens: &[usize],
-    store: &mut [u8],
-    marks: &[u8],
-)
-    requires { (length blob_lens.now ≡ entries_limit) × (length fields_lens.now ≡ entries_limit) × (length comment_lens.now ≡ entries_limit) × (length marks.now ≡ entries_limit) × (length store.old ≡ store_size) × (start_in blob_lens.now fields_lens.now comment_lens.now entries_limit ≤ store_size) × Zeros (drop (start_in blob_lens.now fields_lens.now comment_lens.now entries_limit) store.old) }
-    ensures { store.new ≡ closed_parts marks.now (sizes_in blob_lens.now fields_lens.now comment_lens.now) store.old }
+fn close_store(t: &Columns, store: &mut [u8], marks: &[u8; limits::ENTRIES_LIMIT])
+    requires { (length store.old ≡ store_size) × (start_in t.now.blob_lens t.now.fields_lens t.now.comment_lens entries_limit ≤ store_size) × Zeros (drop (start_in t.now.blob_lens t.now.fields_lens t.now.comment_lens entries_limit) store.old) }
+    ensures { store.new ≡ closed_parts marks.now (sizes_in t.now.blob_lens t.now.fields_lens t.now.comment_lens) store.old }
 {
     let mut from = 0;
     let mut to = 0;
-    let mut i = 0;
-    while i < limits::ENTRIES_LIMIT {
-        let n = blob_lens[i] + (fields_lens[i] + comment_lens[i]);
+    for i in 0..limits::ENTRIES_LIMIT {
+        let n = t.blob_lens[i] + (t.fields_lens[i] + t.comment_lens[i]);
         to = close_part(store, marks[i], from, to, n);
         from += n;
-        i += 1;
     }
     wipe(&mut store[to..from]);
 }
 
-fn close_columns(
-    numbers: &mut [u64],
-    readings: &mut [u64],
-    blob_lens: &mut [usize],
-    fields_lens: &mut [usize],
-    comment_lens: &mut [usize],
-    seconds: &mut [u32],
-    limited: &mut [u8],
-    confirm: &mut [u8],
-    marks: &[u8],
-)
-    requires { Long (columns numbers.old readings.old blob_lens.old fields_lens.old comment_lens.old seconds.old limited.old confirm.old) × (length marks.now ≡ entries_limit) }
-    ensures { (columns numbers.new readings.new blob_lens.new fields_lens.new comment_lens.new seconds.new limited.new confirm.new) ≡ closed_columns marks.now (columns numbers.old readings.old blob_lens.old fields_lens.old comment_lens.old seconds.old limited.old confirm.old) }
+fn close_columns(t: &mut Columns, marks: &[u8; limits::ENTRIES_LIMIT])
+    ensures { t.new ≡ closed_columns marks.now t.old }
 {
-    close_numbers(numbers, marks);
-    close_numbers(readings, marks);
-    close_lengths(blob_lens, marks);
-    close_lengths(fields_lens, marks);
-    close_lengths(comment_lens, marks);
-    close_seconds(seconds, marks);
-    close_flags(limited, marks);
-    close_flags(confirm, marks);
+    close_column(&mut t.numbers, marks, 0);
+    close_column(&mut t.readings, marks, 0);
+    close_column(&mut t.blob_lens, marks, 0);
+    close_column(&mut t.fields_lens, marks, 0);
+    close_column(&mut t.comment_lens, marks, 0);
+    close_column(&mut t.seconds, marks, 0);
+    close_column(&mut t.limited, marks, 0);
+    close_column(&mut t.confirm, marks, 0);
 }
 
 // The marked entries go.
-pub fn close(
-    numbers: &mut [u64],
-    readings: &mut [u64],
-    blob_lens: &mut [usize],
-    fields_lens: &mut [usize],
-    comment_lens: &mut [usize],
-    seconds: &mut [u32],
-    limited: &mut [u8],
-    confirm: &mut [u8],
-    store: &mut [u8],
-    marks: &[u8],
-)
-    requires { Long (columns numbers.old readings.old blob_lens.old fields_lens.old comment_lens.old seconds.old limited.old confirm.old) × (length marks.now ≡ entries_limit) × (length store.old ≡ store_size) × (start_in blob_lens.old fields_lens.old comment_lens.old entries_limit ≤ store_size) × Zeros (drop (start_in blob_lens.old fields_lens.old comment_lens.old entries_limit) store.old) }
-    ensures { ((columns numbers.new readings.new blob_lens.new fields_lens.new comment_lens.new seconds.new limited.new confirm.new) ≡ closed_columns marks.now (columns numbers.old readings.old blob_lens.old fields_lens.old comment_lens.old seconds.old limited.old confirm.old)) × (store.new ≡ closed_parts marks.now (sizes_in blob_lens.old fields_lens.old comment_lens.old) store.old) }
+pub fn close(t: &mut Columns, store: &mut [u8], marks: &[u8])
+    requires { (length marks.now ≡ entries_limit) × (length store.old ≡ store_size) × (start_in t.old.blob_lens t.old.fields_lens t.old.comment_lens entries_limit ≤ store_size) × Zeros (drop (start_in t.old.blob_lens t.old.fields_lens t.old.comment_lens entries_limit) store.old) }
+    ensures { (t.new ≡ closed_columns marks.now t.old) × (store.new ≡ closed_parts marks.now (sizes_in t.old.blob_lens t.old.fields_lens t.old.comment_lens) store.old) }
 {
-    close_store(blob_lens, fields_lens, comment_lens, store, marks);
-    close_columns(
-        numbers,
-        readings,
-        blob_lens,
-        fields_lens,
-        comment_lens,
-        seconds,
-        limited,
-        confirm,
-        marks,
-    );
+    let marks = marks.as_array().unwrap();
+    close_store(t, store, marks);
+    close_columns(t, marks);
 }

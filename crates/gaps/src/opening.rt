@@ -4,22 +4,11 @@ ghost use Rattle.wire.specs.Write.{write};
 ghost use Rattle.table.specs.Bytes.{Zeros};
 ghost use Rattle.table.specs.Changes.{resized, bytes_put, PutRoom};
 
-use crate::closing::move_down;
+use crate::closing::move_bytes;
+use table::Columns;
 use table::bytes::{copy_in, wipe};
 use table::entries::{size_at, start_of};
 use wire::limits;
-
-// The n bytes at `from` move up to `to`, the last one first.
-fn move_up(store: &mut [u8], from: usize, to: usize, n: usize)
-    requires { (from ≤ to) × (to + n ≤ length store.old) }
-    ensures { store.new ≡ write store.old to (take n (drop from store.old)) }
-{
-    let mut k = n;
-    while 0 < k {
-        k -= 1;
-        store[to + k] = store[from + k];
-    }
-}
 
 // The part of `old` bytes at `at` gets `new` bytes: what lies behind it, up to `end`, moves once, and what is freed is zero.
 fn resize(store: &mut [u8], at: usize, old: usize, new: usize, end: usize)
@@ -29,12 +18,10 @@ fn resize(store: &mut [u8], at: usize, old: usize, new: usize, end: usize)
     let from = at + old;
     let to = at + new;
     let n = end - from;
-    if from < to {
-        move_up(store, from, to, n);
-        return;
+    move_bytes(store, from, to, n);
+    if to < from {
+        wipe(&mut store[to + n..end]);
     }
-    move_down(store, from, to, n);
-    wipe(&mut store[to + n..end]);
 }
 
 // Blob, fields and comment, behind each other.
@@ -52,21 +39,24 @@ fn fill(store: &mut [u8], at: usize, blob: &[u8], fields: &[u8], comment: &[u8])
 
 // The bytes of entry i are these; behind the last entry it has none before.
 pub fn put_bytes(
-    blob_lens: &[usize],
-    fields_lens: &[usize],
-    comment_lens: &[usize],
+    t: &Columns,
     store: &mut [u8],
     i: usize,
     blob: &[u8],
     fields: &[u8],
     comment: &[u8],
 )
-    requires { PutRoom blob_lens.now fields_lens.now comment_lens.now store.old i (length blob.now + (length fields.now + length comment.now)) }
-    ensures { store.new ≡ bytes_put blob_lens.now fields_lens.now comment_lens.now i (blob.now ++ (fields.now ++ comment.now)) store.old }
+    requires { PutRoom t.now.blob_lens t.now.fields_lens t.now.comment_lens store.old i (length blob.now + (length fields.now + length comment.now)) }
+    ensures { store.new ≡ bytes_put t.now.blob_lens t.now.fields_lens t.now.comment_lens i (blob.now ++ (fields.now ++ comment.now)) store.old }
 {
-    let at = start_of(blob_lens, fields_lens, comment_lens, i);
-    let old = size_at(blob_lens, fields_lens, comment_lens, i);
-    let end = start_of(blob_lens, fields_lens, comment_lens, limits::ENTRIES_LIMIT);
+    let at = start_of(&t.blob_lens, &t.fields_lens, &t.comment_lens, i);
+    let old = size_at(&t.blob_lens, &t.fields_lens, &t.comment_lens, i);
+    let end = start_of(
+        &t.blob_lens,
+        &t.fields_lens,
+        &t.comment_lens,
+        limits::ENTRIES_LIMIT,
+    );
     let new = blob.len() + (fields.len() + comment.len());
     resize(store, at, old, new, end);
     fill(store, at, blob, fields, comment);

@@ -14,6 +14,7 @@ use lending::{serve, serve_first};
 use lookups::HeldKey;
 use lookups::held::key_of;
 use lookups::order::next_of;
+use requests::Asked;
 use rule::Millis;
 use soundness::is_state_sound;
 use table::{State, fresh};
@@ -45,8 +46,13 @@ pub extern "C" fn key_agent_call(
 ) -> FlatOutcome
     ensures { FlatMeets state.old store.old payload.now reading answers signature.now reply.old result state.new store.new reply.new }
 {
-    let lent = answers_of(answers);
-    let outcome = serve(state, store, payload, reading, lent, signature, reply);
+    let asked = Asked {
+        payload,
+        reading,
+        answers: answers_of(answers),
+        signature,
+    };
+    let outcome = serve(state, store, asked, reply);
     flat_of(outcome)
 }
 
@@ -80,8 +86,13 @@ pub extern "C" fn key_agent_inner_call(
     requires { Sound state.old store.old }
     ensures { FlatInnerMeets state.old store.old payload.now reading answers signature.now reply.old result state.new store.new reply.new }
 {
-    let lent = answers_of(answers);
-    let outcome = serve_inner(state, store, payload, reading, lent, signature, reply);
+    let asked = Asked {
+        payload,
+        reading,
+        answers: answers_of(answers),
+        signature,
+    };
+    let outcome = serve_inner(state, store, asked, reply);
     flat_of(outcome)
 }
 

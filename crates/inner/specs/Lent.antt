@@ -7,7 +7,8 @@ use Rattle.requests.specs.declared.Answers.{Answers}
 use Rattle.requests.specs.declared.Landed.{Landed}
 use Rattle.server.specs.Inner.{InnerMeets, InnerFirstMeets}
 use Rattle.engine.specs.declared.first.Heard.{Heard}
-use Rattle.lending.specs.Lent.{beside, kept_in}
+use Rattle.table.specs.Meaning.{kept_in}
+use Rattle.lending.specs.Lent.{beside}
 
 -- the inner call is met by the arrays and what goes beside them; what is no array stays in the lent state
 pub record InnerLands (s : State) (k : Kept) (store payload : List ℕ) (reading : Millis) (answers : Answers) (signature buffer : List ℕ) (r : Landed) (z : State) (store_after reply : List ℕ) : Type 0 where

@@ -1,5 +1,6 @@
 // The inner forms (#113): as crate `lending`, but the state that is lent is sound, and no call tests it. Nothing is copied but clock, next number and
 // the lock's length.
+// A trait over both crates' callees, with a value for each, would be longer than the four functions.
 #![tactic(auto)]
 
 ghost use Rattle.table.specs.Soundness.{Sound};
@@ -9,7 +10,7 @@ ghost use Rattle.inner.specs.Lent.{InnerLands, InnerHears};
 
 use engine::call::inner_lent;
 use engine::first::{Heard, inner_first_lent};
-use requests::{Answers, Landed, Outcome};
+use requests::{Asked, Landed, Outcome};
 use rule::Millis;
 use server::first::First;
 use table::{Kept, State};
@@ -19,31 +20,18 @@ fn land_inner(
     state: &mut State,
     kept: Kept,
     store: &mut [u8],
-    payload: &[u8],
-    reading: Millis,
-    answers: Answers,
-    signature: &[u8],
+    asked: Asked<'_>,
     reply: &mut [u8],
 ) -> Landed
     requires { Sound (beside state.old kept) store.old }
-    ensures { InnerLands state.old kept store.old payload.now reading answers signature.now reply.old result state.new store.new reply.new }
+    ensures { InnerLands state.old kept store.old asked.entry.payload.now asked.entry.reading asked.entry.answers asked.entry.signature.now reply.old result state.new store.new reply.new }
 {
     inner_lent(
-        &mut state.columns.numbers,
-        &mut state.columns.readings,
-        &mut state.columns.blob_lens,
-        &mut state.columns.fields_lens,
-        &mut state.columns.comment_lens,
-        &mut state.columns.seconds,
-        &mut state.columns.limited,
-        &mut state.columns.confirm,
+        &mut state.columns,
         &mut state.lock.bytes,
         kept,
         store,
-        payload,
-        reading,
-        answers,
-        signature,
+        asked,
         reply,
     )
 }
@@ -53,28 +41,15 @@ fn land_inner(
 pub fn serve_inner(
     state: &mut State,
     store: &mut [u8],
-    payload: &[u8],
-    reading: Millis,
-    answers: Answers,
-    signature: &[u8],
+    asked: Asked<'_>,
     reply: &mut [u8],
 ) -> Outcome
     requires { Sound state.old store.old }
-    ensures { InnerMeets state.old store.old payload.now reading answers signature.now reply.old result state.new store.new reply.new }
+    ensures { InnerMeets state.old store.old asked.entry.payload.now asked.entry.reading asked.entry.answers asked.entry.signature.now reply.old result state.new store.new reply.new }
 {
-    let kept = Kept {
-        clock: Millis {
-            count: state.clock.count,
-        },
-        next: state.next,
-        locked: state.lock.len,
-    };
-    let r = land_inner(
-        state, kept, store, payload, reading, answers, signature, reply,
-    );
-    state.clock.count = r.kept.clock.count;
-    state.next = r.kept.next;
-    state.lock.len = r.kept.locked;
+    let kept = state.kept();
+    let r = land_inner(state, kept, store, asked, reply);
+    state.keep(r.kept);
     r.outcome
 }
 
@@ -91,14 +66,7 @@ fn hear_inner(
     ensures { InnerHears state.old kept store.old bytes.now reading reply.old result state.new store.new reply.new }
 {
     inner_first_lent(
-        &mut state.columns.numbers,
-        &mut state.columns.readings,
-        &mut state.columns.blob_lens,
-        &mut state.columns.fields_lens,
-        &mut state.columns.comment_lens,
-        &mut state.columns.seconds,
-        &mut state.columns.limited,
-        &mut state.columns.confirm,
+        &mut state.columns,
         &mut state.lock.bytes,
         kept,
         store,
@@ -119,16 +87,8 @@ pub fn serve_first_inner(
     requires { Sound state.old store.old }
     ensures { InnerFirstMeets state.old store.old bytes.now reading reply.old result state.new store.new reply.new }
 {
-    let kept = Kept {
-        clock: Millis {
-            count: state.clock.count,
-        },
-        next: state.next,
-        locked: state.lock.len,
-    };
+    let kept = state.kept();
     let r = hear_inner(state, kept, store, bytes, reading, reply);
-    state.clock.count = r.kept.clock.count;
-    state.next = r.kept.next;
-    state.lock.len = r.kept.locked;
+    state.keep(r.kept);
     r.first
 }

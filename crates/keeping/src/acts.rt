@@ -1,264 +1,102 @@
-// What is done with a sound state: its columns are lent from locals, and make the new state. `judge` has tested that it is sound.
-ghost use Rattle.std.specs.Prelude.{◌≡◌, ℕ, ◌<◌};
+// A state with its store, and what is done with them. `judge` has tested that they are sound.
+ghost use Rattle.std.specs.Prelude.{◌≡◌, ℕ, ◌<◌, true, Some};
 ghost use Rattle.wire.specs.Limits.{entries_limit};
-ghost use Rattle.rule.specs.declared.Found.TheVariants.{At};
 ghost use Rattle.rule.specs.Rule.{brought};
 ghost use Rattle.table.specs.Soundness.{Sound};
 ghost use Rattle.table.specs.Changes.{MayPut};
 
 use keys::addition::Carried;
-use rule::{Found, Millis};
-use table::entries::place_for;
+use rule::Millis;
+use soundness::is_state_sound;
 use table::locks::keep_passphrase;
-use table::{Columns, Kept, State};
+use table::{State, fresh};
 use wire::limits;
 use wire::read::cut;
 
-fn with_columns(state: State, columns: Columns, clock: Millis, next: u64) -> State {
-    let lock = state.lock;
-    State {
-        columns,
-        lock,
-        clock,
-        next,
-    }
+#[derive(Drop)]
+pub struct Agent {
+    pub state: State,
+    pub store: [u8; limits::STORE_SIZE],
 }
 
-pub(crate) fn advance(state: State, store: &mut [u8], reading: u32) -> State
-    requires { Sound state store.old }
-{
-    let t = state.columns;
-    let mut numbers = t.numbers;
-    let mut readings = t.readings;
-    let mut blob_lens = t.blob_lens;
-    let mut fields_lens = t.fields_lens;
-    let mut comment_lens = t.comment_lens;
-    let mut seconds = t.seconds;
-    let mut limited = t.limited;
-    let mut confirm = t.confirm;
-    let clock = state.clock;
-    let kept = Kept {
-        clock,
-        next: state.next,
-        locked: state.lock.len,
-    };
-    let after = changes::advance(
-        &mut numbers,
-        &mut readings,
-        &mut blob_lens,
-        &mut fields_lens,
-        &mut comment_lens,
-        &mut seconds,
-        &mut limited,
-        &mut confirm,
-        kept,
-        store,
-        Millis {
-            count: reading as u64,
-        },
-    );
-    let columns = Columns {
-        numbers,
-        readings,
-        blob_lens,
-        fields_lens,
-        comment_lens,
-        seconds,
-        limited,
-        confirm,
-    };
-    let clock = after.clock;
-    with_columns(state, columns, clock, after.next)
-}
+impl Agent {
+    pub(crate) fn fresh() -> Agent {
+        Agent {
+            state: fresh(),
+            store: [0; limits::STORE_SIZE],
+        }
+    }
 
-// The place for a key, if its lengths are within the limits.
-pub(crate) fn place_of(
-    state: State,
-    store: &[u8],
-    payload: &[u8],
-    carried: Carried,
-    blob: &[u8],
-) -> Found
-    requires { Sound state store.now }
-    ensures { (i : ℕ) → result ≡ At i → MayPut state store.now i (brought payload.now carried blob.now) }
-{
-    let fields = cut(payload, 1, carried.places.end);
-    let comment = cut(payload, carried.comment.from, carried.comment.to);
-    if blob.len() < 1 {
-        return Found::Nothing;
+    pub(crate) fn is_sound(&self) -> bool
+        ensures { result ≡ true → Sound self.now.state self.now.store }
+    {
+        is_state_sound(self.state, &self.store)
     }
-    if limits::BLOB_LIMIT < blob.len() {
-        return Found::Nothing;
-    }
-    if fields.len() < 1 {
-        return Found::Nothing;
-    }
-    if limits::FIELDS_LIMIT < fields.len() {
-        return Found::Nothing;
-    }
-    if limits::COMMENT_LIMIT < comment.len() {
-        return Found::Nothing;
-    }
-    if limits::LAST_NUMBER <= state.next {
-        return Found::Nothing;
-    }
-    let t = state.columns;
-    let numbers = t.numbers;
-    let blob_lens = t.blob_lens;
-    let fields_lens = t.fields_lens;
-    let comment_lens = t.comment_lens;
-    let size = blob.len() + (fields.len() + comment.len());
-    place_for(
-        &numbers,
-        &blob_lens,
-        &fields_lens,
-        &comment_lens,
-        store,
-        blob,
-        size,
-    )
-}
 
-pub(crate) fn put(
-    state: State,
-    store: &mut [u8],
-    payload: &[u8],
-    carried: Carried,
-    blob: &[u8],
-    i: usize,
-) -> State
-    requires { MayPut state store.old i (brought payload.now carried blob.now) }
-{
-    let t = state.columns;
-    let mut numbers = t.numbers;
-    let mut readings = t.readings;
-    let mut blob_lens = t.blob_lens;
-    let mut fields_lens = t.fields_lens;
-    let mut comment_lens = t.comment_lens;
-    let mut seconds = t.seconds;
-    let mut limited = t.limited;
-    let mut confirm = t.confirm;
-    let clock = state.clock;
-    let kept = Kept {
-        clock,
-        next: state.next,
-        locked: state.lock.len,
-    };
-    let after = changes::put(
-        &mut numbers,
-        &mut readings,
-        &mut blob_lens,
-        &mut fields_lens,
-        &mut comment_lens,
-        &mut seconds,
-        &mut limited,
-        &mut confirm,
-        kept,
-        store,
-        i,
-        payload,
-        carried,
-        blob,
-    );
-    let columns = Columns {
-        numbers,
-        readings,
-        blob_lens,
-        fields_lens,
-        comment_lens,
-        seconds,
-        limited,
-        confirm,
-    };
-    let clock = after.clock;
-    with_columns(state, columns, clock, after.next)
-}
-
-pub(crate) fn remove(state: State, store: &mut [u8], i: usize) -> State
-    requires { (i < entries_limit) × Sound state store.old }
-{
-    let t = state.columns;
-    let mut numbers = t.numbers;
-    let mut readings = t.readings;
-    let mut blob_lens = t.blob_lens;
-    let mut fields_lens = t.fields_lens;
-    let mut comment_lens = t.comment_lens;
-    let mut seconds = t.seconds;
-    let mut limited = t.limited;
-    let mut confirm = t.confirm;
-    changes::remove(
-        &mut numbers,
-        &mut readings,
-        &mut blob_lens,
-        &mut fields_lens,
-        &mut comment_lens,
-        &mut seconds,
-        &mut limited,
-        &mut confirm,
-        store,
-        i,
-    );
-    let columns = Columns {
-        numbers,
-        readings,
-        blob_lens,
-        fields_lens,
-        comment_lens,
-        seconds,
-        limited,
-        confirm,
-    };
-    let clock = state.clock;
-    with_columns(state, columns, clock, state.next)
-}
-
-pub(crate) fn remove_all(state: State, store: &mut [u8]) -> State
-    requires { Sound state store.old }
-{
-    let t = state.columns;
-    let mut numbers = t.numbers;
-    let mut readings = t.readings;
-    let mut blob_lens = t.blob_lens;
-    let mut fields_lens = t.fields_lens;
-    let mut comment_lens = t.comment_lens;
-    let mut seconds = t.seconds;
-    let mut limited = t.limited;
-    let mut confirm = t.confirm;
-    changes::remove_all(
-        &mut numbers,
-        &mut readings,
-        &mut blob_lens,
-        &mut fields_lens,
-        &mut comment_lens,
-        &mut seconds,
-        &mut limited,
-        &mut confirm,
-        store,
-    );
-    let columns = Columns {
-        numbers,
-        readings,
-        blob_lens,
-        fields_lens,
-        comment_lens,
-        seconds,
-        limited,
-        confirm,
-    };
-    let clock = state.clock;
-    with_columns(state, columns, clock, state.next)
-}
-
-// A passphrase over the limit changes nothing.
-pub(crate) fn lock(state: State, passphrase: &[u8]) -> State {
-    if limits::PASSPHRASE_LIMIT < passphrase.len() {
-        return state;
+    pub(crate) fn advance(&mut self, reading: u32)
+        requires { Sound self.old.state self.old.store }
+    {
+        let kept = self.state.kept();
+        let reading = Millis {
+            count: reading.into(),
+        };
+        let after = changes::advance(&mut self.state.columns, kept, &mut self.store, reading);
+        self.state.keep(after);
     }
-    let mut lock = state.lock;
-    let mut bytes = lock.bytes;
-    lock.len = keep_passphrase(&mut bytes, passphrase);
-    lock.bytes = bytes;
-    let mut out = state;
-    out.lock = lock;
-    out
+
+    // The place for a key, if its lengths are within the limits.
+    pub(crate) fn place_of(&self, payload: &[u8], carried: Carried, blob: &[u8]) -> Option<usize>
+        requires { Sound self.now.state self.now.store }
+        ensures { (i : ℕ) → result ≡ Some i → MayPut self.now.state self.now.store i (brought payload.now carried blob.now) }
+    {
+        let fields = cut(payload, 1, carried.places.end);
+        let comment = cut(payload, carried.comment.from, carried.comment.to);
+        if blob.len() < 1
+            || limits::BLOB_LIMIT < blob.len()
+            || fields.len() < 1
+            || limits::FIELDS_LIMIT < fields.len()
+            || limits::COMMENT_LIMIT < comment.len()
+            || limits::LAST_NUMBER <= self.state.next
+        {
+            return None;
+        }
+        let size = blob.len() + (fields.len() + comment.len());
+        self.state.columns.place_for(&self.store, blob, size)
+    }
+
+    pub(crate) fn put(&mut self, payload: &[u8], carried: Carried, blob: &[u8], i: usize)
+        requires { MayPut self.old.state self.old.store i (brought payload.now carried blob.now) }
+    {
+        let kept = self.state.kept();
+        let after = changes::put(
+            &mut self.state.columns,
+            kept,
+            &mut self.store,
+            i,
+            payload,
+            carried,
+            blob,
+        );
+        self.state.keep(after);
+    }
+
+    pub(crate) fn remove(&mut self, i: usize)
+        requires { (i < entries_limit) × Sound self.old.state self.old.store }
+    {
+        changes::remove(&mut self.state.columns, &mut self.store, i);
+    }
+
+    pub(crate) fn remove_all(&mut self)
+        requires { Sound self.old.state self.old.store }
+    {
+        changes::remove_all(&mut self.state.columns, &mut self.store);
+    }
+
+    // A passphrase over the limit changes nothing.
+    pub(crate) fn lock(&mut self, passphrase: &[u8]) {
+        if passphrase.len() <= limits::PASSPHRASE_LIMIT {
+            let lock = &mut self.state.lock;
+            lock.len = keep_passphrase(&mut lock.bytes, passphrase);
+        }
+    }
 }

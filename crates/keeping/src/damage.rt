@@ -1,23 +1,11 @@
 // One value of a state or a store is set, and the whole tested for soundness.
-ghost use Rattle.std.specs.Prelude.{◌≡◌, length};
-
+use crate::acts::Agent;
 use soundness::is_state_sound;
-use table::{Columns, State};
-use wire::limits;
+use table::State;
 use wire::read::cut;
 
-// More bytes than a store has.
-fn zeros() -> [u8; 40960]
-    ensures { 40960 ≡ length result }
-{
-    [0; 40960]
-}
-
 fn byte_of(value: u32) -> u8 {
-    if value < 256 {
-        return value as u8;
-    }
-    255
+    u8::try_from(value).unwrap_or(255)
 }
 
 // From 2^31 on a value is counted down from 2^64, so that there are lengths whose sum overflows.
@@ -28,111 +16,54 @@ fn length_of(value: u32) -> usize {
     0xFFFF_FFFF_0000_0000 + value as usize
 }
 
-// The parts are those that are asked for, 1 to 8.
-fn damaged_columns(t: Columns, part: u8, i: usize, value: u32) -> Columns {
-    let mut out = t;
-    if limits::ENTRIES_LIMIT <= i {
-        return out;
+// Where there is no such place nothing is set.
+fn set<T: Copy>(part: &mut [T], place: usize, value: T) {
+    if place < part.len() {
+        part[place] = value;
     }
-    let number = value as u64;
-    let length = length_of(value);
-    let byte = byte_of(value);
+}
+
+// The parts are those that are asked for, 1 to 8, and behind the columns the passphrase's length and bytes, the clock, the next number.
+fn damage(state: &mut State, part: u8, place: usize, value: u32) {
+    let t = &mut state.columns;
     match part {
-        1 => {
-            out.numbers[i] = number;
-        }
-        2 => {
-            out.readings[i] = number;
-        }
-        3 => {
-            out.limited[i] = byte;
-        }
-        4 => {
-            out.seconds[i] = value;
-        }
-        5 => {
-            out.confirm[i] = byte;
-        }
-        6 => {
-            out.blob_lens[i] = length;
-        }
-        7 => {
-            out.fields_lens[i] = length;
-        }
-        _ => {
-            out.comment_lens[i] = length;
-        }
+        1 => set(&mut t.numbers, place, value.into()),
+        2 => set(&mut t.readings, place, value.into()),
+        3 => set(&mut t.limited, place, byte_of(value)),
+        4 => set(&mut t.seconds, place, value),
+        5 => set(&mut t.confirm, place, byte_of(value)),
+        6 => set(&mut t.blob_lens, place, length_of(value)),
+        7 => set(&mut t.fields_lens, place, length_of(value)),
+        9 => state.lock.len = length_of(value),
+        10 => set(&mut state.lock.bytes, place, byte_of(value)),
+        11 => state.clock.count = value.into(),
+        12 => state.next = value.into(),
+        _ => set(&mut t.comment_lens, place, length_of(value)),
     }
-    out
 }
 
-fn with_columns(state: State, part: u8, i: usize, value: u32) -> State {
-    let mut out = state;
-    out.columns = damaged_columns(state.columns, part, i, value);
-    out
-}
-
-fn with_passphrase_byte(state: State, place: usize, value: u32) -> State {
-    if limits::PASSPHRASE_LIMIT <= place {
-        return state;
+impl Agent {
+    pub(crate) fn is_damaged_sound(&self, part: u8, place: usize, value: u32) -> bool {
+        let mut state = self.state;
+        damage(&mut state, part, place, value);
+        is_state_sound(state, &self.store)
     }
-    let byte = byte_of(value);
-    let mut lock = state.lock;
-    lock.bytes[place] = byte;
-    let mut out = state;
-    out.lock = lock;
-    out
-}
 
-// Behind the columns' parts: the passphrase's length and bytes, the clock, the next number.
-fn damaged(state: State, part: u8, place: usize, value: u32) -> State {
-    let number = value as u64;
-    let length = length_of(value);
-    let mut out = state;
-    match part {
-        9 => {
-            out.lock.len = length;
+    // A byte of the store is set, and set back.
+    pub(crate) fn is_store_sound(&mut self, place: usize, value: u32) -> bool {
+        if self.store.len() <= place {
+            return true;
         }
-        10 => {
-            return with_passphrase_byte(state, place, value);
-        }
-        11 => {
-            out.clock.count = number;
-        }
-        12 => {
-            out.next = number;
-        }
-        _ => {
-            return with_columns(state, part, place, value);
-        }
+        let kept = self.store[place];
+        self.store[place] = byte_of(value);
+        let sound = self.is_sound();
+        self.store[place] = kept;
+        sound
     }
-    out
-}
 
-pub(crate) fn is_damaged_sound(
-    state: State,
-    store: &[u8],
-    part: u8,
-    place: usize,
-    value: u32,
-) -> bool {
-    is_state_sound(damaged(state, part, place, value), store)
-}
-
-// A byte of the store is set, and set back.
-pub(crate) fn is_store_sound(state: State, store: &mut [u8], place: usize, value: u32) -> bool {
-    if store.len() <= place {
-        return true;
+    // A store of zeros with another length, up to more bytes than a store has.
+    pub(crate) fn is_length_sound(&self, length: usize) -> bool {
+        let room = [0u8; 40960];
+        is_state_sound(self.state, cut(&room, 0, length))
     }
-    let kept = store[place];
-    store[place] = byte_of(value);
-    let sound = is_state_sound(state, store);
-    store[place] = kept;
-    sound
-}
-
-// A store of zeros with another length.
-pub(crate) fn is_length_sound(state: State, length: usize) -> bool {
-    let room = zeros();
-    is_state_sound(state, cut(&room, 0, length))
 }

@@ -1,181 +1,80 @@
 // A step is taken on a state, and its answer compared. Nothing is done with a state that is not sound.
 ghost use Rattle.table.specs.Soundness.{Sound};
 
-use crate::steps::{Task, Tasked, read_task};
-use crate::{acts, asks, damage};
-use keys::addition::{Carried, Piece};
-use keys::constraints::Lifetime;
-use keys::kinds::Places;
-use report::sections::{Ran, ran_as};
-use rule::Found;
-use soundness::is_state_sound;
-use table::bytes::wipe;
-use table::{State, fresh};
-use wire::read::{Cursor, cut};
-use wire::{Seconds, limits};
-
-#[derive(Clone, Copy)]
-pub struct Judged {
-    pub ran: Ran,
-    pub state: State,
-}
-
-#[derive(Clone, Copy)]
-struct Taken {
-    answer: u64,
-    state: State,
-}
-
-// Each section begins with a fresh state.
-pub(crate) fn begun(state: State, store: &mut [u8], ran: u32) -> State {
-    if ran == 0 {
-        wipe(store);
-        return fresh();
-    }
-    state
-}
-
-fn less(a: usize, b: usize) -> usize {
-    if a < b {
-        return 0;
-    }
-    a - b
-}
-
-// Fields and comment lie in the record as in an add request, behind a first byte.
-fn request_start(t: Task) -> usize {
-    less(t.fields.from, 1)
-}
-
-fn lifetime_of(limited: bool, seconds: u32) -> Lifetime {
-    if limited {
-        return Lifetime::For(Seconds { count: seconds });
-    }
-    Lifetime::Forever
-}
-
-fn carried(t: Task) -> Carried {
-    let start = request_start(t);
-    let x = t.subject;
-    Carried {
-        places: Places {
-            front: 0,
-            swap: 0,
-            back: 0,
-            end: less(t.fields.to, start),
-        },
-        comment: Piece {
-            from: less(t.comment.from, start),
-            to: less(t.comment.to, start),
-        },
-        lifetime: lifetime_of(x.limited, x.value),
-        confirm: x.confirm,
-    }
-}
+use crate::acts::Agent;
+use crate::asks::{is_locked_with, is_stored, part_of};
+use crate::steps::{Task, read_task};
+use table::entries::count;
+use wire::limits;
+use wire::read::Cursor;
 
 // Answers the position that the key went to, 24 where there is none for it.
-fn put(s: &[u8], t: Task, state: State, store: &mut [u8]) -> Taken
-    requires { Sound state store.old }
+fn put(t: Task<'_>, agent: &mut Agent) -> u64
+    requires { Sound agent.old.state agent.old.store }
 {
-    let payload = cut(s, request_start(t), t.comment.to);
-    let blob = cut(s, t.bytes.from, t.bytes.to);
-    let carried = carried(t);
-    match acts::place_of(state, store, payload, carried, blob) {
-        Found::Nothing => Taken { answer: 24, state },
-        Found::At(i) => {
-            let after = acts::put(state, store, payload, carried, blob, i);
-            Taken {
-                answer: i as u64,
-                state: after,
-            }
+    match agent.place_of(t.payload, t.carried, t.bytes) {
+        None => 24,
+        Some(i) => {
+            agent.put(t.payload, t.carried, t.bytes, i);
+            i as u64
         }
     }
 }
 
-fn changed(s: &[u8], t: Task, state: State, store: &mut [u8]) -> State
-    requires { Sound state store.old }
+fn change(t: Task<'_>, agent: &mut Agent)
+    requires { Sound agent.old.state agent.old.store }
 {
-    let x = t.subject;
-    let op = t.op;
-    match op {
-        1 => acts::advance(state, store, x.value),
-        3 => {
-            if limits::ENTRIES_LIMIT <= x.place {
-                return state;
-            }
-            acts::remove(state, store, x.place)
-        }
-        4 => acts::remove_all(state, store),
-        _ => acts::lock(state, cut(s, t.bytes.from, t.bytes.to)),
+    match t.op {
+        1 => agent.advance(t.value),
+        3 if t.place < limits::ENTRIES_LIMIT => agent.remove(t.place),
+        3 => {}
+        4 => agent.remove_all(),
+        _ => agent.lock(t.bytes),
     }
 }
 
-fn act(s: &[u8], t: Task, state: State, store: &mut [u8]) -> Taken {
-    if !is_state_sound(state, store) {
-        return Taken { answer: 99, state };
+fn act(t: Task<'_>, agent: &mut Agent) -> u64 {
+    if !agent.is_sound() {
+        return 99;
     }
     if t.op == 2 {
-        return put(s, t, state, store);
+        return put(t, agent);
     }
-    let after = changed(s, t, state, store);
-    Taken {
-        answer: 0,
-        state: after,
-    }
+    change(t, agent);
+    0
 }
 
-fn ask(s: &[u8], t: Task, state: State, store: &[u8]) -> u64 {
-    let x = t.subject;
-    let bytes = cut(s, t.bytes.from, t.bytes.to);
-    let lock = state.lock;
-    let op = t.op;
-    match op {
-        11 => asks::entries(state),
-        12 => asks::part_of(state.columns, x.part, x.place),
-        13 => asks::number_of(asks::is_stored(store, bytes)),
-        14 => asks::number_of(asks::is_locked_with(lock, bytes)),
-        15 => lock.len as u64,
-        16 => asks::number_of(is_state_sound(state, store)),
+fn ask(t: Task<'_>, agent: &Agent) -> u64 {
+    let state = &agent.state;
+    match t.op {
+        11 => count(&state.columns.numbers) as u64,
+        12 => part_of(&state.columns, t.part, t.place),
+        13 => is_stored(&agent.store, t.bytes).into(),
+        14 => is_locked_with(&state.lock, t.bytes).into(),
+        15 => state.lock.len as u64,
+        16 => agent.is_sound().into(),
         _ => 99,
     }
 }
 
 // Whether a state is sound with one value set.
-fn is_sound_with(t: Task, state: State, store: &mut [u8]) -> bool {
-    let x = t.subject;
-    let op = t.op;
-    match op {
-        21 => damage::is_damaged_sound(state, store, x.part, x.place, x.value),
-        22 => damage::is_store_sound(state, store, x.place, x.value),
-        _ => damage::is_length_sound(state, x.place),
+fn is_sound_with(t: Task<'_>, agent: &mut Agent) -> bool {
+    match t.op {
+        21 => agent.is_damaged_sound(t.part, t.place, t.value),
+        22 => agent.is_store_sound(t.place, t.value),
+        _ => agent.is_length_sound(t.place),
     }
 }
 
-fn take(s: &[u8], t: Task, state: State, store: &mut [u8]) -> Taken {
-    if t.op < 11 {
-        return act(s, t, state, store);
+fn take(t: Task<'_>, agent: &mut Agent) -> u64 {
+    match t.op {
+        0..=10 => act(t, agent),
+        11..=20 => ask(t, agent),
+        _ => is_sound_with(t, agent).into(),
     }
-    if t.op < 21 {
-        return Taken {
-            answer: ask(s, t, state, store),
-            state,
-        };
-    }
-    let answer = asks::number_of(is_sound_with(t, state, store));
-    Taken { answer, state }
 }
 
-pub(crate) fn judge(s: &[u8], c: Cursor, state: State, store: &mut [u8]) -> Judged {
-    let Tasked::Value(t, next) = read_task(s, c) else {
-        return Judged {
-            ran: Ran::Malformed,
-            state,
-        };
-    };
-    let taken = take(s, t, state, store);
-    let after = taken.state;
-    Judged {
-        ran: ran_as(taken.answer == t.want as u64, next),
-        state: after,
-    }
+pub(crate) fn judge(s: &[u8], c: Cursor, agent: &mut Agent) -> Option<(bool, Cursor)> {
+    let (t, next) = read_task(s, c)?;
+    Some((take(t, agent) == t.want.into(), next))
 }

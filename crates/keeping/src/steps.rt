@@ -1,111 +1,58 @@
 // What a record is read as: a step, and the answer that is expected of it.
-use report::parts::{Flag, Place, Span, read_flag, read_place};
-use wire::read::{Cursor, Number, Octet, Part};
+use keys::addition::Carried;
+use keys::kinds::Places;
+use report::parts::{read_flag, read_place};
+use wire::Seconds;
+use wire::read::{Cursor, Span, cut};
 
-// What a step is about; what it does not need is zero.
+// What a step does not need is zero. `bytes` is a blob or a passphrase; `payload` has fields and comment as in an add request, behind a first byte.
 #[derive(Clone, Copy)]
-pub struct Subject {
+pub struct Task<'a> {
+    pub op: u8,
     pub part: u8,
     pub place: usize,
     pub value: u32,
-    pub limited: bool,
-    pub confirm: bool,
-}
-
-// `bytes` is a blob or a passphrase.
-#[derive(Clone, Copy)]
-pub struct Task {
-    pub op: u8,
-    pub subject: Subject,
-    pub bytes: Span,
-    pub fields: Span,
-    pub comment: Span,
+    pub bytes: &'a [u8],
+    pub payload: &'a [u8],
+    pub carried: Carried,
     pub want: u32,
 }
 
-#[derive(Clone, Copy)]
-enum Subjected {
-    Value(Subject, Cursor),
-    Malformed,
-}
-
-#[derive(Clone, Copy)]
-pub enum Tasked {
-    Value(Task, Cursor),
-    Malformed,
-}
-
-fn read_subject(s: &[u8], c: Cursor) -> Subjected {
-    let Octet::Value(part, a) = c.byte(s) else {
-        return Subjected::Malformed;
-    };
-    let Place::Value(place, b) = read_place(s, a) else {
-        return Subjected::Malformed;
-    };
-    let Number::Value(value, d) = b.number(s) else {
-        return Subjected::Malformed;
-    };
-    let Flag::Value(limited, e) = read_flag(s, d) else {
-        return Subjected::Malformed;
-    };
-    let Flag::Value(confirm, next) = read_flag(s, e) else {
-        return Subjected::Malformed;
-    };
-    Subjected::Value(
-        Subject {
-            part,
-            place,
-            value,
-            limited,
-            confirm,
+pub(crate) fn read_task(s: &[u8], c: Cursor) -> Option<(Task<'_>, Cursor)> {
+    let (op, c) = c.byte(s).ok()?;
+    let (part, c) = c.byte(s).ok()?;
+    let (place, c) = read_place(s, c)?;
+    let (value, c) = c.number(s).ok()?;
+    let (limited, c) = read_flag(s, c)?;
+    let (confirm, c) = read_flag(s, c)?;
+    let bytes = c.string(s).ok()?;
+    let fields = bytes.next.string(s).ok()?;
+    let comment = fields.next.string(s).ok()?;
+    let (want, next) = comment.next.number(s).ok()?;
+    let start = fields.from.saturating_sub(1);
+    let carried = Carried {
+        places: Places {
+            front: 0,
+            swap: 0,
+            back: 0,
+            end: fields.to.saturating_sub(start),
         },
-        next,
-    )
-}
-
-pub(crate) fn read_task(s: &[u8], c: Cursor) -> Tasked {
-    let Octet::Value(op, a) = c.byte(s) else {
-        return Tasked::Malformed;
-    };
-    let Subjected::Value(subject, b) = read_subject(s, a) else {
-        return Tasked::Malformed;
-    };
-    let Part::Whole {
-        from: bf,
-        to: bt,
-        next: d,
-    } = b.string(s)
-    else {
-        return Tasked::Malformed;
-    };
-    let Part::Whole {
-        from: ff,
-        to: ft,
-        next: e,
-    } = d.string(s)
-    else {
-        return Tasked::Malformed;
-    };
-    let Part::Whole {
-        from: cf,
-        to: ct,
-        next: g,
-    } = e.string(s)
-    else {
-        return Tasked::Malformed;
-    };
-    let Number::Value(want, next) = g.number(s) else {
-        return Tasked::Malformed;
-    };
-    Tasked::Value(
-        Task {
-            op,
-            subject,
-            bytes: Span { from: bf, to: bt },
-            fields: Span { from: ff, to: ft },
-            comment: Span { from: cf, to: ct },
-            want,
+        comment: Span {
+            from: comment.from.saturating_sub(start),
+            to: comment.to.saturating_sub(start),
         },
-        next,
-    )
+        lifetime: limited.then_some(Seconds { count: value }),
+        confirm,
+    };
+    let task = Task {
+        op,
+        part,
+        place,
+        value,
+        bytes: cut(s, bytes.from, bytes.to),
+        payload: cut(s, start, comment.to),
+        carried,
+        want,
+    };
+    Some((task, next))
 }

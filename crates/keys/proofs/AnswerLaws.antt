@@ -5,13 +5,12 @@ use mathlib.Core.Bool.{Bool}
 use mathlib.Core.Option.{Option, none, some}
 use mathlib.Core.List.{List}
 use Rattle.keys.specs.declared.kinds.Kind.{Kind}
-use Rattle.keys.specs.declared.kinds.Blob.{Blob}
-use Rattle.keys.specs.declared.constraints.Lifetime.{Lifetime}
-use Rattle.keys.specs.declared.constraints.Lifetime.TheVariants.{Forever, For}
 use Rattle.keys.specs.declared.constraints.Walk.{Walk}
 use Rattle.keys.specs.declared.constraints.Walk.TheVariants.{Done, Duplicate, Unknown, Cut}
 use Rattle.wire.specs.Read.{same}
-use Rattle.keys.specs.Kinds.{kind_of}
+use Rattle.std.proofs.Common.{Some, None}
+use Rattle.keys.specs.Kinds.{Blob, kind_of}
+use Rattle.keys.specs.Constraints.{Lifetime}
 use Rattle.keys.specs.Values.{type_of, blob_says, seconds_in, Limits, Walked, ended, second_lifetime, unknown_byte, cut_seconds, walk_says}
 use Rattle.keys.specs.Promises.{KeyAnswersApart}
 
@@ -33,20 +32,20 @@ kind_again Kind.Rsa = refl
 kind_again Kind.Other = refl
 
 abbrev blob_back : Option ℕ → Blob
-blob_back none = Blob.TooLong
-blob_back (some n) = Blob.Length n
+blob_back none = None
+blob_back (some n) = Some n
 
 blob_again : (b : Blob) → blob_back (blob_says b) ≡ b
-blob_again (Blob.Length n) = refl
-blob_again Blob.TooLong = refl
+blob_again (Some n) = refl
+blob_again None = refl
 
 abbrev lifetime_back : Option ℕ → Lifetime
-lifetime_back none = Forever
-lifetime_back (some n) = For (record { count = n })
+lifetime_back none = None
+lifetime_back (some n) = Some (record { count = n })
 
 lifetime_again : (l : Lifetime) → lifetime_back (seconds_in l) ≡ l
-lifetime_again Forever = refl
-lifetime_again (For seconds) = refl
+lifetime_again None = refl
+lifetime_again (Some seconds) = refl
 
 abbrev walk_back : Walked → Walk
 walk_back (ended limits) = Done (lifetime_back limits.seconds) limits.confirm

@@ -8,19 +8,20 @@ use mathlib.Core.Option.{some}
 use native.Mathlib.Omega.{arith}
 use lib.ListN.{length, drop, length-append, length-drop}
 use Rattle.wire.specs.declared.read.Cursor.{Cursor}
+use Rattle.std.proofs.Common.{Result, Ok, Err}
+use Rattle.wire.specs.declared.read.Fault.{Fault}
 use Rattle.wire.specs.declared.read.Part.{Part}
-use Rattle.wire.specs.declared.read.Part.TheVariants.{Whole}
 use Rattle.wire.specs.Numbers.{Bytes}
 use Rattle.wire.specs.Values.{fault, part_reads}
 use Rattle.wire.specs.Read.{cut_of, string_at, mpint_at, same}
-use Rattle.wire.specs.Steps.{part}
+use Rattle.wire.specs.Steps.{faulted, part}
 use Rattle.wire.specs.Write.{string}
 use Rattle.wire.proofs.Laws.{mpint-fault}
+use Rattle.wire.proofs.Reading.{part_one, fault_one}
 use Rattle.wire.proofs.Strings.{lies_cut, behind, found, At, inside, Reads, string-stands, string-reads, mpint-reads}
 use Rattle.keys.specs.declared.kinds.Kind.{Kind}
 use Rattle.keys.specs.declared.kinds.Places.{Places}
-use Rattle.keys.specs.declared.kinds.Key.{Key}
-use Rattle.keys.specs.Kinds.{kind_of, ed25519_at, ecdsa_at, rsa_secrets_at, rsa_at, behind_type, key_at}
+use Rattle.keys.specs.Kinds.{Key, kind_of, ed25519_at, ecdsa_at, rsa_secrets_at, rsa_at, behind_type, key_at}
 use Rattle.keys.specs.Forms.{Curve, nistp256, nistp384, nistp521}
 use Rattle.keys.specs.Faults.{AskedOn, Asked, all, next, FieldStops, KeyStops, at_type, at_field}
 use Rattle.keys.specs.Values.{type_of, key_reads}
@@ -28,8 +29,8 @@ use Rattle.keys.specs.Promises.{KeyFault}
 use Rattle.keys.proofs.FieldLaws.{sized_reads, named_reads, point_reads, scalar-reads}
 use Rattle.keys.proofs.KeyLaws.{part-part, pair_rule, key-typed, named, kind_in, kind_out}
 
-same_place : {p q : ℕ} → Key.Fault p ≡ Key.Fault q → p ≡ q
-same_place e = cc
+same_place : {p q : ℕ} → ◌≡◌ {A = Key} (faulted p) (faulted q) → p ≡ q
+same_place e = fault_one e
 
 -- a string that stands at a place, where the bytes are not too many
 module _ {s : List ℕ} (bytes : Bytes s) (small : length s < 2 ^ 32) where
@@ -49,22 +50,22 @@ module _ {s : List ℕ} (bytes : Bytes s) (small : length s < 2 ^ 32) where
     goes_on before at v a asked x = record { vs = x.vs; stand = next before at v _ x.vs place asked a.lies.shape x.stand; none_there = x.none_there }
 
     -- a chain that came to a fault stopped at its first part, or went on
-    field : {T : List ℕ → Type 0} (before : List (List ℕ)) (at : ℕ) {r : Part} → Reads T s at r → ((v : List ℕ) → Asked k before v → T v)
-        → (z : ℕ → ℕ) (F : ℕ → ℕ → Cursor → Key) → ((i : ℕ) → r ≡ Part.Fault i → z i ≡ at) → part (λ i. Key.Fault (z i)) r F ≡ Key.Fault place
-        → ((v : List ℕ) → At s at v → T v → F (at + 4) (behind at v) (record { at = behind at v }) ≡ Key.Fault place → FieldStops k s before at place)
+    field : {T : List ℕ → Type 0} (before : List (List ℕ)) (at : ℕ) {r : Result Part Fault} → Reads T s at r → ((v : List ℕ) → Asked k before v → T v)
+        → (z : ℕ → ℕ) (F : ℕ → ℕ → Cursor → Key) → ((i : ℕ) → r ≡ faulted i → z i ≡ at) → part (λ i. faulted (z i)) r F ≡ faulted place
+        → ((v : List ℕ) → At s at v → T v → F (at + 4) (behind at v) (record { at = behind at v }) ≡ faulted place → FieldStops k s before at place)
         → FieldStops k s before at place
     unfolding part
     field before at {r} reads fits z F start e then = go r refl
       where
-        go : (q : Part) → r ≡ q → FieldStops k s before at place
-        go (Whole f t c) h = let (v, a, passed) = reads.taken f t c h in then v a passed (rw (reads.takes a passed) at e)
-        go (Part.Fault i) h =
+        go : (q : Result Part Fault) → r ≡ q → FieldStops k s before at place
+        go (Ok q) h = let (v, a, passed) = reads.taken q.from q.to q.next h in then v a passed (rw (reads.takes a passed) at e)
+        go (Err d) h =
             stops_here before at
             (λ v a asked. let taken = reads.takes a (fits v asked) in let x : ◌≡◌ {A = ℕ} 0 1 = cc in omega arith)
-            (sym (start i h) ∙ same_place (rw h at e))
+            (sym (start d.at h) ∙ same_place (rw h at e))
 
 -- an mpint that is none is a fault at its start
-mpint-start : (s : List ℕ) (at place : ℕ) → mpint_at s at ≡ Part.Fault place → place ≡ at
+mpint-start : (s : List ℕ) (at place : ℕ) → mpint_at s at ≡ faulted place → place ≡ at
 mpint-start s at place e = mpint-fault s at place (ap part_reads e)
 
 -- ## Ed25519
@@ -72,18 +73,18 @@ mpint-start s at place e = mpint-fault s at place (ap part_reads e)
 -- two strings at a place are one
 same-string : {s : List ℕ} {at : ℕ} {v w : List ℕ} → At s at v → At s at w → v ≡ w
 same-string {s} {at} {v} {w} a b =
-    let ends : behind at v ≡ behind at w = (let e = sym a.read ∙ b.read in cc) in
+    let ends : behind at v ≡ behind at w = (part_one (sym a.read ∙ b.read)).to in
     sym (lies_cut (inside a)) ∙ ap (cut_of s (at + 4)) ends ∙ lies_cut (inside b)
 
-not_cond : (q : Bool) (x place : ℕ) (y : Places) → cond q (Key.Whole y) (Key.Fault x) ≡ Key.Fault place → (q ≢ true) × (x ≡ place)
+not_cond : (q : Bool) (x place : ℕ) (y : Places) → cond q (Ok y) (faulted x) ≡ faulted place → (q ≢ true) × (x ≡ place)
 not_cond true x place y e = let z : ◌≡◌ {A = ℕ} 0 1 = cc in absurd (omega arith)
-not_cond false x place y e = ((λ never. let z : ◌≡◌ {A = ℕ} 0 1 = cc in omega arith), (cc))
+not_cond false x place y e = ((λ never. let z : ◌≡◌ {A = ℕ} 0 1 = cc in omega arith), same_place e)
 
 pair_size : (a v : List ℕ) → length a ≡ 32 → Asked Kind.Ed25519 (a ∷ []) v → length v ≡ 64
 pair_size a v size (seed, seed-size, is) = rw is (simp length-append (omega arith))
 
 module _ {s : List ℕ} (bytes : Bytes s) (small : length s < 2 ^ 32) (at place : ℕ) where
-  ed25519_stops : ed25519_at s at ≡ Key.Fault place → FieldStops Kind.Ed25519 s [] at place
+  ed25519_stops : ed25519_at s at ≡ faulted place → FieldStops Kind.Ed25519 s [] at place
   unfolding ed25519_at
   ed25519_stops e =
       field bytes small Kind.Ed25519 [] at (sized_reads bytes 32) (λ v h. h) (λ _. at) _ (λ _ _. refl) e λ a a_at a-size e.
@@ -98,7 +99,7 @@ module _ {s : List ℕ} (bytes : Bytes s) (small : length s < 2 ^ 32) (at place 
   -- ## ECDSA, over every curve
 
   module _ (k : Kind) (c : Curve) (asked : (before : List (List ℕ)) (v : List ℕ) → Asked k before v ≡ AskedOn c before v) where
-    ecdsa_stops : ecdsa_at s at c.name c.point c.scalar ≡ Key.Fault place → FieldStops k s [] at place
+    ecdsa_stops : ecdsa_at s at c.name c.point c.scalar ≡ faulted place → FieldStops k s [] at place
     unfolding ecdsa_at
     ecdsa_stops e =
         field bytes small k [] at (named_reads bytes c.name) (λ v h. rw (asked [] v) at h) (λ _. at) _ (λ _ _. refl) e λ v v-at v-name e.
@@ -110,7 +111,7 @@ module _ {s : List ℕ} (bytes : Bytes s) (small : length s < 2 ^ 32) (at place 
 
   -- ## RSA
 
-  rsa_stops : rsa_at s at ≡ Key.Fault place → FieldStops Kind.Rsa s [] at place
+  rsa_stops : rsa_at s at ≡ faulted place → FieldStops Kind.Rsa s [] at place
   unfolding rsa_at rsa_secrets_at
   rsa_stops r =
       field bytes small Kind.Rsa [] at (mpint-reads bytes) (λ v h. h.1) (λ _. at) _ (λ _ _. refl) r λ n n-at n-mpint r.
@@ -128,7 +129,7 @@ module _ {s : List ℕ} (bytes : Bytes s) (small : length s < 2 ^ 32) (at place 
 
 -- ## The promise
 
-behind-stops : {s : List ℕ} (bytes : Bytes s) (small : length s < 2 ^ 32) (k : Kind) (at from place : ℕ) → k ≢ Kind.Other → behind_type k s at from ≡ Key.Fault place
+behind-stops : {s : List ℕ} (bytes : Bytes s) (small : length s < 2 ^ 32) (k : Kind) (at from place : ℕ) → k ≢ Kind.Other → behind_type k s at from ≡ faulted place
     → FieldStops k s [] from place
 behind-stops bytes small Kind.Ed25519 at from place known e = ed25519_stops bytes small from place e
 behind-stops bytes small Kind.Nistp256 at from place known e = ecdsa_stops bytes small from place Kind.Nistp256 nistp256 (λ before v. refl) e
@@ -137,9 +138,9 @@ behind-stops bytes small Kind.Nistp521 at from place known e = ecdsa_stops bytes
 behind-stops bytes small Kind.Rsa at from place known e = rsa_stops bytes small from place e
 behind-stops bytes small Kind.Other at from place known e = absurd (known refl)
 
-pub fault_so : (s : List ℕ) (at : ℕ) (k : Key) (place : ℕ) → key_reads s at k ≡ fault place → k ≡ Key.Fault place
-fault_so s at (Key.Whole p) place e = let z : ◌≡◌ {A = ℕ} 0 1 = cc in absurd (omega arith)
-fault_so s at (Key.Fault i) place e = let h : i ≡ place = cc in ap Key.Fault h
+pub fault_so : (s : List ℕ) (at : ℕ) (k : Key) (place : ℕ) → key_reads s at k ≡ fault place → k ≡ faulted place
+fault_so s at (Ok p) place e = let z : ◌≡◌ {A = ℕ} 0 1 = cc in absurd (omega arith)
+fault_so s at (Err d) place e = let h : d.at ≡ place = cc in ap faulted h
 
 known : (k : Kind) → (k ≡ Kind.Other) ⊎ (k ≢ Kind.Other)
 known Kind.Ed25519 = inr (λ never. let z : ◌≡◌ {A = ℕ} 0 1 = cc in omega arith)
@@ -156,7 +157,7 @@ pub key-fault : KeyFault
 unfolding key_at part
 key-fault s at place bytes small reads = by_type (string_at s at) refl (fault_so s at (key_at s at) place reads)
   where
-    by_kind : (v : List ℕ) → At s at v → (kind_of v ≡ Kind.Other) ⊎ (kind_of v ≢ Kind.Other) → behind_type (kind_of v) s at (behind at v) ≡ Key.Fault place → KeyStops s at place
+    by_kind : (v : List ℕ) → At s at v → (kind_of v ≡ Kind.Other) ⊎ (kind_of v ≢ Kind.Other) → behind_type (kind_of v) s at (behind at v) ≡ faulted place → KeyStops s at place
     by_kind v a (inl is) e =
         subst (KeyStops s at) (same_place (rw is at e)) (at_type λ k name rest typed shape.
         let same_name : name ≡ v = same-string (at_of bytes small name rest shape) a in
@@ -164,9 +165,9 @@ key-fault s at place bytes small reads = by_type (string_at s at) refl (fault_so
     by_kind v a (inr isnt) e =
         at_field (kind_of v) v _ place (kind_in (kind_of v) v isnt (named v)) a.lies.shape (behind-stops bytes small (kind_of v) at (behind at v) place isnt e)
 
-    by_type : (p : Part) → string_at s at ≡ p → key_at s at ≡ Key.Fault place → KeyStops s at place
-    by_type (Whole f t c) h e = let (v, a, _) = (string-reads bytes).taken f t c h in by_kind v a (known (kind_of v)) (sym (key-typed a) ∙ e)
-    by_type (Part.Fault i) h e =
+    by_type : (p : Result Part Fault) → string_at s at ≡ p → key_at s at ≡ faulted place → KeyStops s at place
+    by_type (Ok p) h e = let (v, a, _) = (string-reads bytes).taken p.from p.to p.next h in by_kind v a (known (kind_of v)) (sym (key-typed a) ∙ e)
+    by_type (Err d) h e =
         subst (KeyStops s at) (same_place (rw h at e)) (at_type λ k name rest typed shape.
         let there : string_at s at ≡ found at name = (at_of bytes small name rest shape).read in
         let z : ◌≡◌ {A = ℕ} 0 1 = cc in

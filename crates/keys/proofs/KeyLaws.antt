@@ -8,20 +8,20 @@ use mathlib.Core.Option.{some}
 use native.Mathlib.Omega.{arith}
 use lib.ListN.{length, take, drop, length-append, length-take, length-drop, take-append-drop}
 use Rattle.wire.specs.declared.read.Cursor.{Cursor}
+use Rattle.std.proofs.Common.{Result, Ok, Err}
+use Rattle.wire.specs.declared.read.Fault.{Fault}
 use Rattle.wire.specs.declared.read.Part.{Part}
-use Rattle.wire.specs.declared.read.Part.TheVariants.{Whole}
 use Rattle.wire.specs.Numbers.{Bytes}
 use Rattle.wire.specs.Texts.{bytes}
 use Rattle.wire.specs.Read.{cut_of, same}
-use Rattle.wire.specs.Steps.{part}
+use Rattle.wire.specs.Steps.{faulted, part}
 use Rattle.wire.specs.Write.{string}
 use Rattle.wire.specs.Values.{read}
 use Rattle.wire.proofs.Reading.{same_true, same_refl}
 use Rattle.wire.proofs.Strings.{Lies, lies_none, lies_join, lies_split, lies_cut, behind, At, Reads, string-stands, string-reads, inside, mpint-reads}
 use Rattle.keys.specs.declared.kinds.Kind.{Kind}
 use Rattle.keys.specs.declared.kinds.Places.{Places}
-use Rattle.keys.specs.declared.kinds.Key.{Key}
-use Rattle.keys.specs.Kinds.{kind_of, ed25519_at, ecdsa_at, rsa_secrets_at, rsa_at, behind_type, key_at, blob_of}
+use Rattle.keys.specs.Kinds.{Key, kind_of, ed25519_at, ecdsa_at, rsa_secrets_at, rsa_at, behind_type, key_at, blob_of}
 use Rattle.keys.specs.Forms.{Ed25519, ed25519_key, Curve, nistp256, nistp384, nistp521, ecdsa_type, Ecdsa, ecdsa_key, Rsa, rsa_key, KeyFields, as_ed25519, as_nistp256, as_nistp384, as_nistp521, as_rsa}
 use Rattle.keys.specs.Values.{type_of, key_reads}
 use Rattle.keys.specs.Promises.{KindRule, KeyRule, OneBlob}
@@ -30,34 +30,34 @@ use Rattle.keys.proofs.FieldLaws.{sized_reads, named_reads, scalar-reads, point_
 -- ## Steps
 
 -- a chain that came to a key took its first part
-took : {T : List ℕ → Type 0} {s : List ℕ} {at : ℕ} {r : Part} {C : Type 0} → Reads T s at r
-    → (z : ℕ → ℕ) (F : ℕ → ℕ → Cursor → Key) (p : Places) → part (λ i. Key.Fault (z i)) r F ≡ Key.Whole p
-    → ((v : List ℕ) → At s at v → T v → F (at + 4) (behind at v) (record { at = behind at v }) ≡ Key.Whole p → C) → C
+took : {T : List ℕ → Type 0} {s : List ℕ} {at : ℕ} {r : Result Part Fault} {C : Type 0} → Reads T s at r
+    → (z : ℕ → ℕ) (F : ℕ → ℕ → Cursor → Key) (p : Places) → part (λ i. faulted (z i)) r F ≡ Ok p
+    → ((v : List ℕ) → At s at v → T v → F (at + 4) (behind at v) (record { at = behind at v }) ≡ Ok p → C) → C
 unfolding part
 took {r = r} {C = C} reads z F p e then = go r refl
   where
-    go : (q : Part) → r ≡ q → C
-    go (Whole f t k) h = let (v, a, passed) = reads.taken f t k h in then v a passed (rw (reads.takes a passed) at e)
-    go (Part.Fault i) h = let x : ◌≡◌ {A = ℕ} 0 1 = (let g = rw h at e in cc) in absurd (omega arith)
+    go : (q : Result Part Fault) → r ≡ q → C
+    go (Ok q) h = let (v, a, passed) = reads.taken q.from q.to q.next h in then v a passed (rw (reads.takes a passed) at e)
+    go (Err d) h = let x : ◌≡◌ {A = ℕ} 0 1 = (let g = rw h at e in cc) in absurd (omega arith)
 
-took_cond : (q : Bool) (x : ℕ) (y p : Places) → cond q (Key.Whole y) (Key.Fault x) ≡ Key.Whole p → (q ≡ true) × (y ≡ p)
+took_cond : (q : Bool) (x : ℕ) (y p : Places) → cond q (Ok y) (faulted x) ≡ Ok p → (q ≡ true) × (y ≡ p)
 took_cond true x y p e = (refl, cc)
 took_cond false x y p e = let z : ◌≡◌ {A = ℕ} 0 1 = cc in absurd (omega arith)
 
-same-places : {y p : Places} → Key.Whole y ≡ Key.Whole p → y ≡ p
+same-places : {y p : Places} → ◌≡◌ {A = Key} (Ok y) (Ok p) → y ≡ p
 same-places e = cc
 
 -- a chain that goes on from another is one chain
-pub part-part : (r : Part) (F : ℕ → ℕ → Cursor → Part) (G : ℕ → ℕ → Cursor → Key) → part Key.Fault (part Part.Fault r F) G ≡ part Key.Fault r (λ f t k. part Key.Fault (F f t k) G)
+pub part-part : (r : Result Part Fault) (F : ℕ → ℕ → Cursor → Result Part Fault) (G : ℕ → ℕ → Cursor → Key) → part faulted (part faulted r F) G ≡ part faulted r (λ f t k. part faulted (F f t k) G)
 unfolding part
-part-part (Whole f t k) F G = refl
-part-part (Part.Fault at) F G = refl
+part-part (Ok p) F G = refl
+part-part (Err e) F G = refl
 
 -- ## What a key comes to
 
 -- the reader found these fields, where they end, and their blob
 pub record KeyFound (s : List ℕ) (at : ℕ) (fields blob : List ℕ) (p : Places) : Type 0 where
-  pub read_so : key_at s at ≡ Key.Whole p
+  pub read_so : key_at s at ≡ Ok p
   pub end : p.end ≡ at + length fields
   pub public : blob_of s at p ≡ blob
 
@@ -85,7 +85,7 @@ pub key-typed : {s : List ℕ} {at : ℕ} {v : List ℕ} → At s at v → key_a
 unfolding key_at part
 key-typed a = rw (a.read, lies_cut (inside a))
 
-key-found : {s : List ℕ} {at : ℕ} {v fields blob : List ℕ} {p : Places} → At s at v → Laid s at fields blob p → behind_type (kind_of v) s at (behind at v) ≡ Key.Whole p
+key-found : {s : List ℕ} {at : ℕ} {v fields blob : List ℕ} {p : Places} → At s at v → Laid s at fields blob p → behind_type (kind_of v) s at (behind at v) ≡ Ok p
     → (p : Places) × KeyFound s at fields blob p
 key-found {p = p} a l e = (p, record { read_so = key-typed a ∙ e; end = l.lies.end; public = l.public })
 
@@ -127,7 +127,7 @@ ed25519_laid : {s : List ℕ} {at f g h : ℕ} {name a x : List ℕ} → Lies s 
 ed25519_laid name a x = plain-laid (lies_join name a) (lies_join name (lies_join a x))
 
 module _ {s : List ℕ} (bytes_of : Bytes s) {at : ℕ} where
-  ed25519_in : (p : Places) → At s at (bytes "ssh-ed25519") → ed25519_at s (behind at (bytes "ssh-ed25519")) ≡ Key.Whole p → Keyed Ed25519 s at p
+  ed25519_in : (p : Places) → At s at (bytes "ssh-ed25519") → ed25519_at s (behind at (bytes "ssh-ed25519")) ≡ Ok p → Keyed Ed25519 s at p
   unfolding ed25519_at
   ed25519_in p type_at e =
       took (sized_reads bytes_of 32) _ _ p e λ a a_at a-size e.
@@ -154,7 +154,7 @@ ecdsa_laid : {s : List ℕ} {at f g h i : ℕ} {name curve q d : List ℕ} → L
 ecdsa_laid name curve q d = plain-laid (lies_join name (lies_join curve q)) (lies_join name (lies_join curve (lies_join q d)))
 
 module _ {s : List ℕ} (bytes_of : Bytes s) {at : ℕ} (c : Curve) where
-  ecdsa_in : (p : Places) → At s at (ecdsa_type c) → ecdsa_at s (behind at (ecdsa_type c)) c.name c.point c.scalar ≡ Key.Whole p → Keyed (Ecdsa c) s at p
+  ecdsa_in : (p : Places) → At s at (ecdsa_type c) → ecdsa_at s (behind at (ecdsa_type c)) c.name c.point c.scalar ≡ Ok p → Keyed (Ecdsa c) s at p
   unfolding ecdsa_at
   ecdsa_in p type_at e =
       took (named_reads bytes_of c.name) _ _ p e λ v v-at v-name e.
@@ -190,7 +190,7 @@ rsa_laid name n e d iqmp p q = record {
 }
 
 module _ {s : List ℕ} (bytes_of : Bytes s) {at : ℕ} where
-  rsa_in : (p : Places) → At s at (bytes "ssh-rsa") → rsa_at s (behind at (bytes "ssh-rsa")) ≡ Key.Whole p → Keyed Rsa s at p
+  rsa_in : (p : Places) → At s at (bytes "ssh-rsa") → rsa_at s (behind at (bytes "ssh-rsa")) ≡ Ok p → Keyed Rsa s at p
   unfolding rsa_at rsa_secrets_at
   rsa_in place type_at r =
       took (mpint-reads bytes_of) _ _ place r λ n n-at n-mpint r.
@@ -251,7 +251,7 @@ named v =
 any_kind : {K : List ℕ → List ℕ → Type 0} {s : List ℕ} {at : ℕ} {p : Places} → Keyed K s at p → ((fields blob : List ℕ) → K fields blob → KeyFields fields blob) → Keyed KeyFields s at p
 any_kind (fields, blob, k, l) as-kind = (fields, blob, as-kind fields blob k, l)
 
-behind-in : {s : List ℕ} {at : ℕ} {p : Places} (v : List ℕ) (k : Kind) → Bytes s → At s at v → Named k v → behind_type k s at (behind at v) ≡ Key.Whole p → Keyed KeyFields s at p
+behind-in : {s : List ℕ} {at : ℕ} {p : Places} (v : List ℕ) (k : Kind) → Bytes s → At s at v → Named k v → behind_type k s at (behind at v) ≡ Ok p → Keyed KeyFields s at p
 behind-in {p = p} v Kind.Ed25519 bytes_of a n e = any_kind (ed25519_in bytes_of p (rw n at a) (rw n at e)) (λ f b. as_ed25519)
 behind-in {p = p} v Kind.Nistp256 bytes_of a n e = any_kind (ecdsa_in bytes_of nistp256 p (rw n at a) (rw n at e)) (λ f b. as_nistp256)
 behind-in {p = p} v Kind.Nistp384 bytes_of a n e = any_kind (ecdsa_in bytes_of nistp384 p (rw n at a) (rw n at e)) (λ f b. as_nistp384)
@@ -259,7 +259,7 @@ behind-in {p = p} v Kind.Nistp521 bytes_of a n e = any_kind (ecdsa_in bytes_of n
 behind-in {p = p} v Kind.Rsa bytes_of a n e = any_kind (rsa_in bytes_of p (rw n at a) (rw n at e)) (λ f b. as_rsa)
 behind-in v Kind.Other bytes_of a n e = let z : ◌≡◌ {A = ℕ} 0 1 = cc in absurd (omega arith)
 
-pub only_keys : (s : List ℕ) (at : ℕ) (p : Places) → Bytes s → key_at s at ≡ Key.Whole p
+pub only_keys : (s : List ℕ) (at : ℕ) (p : Places) → Bytes s → key_at s at ≡ Ok p
     → (fields : List ℕ) × (blob : List ℕ) × KeyFields fields blob × (drop at s ≡ fields ++ drop p.end s) × KeyFound s at fields blob p
 unfolding key_at
 only_keys s at p bytes_of e =
@@ -286,9 +286,9 @@ one_blob fields blob other bytes_of h k k' =
     sym found.public ∙ ap (blob_of fields 0) (same-places (sym found.read_so ∙ found'.read_so)) ∙ found'.public
 
 -- an answer that reads so is this one
-pub read_whole : (s : List ℕ) (at : ℕ) (k : Key) (blob : List ℕ) (end : ℕ) → key_reads s at k ≡ read blob end → (p : Places) × (k ≡ Key.Whole p) × (blob_of s at p ≡ blob) × (p.end ≡ end)
-read_whole s at (Key.Whole p) blob end e = (p, refl, (cc), (cc))
-read_whole s at (Key.Fault place) blob end e = let z : ◌≡◌ {A = ℕ} 0 1 = cc in absurd (omega arith)
+pub read_whole : (s : List ℕ) (at : ℕ) (k : Key) (blob : List ℕ) (end : ℕ) → key_reads s at k ≡ read blob end → (p : Places) × (k ≡ Ok p) × (blob_of s at p ≡ blob) × (p.end ≡ end)
+read_whole s at (Ok p) blob end e = (p, refl, (cc), (cc))
+read_whole s at (Err d) blob end e = let z : ◌≡◌ {A = ℕ} 0 1 = cc in absurd (omega arith)
 
 pub key-rule : KeyRule
 key-rule s at blob end bytes_of small = (

@@ -8,15 +8,14 @@ use native.Mathlib.Omega.{arith}
 use borrow.Author.Tests.{eqb-true, eqb-false, ne_eqb}
 use lib.Dec.{eqb}
 use lib.ListN.{length}
+use Rattle.std.proofs.Common.{Some, None}
 use Rattle.wire.specs.declared.Seconds.{Seconds}
 use Rattle.wire.specs.declared.Constraint.{Constraint}
 use Rattle.wire.specs.declared.Constraint.TheVariants.{KeyLifetime, Confirm}
 use Rattle.wire.specs.Numbers.{be, be32, Bytes}
 use Rattle.wire.proofs.Format.{be-of_be32, be32-of_be}
-use Rattle.keys.specs.declared.constraints.Lifetime.{Lifetime}
-use Rattle.keys.specs.declared.constraints.Lifetime.TheVariants.{Forever, For}
 use Rattle.keys.specs.declared.constraints.Walk.TheVariants.{Done, Unknown}
-use Rattle.keys.specs.Constraints.{once, walk_of, seconds_of}
+use Rattle.keys.specs.Constraints.{Lifetime, once, walk_of, seconds_of}
 use Rattle.keys.specs.Forms.{constraint_forms, Adds, none, lifetime, confirm}
 use Rattle.keys.specs.Values.{seconds_in, Walked, ended, walk_says}
 use Rattle.keys.specs.Promises.{Settles, end, twice, other, short, ConstraintRule}
@@ -55,8 +54,8 @@ module _ {at : ℕ} {r : Walked} where
   at_once {s} {l} {c} h = record { cs = []; l = l; c = c; rest = s; form = refl; adds = none l c; settles = subst (λ (i : ℕ). Settles i s l c r) (omega arith) h }
 
   -- a lifetime in front
-  limit : (seconds : Seconds) (c₀ : Bool) (s : List ℕ) → seconds.count < 2 ^ 32 → Settled (at + 1 + 4) s (For seconds) c₀ r
-      → Settled at (1 ∷ be32 seconds.count ++ s) Forever c₀ r
+  limit : (seconds : Seconds) (c₀ : Bool) (s : List ℕ) → seconds.count < 2 ^ 32 → Settled (at + 1 + 4) s (Some seconds) c₀ r
+      → Settled at (1 ∷ be32 seconds.count ++ s) None c₀ r
   limit seconds c₀ s h x = record {
     cs = KeyLifetime seconds ∷ x.cs;
     l = x.l;
@@ -68,8 +67,8 @@ module _ {at : ℕ} {r : Walked} where
   }
 
   -- four bytes as the seconds of a lifetime
-  seconds_limit : (w x y z : ℕ) (s : List ℕ) (c₀ : Bool) → Bytes (w ∷ x ∷ y ∷ z ∷ s) → Settled (at + 1 + 4) s (For (record { count = be w x y z })) c₀ r
-      → Settled at (1 ∷ w ∷ x ∷ y ∷ z ∷ s) Forever c₀ r
+  seconds_limit : (w x y z : ℕ) (s : List ℕ) (c₀ : Bool) → Bytes (w ∷ x ∷ y ∷ z ∷ s) → Settled (at + 1 + 4) s (Some (record { count = be w x y z })) c₀ r
+      → Settled at (1 ∷ w ∷ x ∷ y ∷ z ∷ s) None c₀ r
   seconds_limit w x y z s c₀ bytes h =
       let small : be w x y z < 2 ^ 32 = omega (arith, bytes 0, bytes 1, bytes 2, bytes 3) in
       let whole : 1 ∷ be32 (be w x y z) ++ s ≡ 1 ∷ w ∷ x ∷ y ∷ z ∷ s = ap (λ (f : List ℕ). 1 ∷ f ++ s) (be32-of_be w x y z (bytes 0) (bytes 1) (bytes 2) (bytes 3)) in
@@ -88,15 +87,15 @@ module _ {at : ℕ} {r : Walked} where
   }
 
 -- by the next byte
-by_byte : (at b : ℕ) (s : List ℕ) (l₀ : Lifetime) (c₀ : Bool) → Settled at (1 ∷ s) Forever c₀ (walk_says (seconds_of (at + 1) s c₀))
+by_byte : (at b : ℕ) (s : List ℕ) (l₀ : Lifetime) (c₀ : Bool) → Settled at (1 ∷ s) None c₀ (walk_says (seconds_of (at + 1) s c₀))
     → Settled (at + 1) s l₀ true (walk_says (walk_of (at + 1) s l₀ true)) → Settled at (b ∷ s) l₀ c₀ (walk_says (walk_of at (b ∷ s) l₀ c₀))
 unfolding walk_of
 by_byte at b s l₀ c₀ seconds rest = go l₀ (eqb b 1) refl (eqb b 2) refl rest
   where
     go : (l₀ : Lifetime) (q : Bool) → eqb b 1 ≡ q → (p : Bool) → eqb b 2 ≡ p → Settled (at + 1) s l₀ true (walk_says (walk_of (at + 1) s l₀ true))
         → Settled at (b ∷ s) l₀ c₀ (walk_says (cond q (once l₀ at (seconds_of (at + 1) s c₀)) (cond p (walk_of (at + 1) s l₀ true) (Unknown at))))
-    go Forever true h p k rest = rw (eqb-true b 1 h) seconds
-    go (For n) true h p k rest = rw (eqb-true b 1 h) (at_once (twice n c₀ s))
+    go None true h p k rest = rw (eqb-true b 1 h) seconds
+    go (Some n) true h p k rest = rw (eqb-true b 1 h) (at_once (twice n c₀ s))
     go l₀ false h true k rest = rw (eqb-true b 2 k) (confirm_first l₀ c₀ s rest)
     go l₀ false h false k rest = at_once (other l₀ c₀ b s (eqb-false b 1 h) (eqb-false b 2 k))
 
@@ -108,17 +107,17 @@ mutual
   walk_settles at (b ∷ s) l₀ c₀ bytes =
       by_byte at b s l₀ c₀ (seconds_settle at s c₀ (λ i. bytes (suc i))) (walk_settles (at + 1) s l₀ true (λ i. bytes (suc i)))
 
-  seconds_settle : (at : ℕ) (s : List ℕ) (c₀ : Bool) → Bytes s → Settled at (1 ∷ s) Forever c₀ (walk_says (seconds_of (at + 1) s c₀))
+  seconds_settle : (at : ℕ) (s : List ℕ) (c₀ : Bool) → Bytes s → Settled at (1 ∷ s) None c₀ (walk_says (seconds_of (at + 1) s c₀))
   seconds_settle at [] c₀ bytes = at_once (short c₀ [] (omega arith))
   seconds_settle at (w ∷ []) c₀ bytes = at_once (short c₀ (w ∷ []) (omega arith))
   seconds_settle at (w ∷ x ∷ []) c₀ bytes = at_once (short c₀ (w ∷ x ∷ []) (omega arith))
   seconds_settle at (w ∷ x ∷ y ∷ []) c₀ bytes = at_once (short c₀ (w ∷ x ∷ y ∷ []) (omega arith))
   seconds_settle at (w ∷ x ∷ y ∷ z ∷ s) c₀ bytes =
-      seconds_limit w x y z s c₀ bytes (walk_settles (at + 1 + 4) s (For (record { count = be w x y z })) c₀ (λ i. bytes (suc (suc (suc (suc i))))))
+      seconds_limit w x y z s c₀ bytes (walk_settles (at + 1 + 4) s (Some (record { count = be w x y z })) c₀ (λ i. bytes (suc (suc (suc (suc i))))))
 
 pub constraint_rule : ConstraintRule
 constraint_rule at s r bytes = (
-  (λ e. let x = rw e at (walk_settles at s Forever false bytes) in (x.cs, x.l, x.c, x.rest, x.form, x.adds, x.settles)),
+  (λ e. let x = rw e at (walk_settles at s None false bytes) in (x.cs, x.l, x.c, x.rest, x.form, x.adds, x.settles)),
   (λ (cs, l, c, rest, form, adds, settles). rw form (ap walk_says (walk_on at rest adds) ∙ settles_says settles)),
 )
 
@@ -133,12 +132,12 @@ ended_so (other l c byte rest one two) e = let z : ◌≡◌ {A = ℕ} 0 1 = cc 
 ended_so (short c rest h) e = let z : ◌≡◌ {A = ℕ} 0 1 = cc in absurd (omega arith)
 
 pub walk_rule : (at : ℕ) (s : List ℕ) (l : Lifetime) (c : Bool) → Bytes s
-    → (walk_of at s Forever false ≡ Done l c) ↔ ((cs : List Constraint) × (s ≡ constraint_forms cs) × Adds Forever false cs l c)
+    → (walk_of at s None false ≡ Done l c) ↔ ((cs : List Constraint) × (s ≡ constraint_forms cs) × Adds None false cs l c)
 walk_rule at s l c bytes =
     let rule = constraint_rule at s (walk_says (Done l c)) bytes in (
       (λ e.
           let (cs, m, d, rest, form, adds, settles) = rule.0 (ap walk_says e) in
           let (nothing, same-lifetime, same-confirm) = ended_so {m = l} {d = c} settles refl in
           (cs, form ∙ rw nothing (append-nil (constraint_forms cs)), rw (same-lifetime, same-confirm) at adds)),
-      (λ (cs, form, adds). key-answers_apart.walks (walk_of at s Forever false) (Done l c) (rule.1 (cs, l, c, [], form ∙ sym (append-nil (constraint_forms cs)), adds, end l c))),
+      (λ (cs, form, adds). key-answers_apart.walks (walk_of at s None false) (Done l c) (rule.1 (cs, l, c, [], form ∙ sym (append-nil (constraint_forms cs)), adds, end l c))),
     )

@@ -1,15 +1,14 @@
 -- Key fields as the draft lays them out (draft-ietf-sshm-ssh-agent, "Adding keys to the agent"), each beside the public blob of that key
 -- (RFC 4253, section 6.6; RFC 5656, section 3.1; RFC 8709, section 4), and constraints.
-use Rattle.std.specs.Prelude.{ℕ, ◌^◌, ◌<◌, ◌≡◌, List, [], ◌∷◌, ◌++◌, Bool, true, length}
+use Rattle.std.specs.Prelude.{ℕ, ◌^◌, ◌<◌, ◌≡◌, List, [], ◌∷◌, ◌++◌, Bool, true, Some, None, length}
 use Rattle.wire.specs.declared.Seconds.{Seconds}
 use Rattle.wire.specs.declared.Constraint.{Constraint}
 use Rattle.wire.specs.declared.Constraint.TheVariants.{KeyLifetime, Confirm}
 use Rattle.wire.specs.Texts.{bytes}
 use Rattle.wire.specs.Mpint.{Shortest, Positive}
 use Rattle.wire.specs.Write.{string}
+use Rattle.keys.specs.Constraints.{Lifetime}
 pub use Rattle.wire.specs.Constraints.{constraint_forms}
-use Rattle.keys.specs.declared.constraints.Lifetime.{Lifetime}
-use Rattle.keys.specs.declared.constraints.Lifetime.TheVariants.{Forever, For}
 
 -- ## Keys
 
@@ -73,5 +72,5 @@ pub data KeyFields : List ℕ → List ℕ → Type 0 where
 pub data Adds : Lifetime → Bool → List Constraint → Lifetime → Bool → Type 0 where
   none : (l : Lifetime) (c : Bool) → Adds l c [] l c
   lifetime : {c : Bool} {cs : List Constraint} {l : Lifetime} {c' : Bool} (seconds : Seconds) → seconds.count < 2 ^ 32
-      → Adds (For seconds) c cs l c' → Adds Forever c (KeyLifetime seconds ∷ cs) l c'
+      → Adds (Some seconds) c cs l c' → Adds None c (KeyLifetime seconds ∷ cs) l c'
   confirm : {l : Lifetime} (c : Bool) {cs : List Constraint} {l' : Lifetime} {c' : Bool} → Adds l true cs l' c' → Adds l c (Confirm ∷ cs) l' c'

@@ -1,5 +1,5 @@
 -- What the readers of an add request promise, as statements; the proofs are in proofs/.
-use Rattle.std.specs.Prelude.{ℕ, ◌+◌, ◌^◌, ◌≤◌, ◌<◌, ◌≡◌, List, [], ◌∷◌, ◌++◌, Bool, true, false, ◌↔◌, ◌≢◌, length, drop}
+use Rattle.std.specs.Prelude.{ℕ, ◌+◌, ◌^◌, ◌≤◌, ◌<◌, ◌≡◌, List, [], ◌∷◌, ◌++◌, Bool, true, false, Some, None, ◌↔◌, ◌≢◌, length, drop}
 use Rattle.std.proofs.Math.Option.{Option, none, some}
 use Rattle.wire.specs.declared.Seconds.{Seconds}
 use Rattle.wire.specs.declared.Constraint.{Constraint}
@@ -9,13 +9,10 @@ use Rattle.wire.specs.Promises.{OneToOne}
 use Rattle.wire.specs.Read.{text_at}
 use Rattle.wire.specs.Write.{write}
 use Rattle.keys.specs.declared.kinds.Kind.{Kind}
-use Rattle.keys.specs.declared.kinds.Blob.{Blob}
 use Rattle.keys.specs.declared.kinds.Places.{Places}
-use Rattle.keys.specs.declared.constraints.Lifetime.{Lifetime}
-use Rattle.keys.specs.declared.constraints.Lifetime.TheVariants.{Forever, For}
 use Rattle.keys.specs.declared.constraints.Walk.{Walk}
-use Rattle.keys.specs.Kinds.{kind_of, key_at, blob_of, blob_answer, blob_left}
-use Rattle.keys.specs.Constraints.{walk_of}
+use Rattle.keys.specs.Kinds.{Blob, kind_of, key_at, blob_of, blob_answer, blob_left}
+use Rattle.keys.specs.Constraints.{Lifetime, walk_of}
 use Rattle.keys.specs.Additions.{addition_at}
 use Rattle.keys.specs.Values.{type_of, key_reads, blob_says, seconds_in, Walked, ended, second_lifetime, unknown_byte, cut_seconds, walk_says, fault_of, addition_reads}
 use Rattle.keys.specs.Forms.{KeyFields, constraint_forms, Adds}
@@ -58,16 +55,16 @@ BlobRule = (s : List ℕ) (at : ℕ) (p : Places) (out : List ℕ) → BlobWritt
 -- a byte is no constraint's; a lifetime's seconds are cut.
 pub data Settles (at : ℕ) : List ℕ → Lifetime → Bool → Walked → Type 0 where
   end : (l : Lifetime) (c : Bool) → Settles at [] l c (ended (record { seconds = seconds_in l; confirm = c }))
-  twice : (seconds : Seconds) (c : Bool) (rest : List ℕ) → Settles at (1 ∷ rest) (For seconds) c (second_lifetime at)
+  twice : (seconds : Seconds) (c : Bool) (rest : List ℕ) → Settles at (1 ∷ rest) (Some seconds) c (second_lifetime at)
   other : (l : Lifetime) (c : Bool) (byte : ℕ) (rest : List ℕ) → byte ≢ 1 → byte ≢ 2 → Settles at (byte ∷ rest) l c (unknown_byte at)
-  short : (c : Bool) (rest : List ℕ) → length rest < 4 → Settles at (1 ∷ rest) Forever c (cut_seconds (at + 1))
+  short : (c : Bool) (rest : List ℕ) → length rest < 4 → Settles at (1 ∷ rest) None c (cut_seconds (at + 1))
 
 -- "The walk over constraints stops at the first byte that settles it": it takes constraints as they are written, a lifetime once only, up to there.
 abbrev pub ConstraintRule : Type 0
 ConstraintRule =
     (at : ℕ) (s : List ℕ) (r : Walked) → Bytes s
-    → (walk_says (walk_of at s Forever false) ≡ r)
-    ↔ ((cs : List Constraint) × (l : Lifetime) × (c : Bool) × (rest : List ℕ) × (s ≡ constraint_forms cs ++ rest) × Adds Forever false cs l c
+    → (walk_says (walk_of at s None false) ≡ r)
+    ↔ ((cs : List Constraint) × (l : Lifetime) × (c : Bool) × (rest : List ℕ) × (s ≡ constraint_forms cs ++ rest) × Adds None false cs l c
     × Settles (at + length (constraint_forms cs)) rest l c r)
 
 -- ## Add requests: where the fault lies
@@ -78,7 +75,7 @@ pub record AdditionFaults (s : List ℕ) (at : ℕ) (constrained : Bool) (place 
   pub comment : (blob : List ℕ) (end : ℕ) → key_reads s at (key_at s at) ≡ read blob end → part_reads (text_at s end) ≡ fault place
       → addition_reads s at (addition_at s at constrained) ≡ fault place
   pub constraints : (blob : List ℕ) (end : ℕ) (text : Span) (next : ℕ) → key_reads s at (key_at s at) ≡ read blob end → part_reads (text_at s end) ≡ read text next
-      → constrained ≡ true → fault_of (walk_says (walk_of next (drop next s) Forever false)) ≡ some place
+      → constrained ≡ true → fault_of (walk_says (walk_of next (drop next s) None false)) ≡ some place
       → addition_reads s at (addition_at s at constrained) ≡ fault place
 
 abbrev pub AdditionFault : Type 0

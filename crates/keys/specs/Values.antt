@@ -1,17 +1,14 @@
 -- Answers in 01's words and numbers.
-use Rattle.std.specs.Prelude.{ℕ, Bool, List}
+use Rattle.std.specs.Prelude.{ℕ, Bool, List, Some, None, Ok, Err}
 use Rattle.std.proofs.Math.Option.{Option, none, some}
 use Rattle.wire.specs.Texts.{bytes}
 use Rattle.wire.specs.Values.{Reading, read, fault, Span}
 use Rattle.keys.specs.declared.kinds.Kind.{Kind}
-use Rattle.keys.specs.declared.kinds.Key.{Key}
-use Rattle.keys.specs.declared.kinds.Blob.{Blob}
-use Rattle.keys.specs.declared.constraints.Lifetime.{Lifetime}
-use Rattle.keys.specs.declared.constraints.Lifetime.TheVariants.{Forever, For}
 use Rattle.keys.specs.declared.constraints.Walk.{Walk}
 use Rattle.keys.specs.declared.constraints.Walk.TheVariants.{Done, Duplicate, Unknown, Cut}
-use Rattle.keys.specs.declared.addition.Addition.{Addition}
-use Rattle.keys.specs.Kinds.{blob_of}
+use Rattle.keys.specs.Kinds.{Key, Blob, blob_of}
+use Rattle.keys.specs.Constraints.{Lifetime}
+use Rattle.keys.specs.Additions.{Addition}
 
 -- the type string of each kind; "Other types are FAILURE."
 abbrev pub type_of : Kind → Option (List ℕ)
@@ -24,18 +21,18 @@ type_of Kind.Other = none
 
 -- the blob of key fields at `at`, and the place behind them
 abbrev pub key_reads : List ℕ → ℕ → Key → Reading (List ℕ)
-key_reads s at (Key.Whole p) = read (blob_of s at p) p.end
-key_reads s at (Key.Fault place) = fault place
+key_reads s at (Ok p) = read (blob_of s at p) p.end
+key_reads s at (Err e) = fault e.at
 
 -- the blob's length, where it fits
 abbrev pub blob_says : Blob → Option ℕ
-blob_says (Blob.Length n) = some n
-blob_says Blob.TooLong = none
+blob_says (Some n) = some n
+blob_says None = none
 
 -- the seconds of a lifetime
 abbrev pub seconds_in : Lifetime → Option ℕ
-seconds_in Forever = none
-seconds_in (For seconds) = some seconds.count
+seconds_in None = none
+seconds_in (Some seconds) = some seconds.count
 
 -- "perhaps a lifetime, and Confirm or not"
 pub record Limits : Type 0 where
@@ -69,6 +66,6 @@ pub record Added : Type 0 where
   pub limits : Limits
 
 abbrev pub addition_reads : List ℕ → ℕ → Addition → Reading Added
-addition_reads s at (Addition.Whole c) =
+addition_reads s at (Ok c) =
     read (record { blob = blob_of s at c.places; comment = record { from = c.comment.from; to = c.comment.to }; limits = record { seconds = seconds_in c.lifetime; confirm = c.confirm } }) c.places.end
-addition_reads s at (Addition.Fault place) = fault place
+addition_reads s at (Err e) = fault e.at

@@ -3,79 +3,56 @@
 ghost use Rattle.std.specs.Prelude.{◌≡◌};
 ghost use Rattle.keys.specs.Additions.{limits_of, commented_at, addition_at};
 
-use crate::constraints::{Lifetime, Walk, constraints};
-use crate::kinds::{Key, Places, key_at};
-use wire::read::{Cursor, Part};
-
-// Where a part of the request lies.
-#[derive(Clone, Copy)]
-pub struct Piece {
-    pub from: usize,
-    pub to: usize,
-}
+use crate::constraints::{Walk, constraints};
+use crate::kinds::{Places, key_at};
+use wire::Seconds;
+use wire::read::{Cursor, Fault, Span};
 
 // What an add request carries: where its key fields and its comment lie, its lifetime and Confirm.
 #[derive(Clone, Copy)]
 pub struct Carried {
     pub places: Places,
-    pub comment: Piece,
-    pub lifetime: Lifetime,
+    pub comment: Span,
+    pub lifetime: Option<Seconds>,
     pub confirm: bool,
 }
 
-#[derive(Clone, Copy)]
-pub enum Addition {
-    Whole(Carried),
-    Fault(usize),
-}
-
 // What the constraints say, or their fault.
-fn limited(places: Places, comment: Piece, walk: Walk) -> Addition
+fn limited(places: Places, comment: Span, walk: Walk) -> Result<Carried, Fault>
     ensures { result ≡ limits_of places comment walk }
 {
     match walk {
-        Walk::Done { lifetime, confirm } => Addition::Whole(Carried {
+        Walk::Done { lifetime, confirm } => Ok(Carried {
             places,
             comment,
             lifetime,
             confirm,
         }),
-        Walk::Duplicate(place) => Addition::Fault(place),
-        Walk::Unknown(place) => Addition::Fault(place),
-        Walk::Cut(place) => Addition::Fault(place),
+        Walk::Duplicate(at) | Walk::Unknown(at) | Walk::Cut(at) => Err(Fault { at }),
     }
 }
 
 // Behind the key fields: the comment, which must be UTF-8, and the constraints.
-fn commented(s: &[u8], places: Places, constrained: bool) -> Addition
+fn commented(s: &[u8], places: Places, constrained: bool) -> Result<Carried, Fault>
     ensures { result ≡ commented_at s.now places constrained }
 {
-    let comment = Cursor { at: places.end };
-    let text = comment.text(s);
-    match text {
-        Part::Whole { from, to, next } => {
-            let piece = Piece { from, to };
-            if constrained {
-                limited(places, piece, constraints(s, next.at))
-            } else {
-                Addition::Whole(Carried {
-                    places,
-                    comment: piece,
-                    lifetime: Lifetime::Forever,
-                    confirm: false,
-                })
-            }
+    let start = Cursor { at: places.end };
+    let text = start.text(s)?;
+    let comment = Span::from(text);
+    let walk = if constrained {
+        constraints(s, text.next.at)
+    } else {
+        Walk::Done {
+            lifetime: None,
+            confirm: false,
         }
-        Part::Fault(place) => Addition::Fault(place),
-    }
+    };
+    limited(places, comment, walk)
 }
 
-pub fn addition_at(s: &[u8], at: usize, constrained: bool) -> Addition
+pub fn addition_at(s: &[u8], at: usize, constrained: bool) -> Result<Carried, Fault>
     ensures { result ≡ addition_at s.now at constrained }
 {
-    let fields = key_at(s, at);
-    match fields {
-        Key::Whole(places) => commented(s, places, constrained),
-        Key::Fault(place) => Addition::Fault(place),
-    }
+    let places = key_at(s, at)?;
+    commented(s, places, constrained)
 }

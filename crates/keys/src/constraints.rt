@@ -1,21 +1,18 @@
 // Derived from keys/agent/server.rs of russh 0.65.0 (Apache-2.0), and changed: see NOTICE.
 // The constraints of an add request.
-ghost use Rattle.std.specs.Prelude.{◌≡◌, false, drop};
+ghost use Rattle.std.specs.Prelude.{◌≡◌, None, false, drop};
 ghost use Rattle.keys.specs.Constraints.{walk_of};
 
-use wire::read::{Cursor, Number};
+use wire::read::Cursor;
 use wire::{Seconds, msg};
 
-#[derive(Clone, Copy)]
-pub enum Lifetime {
-    Forever,
-    For(Seconds),
-}
-
-// What the walk yields; a fault has its place.
+// What the walk yields: the four ends that 01 names of its loop. A fault has its place.
 #[derive(Clone, Copy)]
 pub enum Walk {
-    Done { lifetime: Lifetime, confirm: bool },
+    Done {
+        lifetime: Option<Seconds>,
+        confirm: bool,
+    },
     Duplicate(usize),
     Unknown(usize),
     Cut(usize),
@@ -23,43 +20,34 @@ pub enum Walk {
 
 // The walk goes to the end of the bytes, and stops at the first byte that settles it.
 pub fn constraints(s: &[u8], from: usize) -> Walk
-    ensures { result ≡ walk_of from (drop from s.now) Lifetime.Forever false }
+    ensures { result ≡ walk_of from (drop from s.now) None false }
 {
     let mut at = from;
-    let mut lifetime = Lifetime::Forever;
+    let mut lifetime = None;
     let mut confirm = false;
-    let walk = loop {
+    loop {
         if s.len() <= at {
             break Walk::Done { lifetime, confirm };
         }
-        let kind = s[at];
-        match kind {
+        match s[at] {
             msg::CONSTRAIN_LIFETIME => {
-                match lifetime {
-                    Lifetime::Forever => {}
-                    Lifetime::For(_) => {
-                        break Walk::Duplicate(at);
-                    }
+                if lifetime.is_some() {
+                    break Walk::Duplicate(at);
                 }
                 let seconds = Cursor { at: at + 1 };
                 match seconds.number(s) {
-                    Number::Value(count, next) => {
-                        lifetime = Lifetime::For(Seconds { count });
+                    Ok((count, next)) => {
+                        lifetime = Some(Seconds { count });
                         at = next.at;
                     }
-                    Number::Fault(place) => {
-                        break Walk::Cut(place);
-                    }
+                    Err(fault) => break Walk::Cut(fault.at),
                 }
             }
             msg::CONSTRAIN_CONFIRM => {
                 confirm = true;
-                at = at + 1;
+                at += 1;
             }
-            _ => {
-                break Walk::Unknown(at);
-            }
+            _ => break Walk::Unknown(at),
         }
-    };
-    walk
+    }
 }

@@ -3,7 +3,7 @@ use Rattle.std.specs.Prelude.{ℕ, ◌≡◌, List}
 use Rattle.rule.specs.declared.Millis.{Millis}
 use Rattle.table.specs.declared.State.{State}
 use Rattle.table.specs.declared.Kept.{Kept}
-use Rattle.table.specs.Meaning.{held}
+use Rattle.table.specs.Meaning.{held, kept_in}
 use Rattle.requests.specs.declared.Answers.{Answers}
 use Rattle.requests.specs.declared.Landed.{Landed}
 use Rattle.server.specs.Calls.{Meets}
@@ -13,9 +13,6 @@ use Rattle.engine.specs.declared.first.Heard.{Heard}
 -- the arrays of s, and k beside them
 abbrev pub beside : State → Kept → State
 beside s k = held s.columns s.lock.bytes k
-
-abbrev pub kept_in : State → Kept
-kept_in s = record { clock = s.clock; next = s.next; locked = s.lock.len }
 
 -- the call is met by the arrays and what goes beside them; what is no array stays in the lent state
 pub record Lands (s : State) (k : Kept) (store payload : List ℕ) (reading : Millis) (answers : Answers) (signature buffer : List ℕ) (r : Landed) (z : State) (store_after reply : List ℕ) : Type 0 where

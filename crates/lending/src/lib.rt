@@ -7,7 +7,7 @@ ghost use Rattle.lending.specs.Lent.{Lands, Hears};
 
 use engine::call::call_lent;
 use engine::first::{Heard, first_lent};
-use requests::{Answers, Landed, Outcome};
+use requests::{Asked, Landed, Outcome};
 use rule::Millis;
 use server::first::First;
 use table::{Kept, State};
@@ -17,59 +17,28 @@ fn land(
     state: &mut State,
     kept: Kept,
     store: &mut [u8],
-    payload: &[u8],
-    reading: Millis,
-    answers: Answers,
-    signature: &[u8],
+    asked: Asked<'_>,
     reply: &mut [u8],
 ) -> Landed
-    ensures { Lands state.old kept store.old payload.now reading answers signature.now reply.old result state.new store.new reply.new }
+    ensures { Lands state.old kept store.old asked.entry.payload.now asked.entry.reading asked.entry.answers asked.entry.signature.now reply.old result state.new store.new reply.new }
 {
     call_lent(
-        &mut state.columns.numbers,
-        &mut state.columns.readings,
-        &mut state.columns.blob_lens,
-        &mut state.columns.fields_lens,
-        &mut state.columns.comment_lens,
-        &mut state.columns.seconds,
-        &mut state.columns.limited,
-        &mut state.columns.confirm,
+        &mut state.columns,
         &mut state.lock.bytes,
         kept,
         store,
-        payload,
-        reading,
-        answers,
-        signature,
+        asked,
         reply,
     )
 }
 
 // Calls the covered step, and stores the new state: what came back by value.
-pub fn serve(
-    state: &mut State,
-    store: &mut [u8],
-    payload: &[u8],
-    reading: Millis,
-    answers: Answers,
-    signature: &[u8],
-    reply: &mut [u8],
-) -> Outcome
-    ensures { Meets state.old store.old payload.now reading answers signature.now reply.old result state.new store.new reply.new }
+pub fn serve(state: &mut State, store: &mut [u8], asked: Asked<'_>, reply: &mut [u8]) -> Outcome
+    ensures { Meets state.old store.old asked.entry.payload.now asked.entry.reading asked.entry.answers asked.entry.signature.now reply.old result state.new store.new reply.new }
 {
-    let kept = Kept {
-        clock: Millis {
-            count: state.clock.count,
-        },
-        next: state.next,
-        locked: state.lock.len,
-    };
-    let r = land(
-        state, kept, store, payload, reading, answers, signature, reply,
-    );
-    state.clock.count = r.kept.clock.count;
-    state.next = r.kept.next;
-    state.lock.len = r.kept.locked;
+    let kept = state.kept();
+    let r = land(state, kept, store, asked, reply);
+    state.keep(r.kept);
     r.outcome
 }
 
@@ -85,14 +54,7 @@ fn hear(
     ensures { Hears state.old kept store.old bytes.now reading reply.old result state.new store.new reply.new }
 {
     first_lent(
-        &mut state.columns.numbers,
-        &mut state.columns.readings,
-        &mut state.columns.blob_lens,
-        &mut state.columns.fields_lens,
-        &mut state.columns.comment_lens,
-        &mut state.columns.seconds,
-        &mut state.columns.limited,
-        &mut state.columns.confirm,
+        &mut state.columns,
         &mut state.lock.bytes,
         kept,
         store,
@@ -112,16 +74,8 @@ pub fn serve_first(
 ) -> First
     ensures { FirstMeets state.old store.old bytes.now reading reply.old result state.new store.new reply.new }
 {
-    let kept = Kept {
-        clock: Millis {
-            count: state.clock.count,
-        },
-        next: state.next,
-        locked: state.lock.len,
-    };
+    let kept = state.kept();
     let r = hear(state, kept, store, bytes, reading, reply);
-    state.clock.count = r.kept.clock.count;
-    state.next = r.kept.next;
-    state.lock.len = r.kept.locked;
+    state.keep(r.kept);
     r.first
 }

@@ -6,8 +6,8 @@ use mathlib.Core.List.{List, [], ◌∷◌, map}
 use native.Mathlib.Omega.{arith}
 use lib.ListN.{length, take, drop, get_or}
 use Rattle.wire.specs.Limits.{entries_limit, store_size, comment_limit}
-use Rattle.keys.specs.declared.constraints.Lifetime.{Lifetime}
-use Rattle.keys.specs.declared.constraints.Lifetime.TheVariants.{Forever, For}
+use Rattle.keys.specs.Constraints.{Lifetime}
+use Rattle.std.specs.Prelude.{Some, None}
 use Rattle.rule.specs.declared.Millis.{Millis}
 use Rattle.rule.specs.Gateway.{Entry as Key}
 use Rattle.rule.specs.Words.{HeldAt}
@@ -97,9 +97,9 @@ module _ (s : State) (x : List ℕ) (S : Sound s x) (i : ℕ) (k : Key) (there :
 -- ## What is told of it
 
 -- a lifetime is read from what is kept of it
-lifetime_is : (l : Lifetime) → cond (is_set (limited_flag l)) (For (kept_seconds l)) Forever ≡ l
-lifetime_is Forever = refl
-lifetime_is (For seconds) = refl
+lifetime_is : (l : Lifetime) → cond (is_set (limited_flag l)) (Some (kept_seconds l)) None ≡ l
+lifetime_is None = refl
+lifetime_is (Some seconds) = refl
 
 -- figures and comment that are written as a key is, and the start of its bytes, tell that key
 pub told_is : (s : State) (i : ℕ) (left : Millis) (from : ℕ) (f : Figures) (c : Comment) (k : Key) → f ≡ figures_for k → c ≡ kept k.comment

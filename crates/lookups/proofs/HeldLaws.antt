@@ -12,11 +12,10 @@ use Rattle.wire.specs.declared.Seconds.{Seconds}
 use Rattle.wire.specs.Limits.{comment_limit}
 use Rattle.wire.specs.Read.{cut_of}
 use Rattle.wire.proofs.Reading.{le_or_lt}
-use Rattle.keys.specs.declared.constraints.Lifetime.{Lifetime}
-use Rattle.keys.specs.declared.constraints.Lifetime.TheVariants.{For}
+use Rattle.keys.specs.Constraints.{Lifetime}
+use Rattle.std.specs.Prelude.{Some, None}
 use Rattle.rule.specs.declared.Millis.{Millis}
-use Rattle.rule.specs.declared.Found.{Found}
-use Rattle.rule.specs.declared.Found.TheVariants.{At, Nothing}
+use Rattle.rule.specs.Gateway.{Found}
 use Rattle.rule.specs.Gateway.{Entry as Key, Gateway, millis_of, due_at, lasting, at_clock, later, advance, seek}
 use Rattle.rule.specs.Soundness as rule
 use Rattle.rule.specs.Soundness.{EveryEntry, Distinct, Fits, SoundEntry}
@@ -41,14 +40,14 @@ use Rattle.lookups.proofs.ToldLaws.{Numbered, number_there, key-unsound, key-abs
 
 module _ (ks : List Key) (d : Distinct ks) (i : ℕ) (k : Key) (there : Holds ks i k) where
   -- among distinct keys the search finds the one that has the number
-  pub number_found : seek (has_number k.number) 0 ks ≡ At i
+  pub number_found : seek (has_number k.number) 0 ks ≡ Some i
   number_found = by_end (seek (has_number k.number) 0 ks) refl
     where
-      by_end : (f : Found) → seek (has_number k.number) 0 ks ≡ f → f ≡ At i
-      by_end Nothing e =
+      by_end : (f : Found) → seek (has_number k.number) 0 ks ≡ f → f ≡ Some i
+      by_end None e =
           let none : has_number k.number k ≡ false = every_at (λ x. has_number k.number x ≡ false) ks (seek-none (has_number k.number) 0 ks e) i k there in
           absurd (true_not_false (sym (eq-eqb k.number k.number refl) ∙ none))
-      by_end (At j) e = ap At (by_position (same-or_other j i))
+      by_end (Some j) e = ap Some (by_position (same-or_other j i))
         where
           other : Numbered k.number ks j
           other = number_there k.number ks j e
@@ -156,7 +155,7 @@ module _ (g : Gateway) (i : ℕ) (k : Key) (there : HeldAt g i k) where
   unfolding advance at_clock
   early_stays reading early = lasting-keeps (later g.clock reading) g.entries i k there early
 
-  module _ (past : k.reading.count ≤ g.clock.count) (seconds : Seconds) (l : k.lifetime ≡ For seconds) (t : ℕ) where
+  module _ (past : k.reading.count ≤ g.clock.count) (seconds : Seconds) (l : k.lifetime ≡ Some seconds) (t : ℕ) where
     -- t more than the kept clock
     abbrev then : Millis
     then = record { count = g.clock.count + t }
@@ -197,7 +196,7 @@ left_rule s x k S (i, there) =
     subst (λ (r : HeldKey). LeftSays (gateway_of s x) k r.left) (sym (told-held s x i k S there))
     (left_says (gateway_of s x) i k there (key-sound s x i k S there).reading_past)
 
--- ## Nothing told
+-- ## None told
 
 nothing-zero : AllZero nothing
 unfolding nothing kept kept_comment padded
@@ -216,11 +215,11 @@ module _ (s : State) (x : List ℕ) (n : ℕ) where
   ended = by_test (sound_state s x) refl
     where
       by_search : sound_state s x ≡ true → (f : Found) → seek (has_number n) 0 (gateway_of s x).entries ≡ f → Ended s x n
-      by_search t Nothing e = untold (sym (key-absent s x n t e)) (λ S h.
+      by_search t None e = untold (sym (key-absent s x n t e)) (λ S h.
           let (i, there) = h.held in
           let found-there = number_found (gateway_of s x).entries (sound-meaning s x S).distinct i h.key there in
-          at_not_nothing (sym (subst (λ (m : ℕ). seek (has_number m) 0 (gateway_of s x).entries ≡ At i) h.number found-there) ∙ e))
-      by_search t (At i) e =
+          at_not_nothing (sym (subst (λ (m : ℕ). seek (has_number m) 0 (gateway_of s x).entries ≡ Some i) h.number found-there) ∙ e))
+      by_search t (Some i) e =
           let k = numbered-at s x n i e in
           let S = (sound_state-rule s x).0 t in
           let h : HeldUnder (gateway_of s x) n = record { key = k.key; held = (i, k.there); number = k.is } in

@@ -3,7 +3,7 @@ use Rattle.std.specs.Prelude.{ℕ, ◌+◌, ◌≤◌, ◌<◌, ◌≡◌, ◌�
 use Rattle.wire.specs.declared.Seconds.{Seconds}
 use Rattle.wire.specs.Limits.{comment_limit}
 use Rattle.wire.specs.Read.{cut_of}
-use Rattle.keys.specs.declared.constraints.Lifetime.TheVariants.{Forever, For}
+use Rattle.std.specs.Prelude.{Some, None}
 use Rattle.rule.specs.declared.Millis.{Millis}
 use Rattle.rule.specs.Gateway.{Entry as Key, Gateway, zero_millis, advance}
 use Rattle.rule.specs.Words.{Held}
@@ -36,8 +36,8 @@ pub record Tells (x : List ℕ) (k : Key) (r : HeldKey) : Type 0 where
   pub number : r.number ≡ k.number
   pub confirm : k.confirm ≡ true → r.confirm ≡ 1
   pub no_confirm : k.confirm ≡ false → r.confirm ≡ 0
-  pub limited : (seconds : Seconds) → k.lifetime ≡ For seconds → r.limited ≡ 1
-  pub unlimited : k.lifetime ≡ Forever → r.limited ≡ 0
+  pub limited : (seconds : Seconds) → k.lifetime ≡ Some seconds → r.limited ≡ 1
+  pub unlimited : k.lifetime ≡ None → r.limited ≡ 0
   pub blob : cut_of x r.blob_from r.blob_to ≡ k.blob
   pub fields : cut_of x r.fields_from r.fields_to ≡ k.fields
   pub comment : Says r.comment k.comment
@@ -48,9 +48,9 @@ KeyRule = (s : State) (x : List ℕ) (k : Key) → Sound s x → Held (gateway_o
 -- An accepted call first advances the gateway to its reading. At the kept clock and t more that lets a key with a lifetime go exactly where no more
 -- than t is left; one without a lifetime has nothing left, and never goes.
 pub record LeftSays (g : Gateway) (k : Key) (left : Millis) : Type 0 where
-  pub goes : (seconds : Seconds) (t : ℕ) → k.lifetime ≡ For seconds → (¬ Held (advance (record { count = g.clock.count + t }) g) k) ↔ (left.count ≤ t)
-  pub none_left : k.lifetime ≡ Forever → left ≡ zero_millis
-  pub stays : k.lifetime ≡ Forever → (reading : Millis) → Held (advance reading g) k
+  pub goes : (seconds : Seconds) (t : ℕ) → k.lifetime ≡ Some seconds → (¬ Held (advance (record { count = g.clock.count + t }) g) k) ↔ (left.count ≤ t)
+  pub none_left : k.lifetime ≡ None → left ≡ zero_millis
+  pub stays : k.lifetime ≡ None → (reading : Millis) → Held (advance reading g) k
 
 abbrev pub LeftRule : Type 0
 LeftRule =

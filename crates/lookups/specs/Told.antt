@@ -1,8 +1,8 @@
 -- What is told of the held keys, over what state and store mean.
 use Rattle.std.specs.Prelude.{ℕ, ◌+◌, ◌-◌, Bool, cond, List, [], ◌∷◌, length, leb, ltb, eqb}
 use Rattle.std.proofs.Math.Option.{Option, none, some}
-use Rattle.keys.specs.declared.constraints.Lifetime.{Lifetime}
-use Rattle.keys.specs.declared.constraints.Lifetime.TheVariants.{Forever, For}
+use Rattle.keys.specs.Constraints.{Lifetime}
+use Rattle.std.specs.Prelude.{Some, None}
 use Rattle.rule.specs.declared.Millis.{Millis}
 use Rattle.rule.specs.Gateway.{Entry as Key, zero_millis, millis_of, entry_at, seek, found}
 use Rattle.table.specs.declared.State.{State}
@@ -19,8 +19,8 @@ has_number n k = eqb k.number n
 
 -- what is left of a lifetime: "clock minus insertion reading" is used up
 unfoldable pub left_at : Millis → Millis → Lifetime → Millis
-left_at clock reading Forever = zero_millis
-left_at clock reading (For seconds) = record { count = (millis_of seconds).count - (clock.count - reading.count) }
+left_at clock reading None = zero_millis
+left_at clock reading (Some seconds) = record { count = (millis_of seconds).count - (clock.count - reading.count) }
 
 -- a comment and its length, the rest zero
 unfoldable pub kept : List ℕ → Comment

@@ -1,40 +1,21 @@
 // The held numbers in order of insertion. What is told is tested first: any state, any store.
-ghost use Rattle.std.specs.Prelude.{◌≡◌, List, ℕ};
-ghost use Rattle.table.specs.declared.State.{State};
-ghost use Rattle.table.specs.Meaning.{gateway_of};
-ghost use Rattle.lookups.specs.Told.{nearer, least_above, next_told};
+ghost use Rattle.std.specs.Prelude.{◌≡◌, ltb, min};
+ghost use Rattle.std.specs.List.{filter, reduce};
+ghost use Rattle.lookups.specs.Told.{next_told};
 
 use soundness::is_state_sound;
 use table::State;
 use table::entries::count;
 
-// Of an entry's number and the best one so far the lower that is above `after`; 0 is none.
-fn nearer(after: u64, number: u64, best: u64) -> u64
-    ensures { result ≡ nearer after number best }
+// The least of the numbers above `after`.
+fn least_above(numbers: &[u64], after: u64) -> Option<u64>
+    ensures { result ≡ reduce min (filter (λ number. ltb after number) numbers.now) }
 {
-    if number <= after {
-        return best;
-    }
-    if best == 0 {
-        return number;
-    }
-    if number < best {
-        return number;
-    }
-    best
-}
-
-// The least held number above `after`, 0 where there is none.
-fn least_above(numbers: &[u64], after: u64) -> u64
-    ensures { (s : State) (x : List ℕ) → s.columns.numbers ≡ numbers.now → result ≡ least_above after (gateway_of s x).entries }
-{
-    let mut best: u64 = 0;
-    let mut i = count(numbers);
-    while 0 < i {
-        i -= 1;
-        best = nearer(after, numbers[i], best);
-    }
-    best
+    numbers
+        .iter()
+        .copied()
+        .filter(|number| after < *number)
+        .min()
 }
 
 pub fn next_of(state: State, store: &[u8], after: u64) -> u64
@@ -43,7 +24,7 @@ pub fn next_of(state: State, store: &[u8], after: u64) -> u64
     if !is_state_sound(state, store) {
         return 0;
     }
-    let t = state.columns;
-    let numbers = t.numbers;
-    least_above(&numbers, after)
+    let numbers = &state.columns.numbers;
+    let n = count(numbers);
+    least_above(&numbers[..n], after).unwrap_or(0)
 }

@@ -1,12 +1,15 @@
--- How a list starts and ends.
+-- How a list starts and ends, by the definitions and by what a slice itself says.
 use Prim.Native.Nat.{ℕ, ◌+◌, ◌-◌, ◌≤◌, ◌<◌}
 use mathlib.Core.Path.{◌≡◌, refl, sym, ap, ◌∙◌}
 use mathlib.Core.List.{List, ◌++◌, append-nil}
-use mathlib.Core.Bool.{Bool, true}
+use mathlib.Core.Bool.{Bool, true, false}
 use mathlib.Core.Logic.{◌↔◌, ⊎_elim}
 use native.Mathlib.Omega.{arith}
 use borrow.Author.Tests.{le-leb, leb-true}
-use lib.Dec.{leb}
+use lib.Dec.{leb, eqb}
+use Rattle.std.specs.List.{starts_with, ends_with}
+use Rattle.std.proofs.lemmas.Bool.Decides.{Decides-eqb}
+use Rattle.std.proofs.lemmas.Slice.Eq.{starts_is, ends_is}
 use lib.ListN.{length, take, drop, length-append, length-drop, take-append-drop}
 use lib.Seq.{take_all, drop-length, drop_at}
 use Rattle.wire.specs.Read.{cut_of, same}
@@ -56,3 +59,20 @@ starts_rule v start = (
       let c : cut_of (start ++ w) 0 (length start) ≡ start = rw z at (lies_cut (lies_at (start ++ w) 0 start w (omega arith) refl).0) in
       rw (e, c) ((same-rule start start).1 refl)),
 )
+
+-- ## What a slice's own tests say
+
+same_bool : (a b : Bool) → (a ≡ true → b ≡ true) → (b ≡ true → a ≡ true) → a ≡ b
+same_bool true b f g = sym (f refl)
+same_bool false true f g = g refl
+same_bool false false f g = refl
+
+pub starts_same : (v start : List ℕ) → starts_with eqb v start ≡ starts_in v start
+starts_same v start =
+    let (whole, found) = starts_is Decides-eqb v start (starts_with eqb v start) refl in
+    same_bool _ _ (λ e. (starts_rule v start).1 (_, whole e)) (λ e. let (w, is) = (starts_rule v start).0 e in found w is)
+
+pub ends_same : (v end : List ℕ) → ends_with eqb v end ≡ ends_in v end
+ends_same v end =
+    let (whole, found) = ends_is Decides-eqb v end (ends_with eqb v end) refl in
+    same_bool _ _ (λ e. (ends_rule v end).1 (_, whole e)) (λ e. let (w, is) = (ends_rule v end).0 e in found w is)

@@ -8,7 +8,8 @@ use lib.Seq.{length-take-le}
 use Rattle.wire.specs.Numbers.{Bytes, be32}
 use Rattle.wire.specs.Write.{string}
 use Rattle.wire.proofs.ByteLaws.{bytes-none, bytes-cons, bytes-append, be32-bytes, bytes-string, octets_bytes}
-use Rattle.readers.specs.declared.Reach.TheVariants.{End}
+use Rattle.std.specs.Prelude.{Result, Ok}
+use Rattle.wire.specs.declared.read.Fault.{Fault}
 use Rattle.readers.specs.Identities.{items_at}
 use Rattle.readers.specs.Promises.{ItemForms, item, ListForm, HandsOut, Listed, listed_forms, list_payload, listed_blobs, listed_place, Listable, Each, WrittenListRead}
 use Rattle.readers.proofs.ReadRoundTrips.{forms_passed}
@@ -44,7 +45,7 @@ items-split (suc i) (e ∷ es) =
     ∙ ap (λ (t : List ℕ). blob ++ t) (sym (append_assoc comment front rest))
     ∙ sym (append_assoc blob (comment ++ front) rest)
 
-same_end : {a b : ℕ} → End a ≡ End b → a ≡ b
+same_end : {a b : ℕ} → ◌≡◌ {A = Result ℕ Fault} (Ok a) (Ok b) → a ≡ b
 same_end e = cc
 
 -- ## The reader
@@ -64,7 +65,7 @@ module _ (es : List Listed) (h : Each Listable es) (few : length es < 2 ^ 32) wh
 
   -- items that stand from the first one on end where their forms do
   passed : {blobs : List (List ℕ)} {forms : List ℕ} (i : ℕ) (rest : List ℕ) → i ≡ length blobs → ItemForms blobs forms → listed_forms es ≡ forms ++ rest
-      → items_at i (list_payload es) 5 ≡ End (5 + length forms)
+      → items_at i (list_payload es) 5 ≡ Ok (5 + length forms)
   unfolding items_at
   passed i rest z whole e = forms_passed (list_payload es) small 5 i 0 rest (omega arith) whole e
 

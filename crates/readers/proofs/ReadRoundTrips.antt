@@ -12,6 +12,7 @@ use Rattle.wire.specs.Abnf.{Octets}
 use Rattle.wire.specs.Read.{number_at, string_at, text_at}
 use Rattle.wire.specs.Steps.{number, part}
 use Rattle.wire.specs.Write.{string}
+use Rattle.wire.specs.declared.refusal.Refusal.{Refusal}
 use Rattle.wire.specs.declared.refusal.Refusal.TheVariants.{Malformed}
 use Rattle.wire.specs.Refusals.{grants}
 use Rattle.wire.proofs.Reading.{number_read, number_cut}
@@ -20,9 +21,9 @@ use Rattle.wire.proofs.ByteLaws.{bytes-cons}
 use Rattle.wire.proofs.Strings.{Lies, lies_at, lies_none, lies_cut, behind, found, At, inside, string-stands, string-reads, lies_next, text_reads, took, string-missing, text_missing, no_text}
 use Rattle.wire.proofs.Cases.{part-cases, number_cases}
 use Rattle.wire.proofs.RefusalLaws.{not_granted}
-use Rattle.readers.specs.declared.Reach.{Reach}
-use Rattle.readers.specs.declared.Reach.TheVariants.{End, Fault}
-use Rattle.readers.specs.declared.identities.Listing.{Listing}
+use Rattle.std.specs.Prelude.{Result, Ok, Err}
+use Rattle.wire.specs.declared.read.Fault.{Fault}
+use Rattle.wire.specs.Steps.{faulted}
 use Rattle.readers.specs.Reaches.{reach}
 use Rattle.readers.specs.Values.{listing_says}
 use Rattle.readers.specs.Identities.{items_at, count_of, counted, item_at, item_of, blob_of_item, certificate, certificate_end}
@@ -44,7 +45,7 @@ pub record Standing (s : List ℕ) (at : ℕ) (blobs : List (List ℕ)) (all : L
   pub after : List ℕ
   pub items : ItemForms (take i blobs) before
   pub split : all ≡ before ++ (string (get_or blobs i []) ++ after)
-  pub passed : items_at i s at ≡ End (at + length before)
+  pub passed : items_at i s at ≡ Ok (at + length before)
   pub here : At s (at + length before) (get_or blobs i [])
 
 join : (a b c d e : List ℕ) → b ++ c ≡ d ++ e → (a ++ b) ++ c ≡ (a ++ d) ++ e
@@ -85,7 +86,7 @@ module _ (s : List ℕ) (small : Bytes s) where
           after = (string comment ++ forms) ++ rest;
           items = ItemForms.none;
           split = append_assoc (string blob) (string comment ++ forms) rest;
-          passed = ap End (sym start);
+          passed = ap Ok (sym start);
           here = rw start x.here;
         }
 
@@ -100,7 +101,7 @@ module _ (s : List ℕ) (small : Bytes s) where
           after = y.after;
           items = item blob comment h k o y.items;
           split = join (string blob) (string comment ++ forms) rest (string comment ++ front) tail (join (string comment) forms rest front tail y.split);
-          passed = x.passed i ∙ y.passed ∙ ap End place;
+          passed = x.passed i ∙ y.passed ∙ ap Ok place;
           here = rw (← place) y.here;
         }
 
@@ -113,18 +114,18 @@ module _ (s : List ℕ) (small : Bytes s) where
       stands_next at blob comment forms rest h k o x blobs i (forms_at (behind (behind at blob) comment) rest r x.next i (omega arith))
 
   -- where no item stands, going over items stops
-  item-fault : (at n : ℕ) {rest : List ℕ} {place : ℕ} → ItemFault at rest place → drop at s ≡ rest → items_at (suc n) s at ≡ Fault place
+  item-fault : (at n : ℕ) {rest : List ℕ} {place : ℕ} → ItemFault at rest place → drop at s ≡ rest → items_at (suc n) s at ≡ faulted place
   unfolding items_at part
   item-fault at n (blob_cut rest never) e = rw (string-missing s small at (rw e never))
   item-fault at n (comment_cut blob rest h never) e =
       let (a, r) = string-stands small {at = at} blob rest h e in
       let place : behind at blob ≡ at + 4 + length blob = omega arith in
-      rw (a.read, text_missing s small (behind at blob) (rw r never)) (ap Fault place)
+      rw (a.read, text_missing s small (behind at blob) (rw r never)) (ap faulted place)
   item-fault at n (comment_no_text blob comment rest m h k never l) e =
       let (a, r) = string-stands small {at = at} blob (string comment ++ rest) h e in
       let b = (string-stands small {at = behind at blob} comment rest k r).0 in
       let place : behind at blob + 4 + m ≡ at + 4 + length blob + 4 + m = omega arith in
-      rw (a.read, no_text b never l) (ap Fault place)
+      rw (a.read, no_text b never l) (ap faulted place)
 
 -- items lie in s from a place up to another
 record Walked (s : List ℕ) (n at end : ℕ) : Type 0 where
@@ -135,13 +136,13 @@ record Walked (s : List ℕ) (n at end : ℕ) : Type 0 where
   lies : Lies s at forms end
 
 -- what was gone over has the form
-walked_forms : (s : List ℕ) → Bytes s → (n at end : ℕ) → at ≤ length s → items_at n s at ≡ End end → Walked s n at end
+walked_forms : (s : List ℕ) → Bytes s → (n at end : ℕ) → at ≤ length s → items_at n s at ≡ Ok end → Walked s n at end
 unfolding items_at
 walked_forms s small zero at end h = λ e.
     let p : at ≡ end = cc in
     record { blobs = []; forms = []; as_many = refl; whole = ItemForms.none; lies = rw (← p) (lies_none at h) }
 walked_forms s small (suc n) at end h =
-    let P : Reach → Type 0 = λ r. r ≡ End end → Walked s (suc n) at end in
+    let P : Result ℕ Fault → Type 0 = λ r. r ≡ Ok end → Walked s (suc n) at end in
     part-cases P (string_at s at) (λ _ _. fault) λ f t k e.
     part-cases P (text_at s k.at) (λ _ _. fault) λ g u l d q.
     let x = took small {at = at} (string-reads small) f t k e in
@@ -165,7 +166,7 @@ counted-lists : (p : List ℕ) (n : ℕ) → Bytes p → listing_says (count_of 
 unfolding count_of
 counted-lists p n small =
     let s : List ℕ = 12 ∷ p in
-    let P : Listing → Type 0 = λ r. listing_says r ≡ grants n → (blobs : List (List ℕ)) × ListForm p blobs × (length blobs ≡ n) in
+    let P : Result ℕ Refusal → Type 0 = λ r. listing_says r ≡ grants n → (blobs : List (List ℕ)) × ListForm p blobs × (length blobs ≡ n) in
     rw (some_there 12 p)
     (number_cases P (number_at s 1) (λ _ _. not_granted) λ m k e.
     reach-cases P (items_at m s k.at) (λ _. not_granted) λ end d q.
@@ -184,7 +185,7 @@ counted-lists p n small =
       many,
     ))
 
-pub lists_counted : (p : List ℕ) (blobs : List (List ℕ)) → Bytes p → ListForm p blobs → count_of (12 ∷ p) ≡ Listing.Count (length blobs)
+pub lists_counted : (p : List ℕ) (blobs : List (List ℕ)) → Bytes p → ListForm p blobs → count_of (12 ∷ p) ≡ Ok (length blobs)
 unfolding count_of items_at number reach
 lists_counted p blobs small l =
     let s : List ℕ = 12 ∷ p in
@@ -192,7 +193,7 @@ lists_counted p blobs small l =
     rw (some_there 12 p, e, forms_passed s (twelve p small) 5 (length blobs) 0 l.rest (omega arith) l.whole r)
 
 -- a list that is malformed, by where
-pub lists_fault : (p : List ℕ) (place : ℕ) → Bytes p → ListFault p place → count_of (12 ∷ p) ≡ Listing.Refused (Malformed place)
+pub lists_fault : (p : List ℕ) (place : ℕ) → Bytes p → ListFault p place → count_of (12 ∷ p) ≡ Err (Malformed place)
 unfolding count_of number reach
 lists_fault p place small (count_cut q h) = rw (some_there 12 q, ← number_cut (12 ∷ q) 1 (omega arith))
 lists_fault p place small (item-cut {blobs} {forms} {rest} n at l few whole f) =

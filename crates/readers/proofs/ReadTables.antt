@@ -1,6 +1,6 @@
 -- When each answer of the identities reader comes: what does not have the draft's form is refused, as what is read has it; bytes are below 256.
 use Prim.Native.Nat.{ℕ, suc, ◌+◌, ◌≤◌, ◌<◌}
-use mathlib.Core.Path.{◌≡◌, refl, sym, ap, ap₂, ◌∙◌}
+use mathlib.Core.Path.{◌≡◌, refl, ap, ap₂, ◌∙◌}
 use mathlib.Core.List.{List, [], ◌∷◌, ◌++◌}
 use mathlib.Core.Logic.{◌⊎◌, inl, inr, ⊎_elim}
 use native.Mathlib.Omega.{arith}
@@ -9,16 +9,16 @@ use lib.Dec.{ltb, eqb}
 use lib.ListN.{length, get_or}
 use Rattle.wire.specs.Numbers.{Bytes, be32}
 use Rattle.wire.specs.Read.{number_at}
+use Rattle.std.specs.Prelude.{Result, Ok, Err}
 use Rattle.wire.specs.Steps.{part}
 use Rattle.wire.specs.declared.refusal.Refusal.{Refusal}
-use Rattle.wire.specs.Refusals.{Where, no_place, at_place, refusal_number, refusal_place, grants, refuses}
+use Rattle.wire.specs.Refusals.{Where, no_place, at_place, grants, refuses}
 use Rattle.wire.proofs.Reading.{from_there}
 use Rattle.wire.proofs.Format.{number_form}
 use Rattle.wire.proofs.Strings.{lies_cut, behind, inside}
 use Rattle.wire.proofs.Cases.{cond_cases, number_cases}
-use Rattle.wire.proofs.RefusalLaws.{granted, not_granted, Why, why, refusals_apart}
-use Rattle.readers.specs.declared.identities.Listing.{Listing}
-use Rattle.readers.specs.declared.identities.Item.{Item}
+use Rattle.wire.proofs.RefusalLaws.{granted, not_granted, why, refusals_apart, wrote_written, wrote_refused, wrote_apart}
+use Rattle.readers.specs.declared.identities.Blob.{Blob}
 use Rattle.readers.specs.Reaches.{reach}
 use Rattle.readers.specs.Values.{listing_says, Identity, item_says}
 use Rattle.readers.specs.Identities.{items_at, count_of, counted, item_at, item_of, item_blob, item_from, blob_of_item, blob_from, certificate}
@@ -28,30 +28,16 @@ use Rattle.readers.proofs.ReadRoundTrips.{some_there, forms_at, lists_counted, l
 
 -- ## Values
 
-listing-count : (a : Listing) (n : ℕ) → listing_says a ≡ grants n → a ≡ Listing.Count n
-listing-count (Listing.Count m) n e = let q : m ≡ n = cc in rw q
-listing-count (Listing.Refused r) n e = not_granted e
-
-listing-refused : (a : Listing) (n : ℕ) (w : Where) → listing_says a ≡ refuses n w → (r : Refusal) × (a ≡ Listing.Refused r) × Why n w r
-listing-refused (Listing.Count m) n w e = granted e
-listing-refused (Listing.Refused r) n w e = (r, refl, why r e)
-
-listing-one : (a b : Listing) → listing_says a ≡ listing_says b → a ≡ b
-listing-one (Listing.Count n) b e = sym (listing-count b n (sym e))
-listing-one (Listing.Refused r) b e =
-    let (q, is, y) = listing-refused b (refusal_number r) (refusal_place r) (sym e) in
-    ap Listing.Refused (refusals_apart r q (sym y.number) (sym y.place)) ∙ sym is
-
-item-one : (a b : Item) → item_says a ≡ item_says b → a ≡ b
-item-one (Item.Blob f t c) (Item.Blob g u d) e =
-    let q : ◌≡◌ {A = Identity} (record { from = f; to = t; marked = c }) (record { from = g; to = u; marked = d }) = cc in
-    ap (λ (x : Identity). Item.Blob x.from x.to x.marked) q
-item-one (Item.Blob f t c) (Item.Refused r) e = granted e
-item-one (Item.Refused r) (Item.Blob f t c) e = not_granted e
-item-one (Item.Refused r) (Item.Refused q) e = let y = why r e in ap Item.Refused (refusals_apart r q y.number y.place)
+item-one : (a b : Result Blob Refusal) → item_says a ≡ item_says b → a ≡ b
+item-one (Ok a) (Ok b) e =
+    let q : ◌≡◌ {A = Identity} (record { from = a.from; to = a.to; marked = a.certificate }) (record { from = b.from; to = b.to; marked = b.certificate }) = cc in
+    ap (λ (x : Identity). Ok (record { from = x.from; to = x.to; certificate = x.marked })) q
+item-one (Ok a) (Err r) e = granted e
+item-one (Err r) (Ok a) e = not_granted e
+item-one (Err r) (Err q) e = let y = why r e in ap Err (refusals_apart r q y.number y.place)
 
 pub listings_apart : ListingsApart
-listings_apart = record { listings = listing-one; items = item-one }
+listings_apart = record { listings = wrote_apart; items = item-one }
 
 -- ## The list of keys
 
@@ -63,7 +49,7 @@ count_or_fault : (payload : List ℕ)
     → ((n : ℕ) × (listing_says (count_of payload) ≡ grants n)) ⊎ ((place : ℕ) × (listing_says (count_of payload) ≡ refuses 12 (at_place place)))
 unfolding count_of
 count_or_fault payload =
-    let P : Listing → Type 0 = λ r. ((n : ℕ) × (listing_says r ≡ grants n)) ⊎ ((place : ℕ) × (listing_says r ≡ refuses 12 (at_place place))) in
+    let P : Result ℕ Refusal → Type 0 = λ r. ((n : ℕ) × (listing_says r ≡ grants n)) ⊎ ((place : ℕ) × (listing_says r ≡ refuses 12 (at_place place))) in
     cond_cases P (ltb 0 (length payload))
     (λ _. cond_cases P (eqb (get_or payload 0 0) 12)
     (λ _. number_cases P (number_at payload 1) (λ _ _. inr (_, refl)) λ n k _.
@@ -93,11 +79,11 @@ list_table payload small = record {
 
 item_refused : (payload : List ℕ) (i n : ℕ) (w : Where) → listing_says (count_of payload) ≡ refuses n w → item_says (item_of payload i) ≡ refuses n w
 unfolding item_of counted
-item_refused payload i n w e = let (r, q, y) = listing-refused (count_of payload) n w e in rw q (ap₂ refuses y.number y.place)
+item_refused payload i n w e = let (r, q, y) = wrote_refused (count_of payload) n w e in rw q (ap₂ refuses y.number y.place)
 
 item-beyond : (payload : List ℕ) (i n : ℕ) → listing_says (count_of payload) ≡ grants n → n ≤ i → item_says (item_of payload i) ≡ refuses 16 no_place
 unfolding item_of counted
-item-beyond payload i n e h = rw (listing-count (count_of payload) n e, le-ltb i n h)
+item-beyond payload i n e h = rw (wrote_written (count_of payload) n e, le-ltb i n h)
 
 item-there : (p : List ℕ) (blobs : List (List ℕ)) (i : ℕ) → Bytes (12 ∷ p) → ListForm p blobs → i < length blobs
     → (from : ℕ) × ItemLies p blobs i from × HandsOut (12 ∷ p) i (get_or blobs i []) from
@@ -126,17 +112,17 @@ module _ (payload : List ℕ) (i n : ℕ) (w : Where) where
   unfolding blob_of_item
   item-empty = go (item_of payload i)
     where
-      go : (r : Item) → item_says r ≡ refuses n w → item_blob payload r ≡ []
-      go (Item.Blob f t c) e = granted e
-      go (Item.Refused why) e = refl
+      go : (r : Result Blob Refusal) → item_says r ≡ refuses n w → item_blob payload r ≡ []
+      go (Ok b) e = granted e
+      go (Err why) e = refl
 
   item-start : item_says (item_of payload i) ≡ refuses n w → blob_from payload i ≡ 0
   unfolding blob_from
   item-start = go (item_of payload i)
     where
-      go : (r : Item) → item_says r ≡ refuses n w → item_from payload r ≡ 0
-      go (Item.Blob f t c) e = granted e
-      go (Item.Refused why) e = refl
+      go : (r : Result Blob Refusal) → item_says r ≡ refuses n w → item_from payload r ≡ 0
+      go (Ok b) e = granted e
+      go (Err why) e = refl
 
 pub item-table : ItemTable
 item-table payload i small = record {

@@ -9,31 +9,31 @@ use borrow.Author.Tests.{lt-ltb, eqb-true}
 use lib.Dec.{ltb, eqb}
 use lib.ListN.{length, drop, length-append}
 use Rattle.wire.specs.declared.read.Cursor.{Cursor}
-use Rattle.wire.specs.declared.read.Octet.{Octet}
 use Rattle.wire.specs.Numbers.{Bytes, be32}
 use Rattle.wire.specs.Texts.{bytes}
 use Rattle.wire.specs.Abnf.{Octets}
 use Rattle.wire.specs.Read.{cut_of, same, byte_at, number_at, string_at, text_at}
-use Rattle.wire.specs.Steps.{byte, number, part}
+use Rattle.wire.specs.Steps.{number, part}
 use Rattle.wire.specs.Write.{write, string}
-use Rattle.wire.specs.Values.{read, octet_reads}
+use Rattle.wire.specs.Values.{read, number_reads}
 use Rattle.wire.specs.Refusals.{grants, wrote_says}
-use Rattle.wire.proofs.Reading.{le_or_lt, byte_there, byte_cut, number_read, same_true}
+use Rattle.wire.proofs.Reading.{le_or_lt, got_one, byte_there, byte_cut, number_read, same_true}
 use Rattle.wire.proofs.Format.{be-small, be-shape, number_form}
 use Rattle.wire.proofs.Laws.{byte_rule, answers_apart}
 use Rattle.wire.proofs.ByteLaws.{bytes-cons, string_bytes}
 use Rattle.wire.proofs.Strings.{Lies, lies_join, lies_cut, lies_split, lies_bytes, behind, found, At, inside, string-stands, string-reads, text_reads, took, lies_to}
-use Rattle.wire.proofs.Cases.{cond_cases, part-cases, number_cases, true_not_false, byte_cases}
+use Rattle.wire.proofs.Cases.{cond_cases, part-cases, number_cases, true_not_false, number_cases}
 use Rattle.wire.proofs.RefusalLaws.{not_granted}
-use Rattle.readers.specs.declared.Reach.{Reach}
-use Rattle.readers.specs.declared.Reach.TheVariants.{End}
-use Rattle.readers.specs.declared.signature.Signature.{Signature}
-use Rattle.readers.specs.declared.signature.Signature.TheVariants.{Whole}
+use Rattle.std.specs.Prelude.{Result, Ok, Err}
+use Rattle.wire.specs.declared.read.Fault.{Fault}
+use Rattle.wire.specs.declared.refusal.Refusal.{Refusal}
+use Rattle.wire.specs.Steps.{got}
+use Rattle.wire.specs.declared.read.Span.{Span}
 use Rattle.readers.specs.Reaches.{reach}
-use Rattle.readers.specs.Signatures.{wrote_of, fits, starts_in, touched_end, signature_end, signature_at, reply_at, signature_answer, signature_left}
+use Rattle.readers.specs.Signatures.{signature_of, wrote_of, fits, starts_in, touched_end, signature_end, signature_at, reply_at, signature_answer, signature_left}
 use Rattle.readers.specs.Promises.{Fitting, any, sha256, sha512, FitRule, SignatureForm, plain, touched, CarriesSignature, WritesSignature, SignatureRule, WrittenRule, SignatureRead}
 use Rattle.readers.proofs.ReadSteps.{reach-cases, fault}
-use Rattle.readers.proofs.SignatureLaws.{string-short, string-fits, refused}
+use Rattle.readers.proofs.SignatureLaws.{string-short, string-fits, signature_one, refused}
 use Rattle.readers.proofs.FormLaws.{starts_rule}
 
 -- ## The hash
@@ -63,19 +63,19 @@ not_started t start other = go (starts_in t start) refl
     go true e = let (w, is) = (starts_rule t start).0 e in absurd (other w is)
     go false e = refl
 
-pub octet_at : (s : List ℕ) (at b : ℕ) (rest : List ℕ) → drop at s ≡ b ∷ rest → byte_at s at ≡ Octet.Value b (record { at = at + 1 })
-octet_at s at b rest e = answers_apart.octets (byte_at s at) (Octet.Value b (record { at = at + 1 })) ((byte_rule s at b rest).0 e).0
+pub octet_at : (s : List ℕ) (at b : ℕ) (rest : List ℕ) → drop at s ≡ b ∷ rest → byte_at s at ≡ got b (record { at = at + 1 })
+octet_at s at b rest e = answers_apart.numbers (byte_at s at) (got b (record { at = at + 1 })) ((byte_rule s at b rest).0 e).0
 
 module _ (s : List ℕ) (small : Bytes s) where
   -- flags and a counter
-  touched_read : (at flags counter : ℕ) (rest : List ℕ) → counter < 2 ^ 32 → drop at s ≡ (flags ∷ be32 counter) ++ rest → touched_end s at ≡ End (at + 1 + 4)
-  unfolding touched_end byte number
+  touched_read : (at flags counter : ℕ) (rest : List ℕ) → counter < 2 ^ 32 → drop at s ≡ (flags ∷ be32 counter) ++ rest → touched_end s at ≡ Ok (at + 1 + 4)
+  unfolding touched_end number
   touched_read at flags counter rest h e =
       let r = ((byte_rule s at flags (be32 counter ++ rest)).0 e).1 in
       rw (octet_at s at flags (be32 counter ++ rest) e, ((number_form s (at + 1) counter rest small h).0 r).0)
 
   signature_read : {t x : List ℕ} (at hash : ℕ) (rest : List ℕ) → SignatureForm t x → Fitting hash t → length x < 2 ^ 32 → drop at s ≡ x ++ rest
-      → signature_at s at hash ≡ Whole at (at + length x)
+      → signature_at s at hash ≡ signature_of at (at + length x)
   unfolding signature_at signature_end part reach
   signature_read at hash rest (plain t sig o other) f l e =
       let n = simp length-append at l in
@@ -83,7 +83,7 @@ module _ (s : List ℕ) (small : Bytes s) where
       let (b, q) = string-stands small {at = behind at t} sig rest (omega arith) r in
       let c : text_at s at ≡ found at t = (text_reads small).takes a o in
       let m : behind (behind at t) sig ≡ at + length (string t ++ string sig) = simp length-append (omega arith) in
-      rw (c, lies_cut (inside a), (fit-rule hash t).1 f, not_started t (bytes "sk-") other, b.read) (ap (Whole at) m)
+      rw (c, lies_cut (inside a), (fit-rule hash t).1 f, not_started t (bytes "sk-") other, b.read) (ap (signature_of at) m)
   signature_read at hash rest (touched w sig flags counter o h) f l e =
       let t = bytes "sk-" ++ w in
       let n = simp length-append at l in
@@ -92,13 +92,13 @@ module _ (s : List ℕ) (small : Bytes s) where
       let (b, q) = string-stands small {at = behind at t} sig ((flags ∷ be32 counter) ++ rest) (omega arith) (r ∙ append_assoc (string sig) (flags ∷ be32 counter) rest) in
       let c : text_at s at ≡ found at t = (text_reads small).takes a o in
       let m : behind (behind at t) sig + 1 + 4 ≡ at + length (string t ++ tail) = simp length-append (omega arith) in
-      rw (c, lies_cut (inside a), (fit-rule hash t).1 f, (starts_rule t (bytes "sk-")).1 (w, refl), b.read, touched_read (behind (behind at t) sig) flags counter rest h q) (ap (Whole at) m)
+      rw (c, lies_cut (inside a), (fit-rule hash t).1 f, (starts_rule t (bytes "sk-")).1 (w, refl), b.read, touched_read (behind (behind at t) sig) flags counter rest h q) (ap (signature_of at) m)
 
 -- ## A reply
 
 -- where the signature of a reply lies
 record Replied (payload : List ℕ) (hash : ℕ) (signature : List ℕ) : Type 0 where
-  found : reply_at payload hash ≡ Whole 5 (5 + length signature)
+  found : reply_at payload hash ≡ signature_of 5 (5 + length signature)
   cut : cut_of payload 5 (5 + length signature) ≡ signature
 
 reply_read : (hash : ℕ) (t signature rest tail : List ℕ) → Bytes (14 ∷ (string (signature ++ rest) ++ tail)) → Fitting hash t → SignatureForm t signature
@@ -111,7 +111,7 @@ reply_read hash t signature rest tail small f form l =
     let a : At payload 1 y = (string-stands small y tail l refl).0 in
     let front : Lies payload 0 (14 ∷ string y) (behind 1 y) =
     record { end = omega arith; within = a.lies.within; shape = ap (λ (x : List ℕ). 14 ∷ x) a.lies.shape } in
-    let read : signature_at (14 ∷ string y) 5 hash ≡ Whole 5 (5 + length signature) =
+    let read : signature_at (14 ∷ string y) 5 hash ≡ signature_of 5 (5 + length signature) =
     signature_read (14 ∷ string y) (lies_bytes front small) 5 hash rest form f (omega (arith, simp length-append at l)) refl in
     record { found = rw (n, a.read, lies_cut front) read; cut = lies_cut (lies_split signature rest (inside a)).0 }
 
@@ -145,10 +145,10 @@ signature_read_back hash t signature out small l f form =
 
 -- ## What is taken has the form
 
-byte_place : (s : List ℕ) (at b : ℕ) (k : Cursor) → byte_at s at ≡ Octet.Value b k → k.at ≡ at + 1
+byte_place : (s : List ℕ) (at b : ℕ) (k : Cursor) → byte_at s at ≡ got b k → k.at ≡ at + 1
 byte_place s at b k e =
     ⊎_elim
-    (λ (h : suc at ≤ length s). let w = byte_there s at h in let c : k ≡ record { at = at + 1 } = cc in ap (λ (x : Cursor). x.at) c)
+    (λ (h : suc at ≤ length s). ap (λ (x : Cursor). x.at) (got_one (sym e ∙ sym (byte_there s at h))).1)
     (λ (h : length s < suc at). let w = byte_cut s at (omega arith) in let z : ◌≡◌ {A = ℕ} 0 1 = cc in absurd (omega arith))
     (le_or_lt (suc at) (length s))
 
@@ -159,24 +159,24 @@ pub record Formed (s : List ℕ) (at : ℕ) (t : List ℕ) (end : ℕ) : Type 0 
   pub lies : Lies s at signature end
 
 module _ (s : List ℕ) (small : Bytes s) where
-  touched_taken : (at end : ℕ) → touched_end s at ≡ End end → (flags : ℕ) × (counter : ℕ) × (counter < 2 ^ 32) × Lies s at (flags ∷ be32 counter) end
+  touched_taken : (at end : ℕ) → touched_end s at ≡ Ok end → (flags : ℕ) × (counter : ℕ) × (counter < 2 ^ 32) × Lies s at (flags ∷ be32 counter) end
   unfolding touched_end
   touched_taken at end =
-      let P : Reach → Type 0 = λ r. r ≡ End end → (flags : ℕ) × (counter : ℕ) × (counter < 2 ^ 32) × Lies s at (flags ∷ be32 counter) end in
-      byte_cases P (byte_at s at) (λ _. fault) λ flags k e.
+      let P : Result ℕ Fault → Type 0 = λ r. r ≡ Ok end → (flags : ℕ) × (counter : ℕ) × (counter < 2 ^ 32) × Lies s at (flags ∷ be32 counter) end in
+      number_cases P (byte_at s at) (λ _ _. fault) λ flags k e.
       number_cases P (number_at s k.at) (λ _ _. fault) λ counter l d q.
       let w = number_read s k.at counter l d in
       let p : end ≡ l.at = cc in
       let place = byte_place s at flags k e in
       let n : k.at + 4 ≡ end = omega arith in
-      let front : drop at s ≡ flags ∷ drop k.at s = (byte_rule s at flags (drop k.at s)).1 (ap octet_reads e ∙ ap (read flags) place, ap (λ (i : ℕ). drop i s) (sym place)) in
+      let front : drop at s ≡ flags ∷ drop k.at s = (byte_rule s at flags (drop k.at s)).1 (ap number_reads e ∙ ap (read flags) place, ap (λ (i : ℕ). drop i s) (sym place)) in
       let back : drop k.at s ≡ be32 counter ++ drop end s = be-shape s k.at small w.within ∙ ap₂ (λ (c i : ℕ). be32 c ++ drop i s) (sym w.number) n in
       (flags, counter, omega (arith, be-small s k.at small), record { end = omega arith; within = omega arith; shape = front ∙ ap (λ (l : List ℕ). flags ∷ l) back })
 
-  pub end_taken : (at m : ℕ) (t : List ℕ) (end : ℕ) → Octets t → Lies s at (string t) m → signature_end s m (starts_in t (bytes "sk-")) ≡ End end → Formed s at t end
+  pub end_taken : (at m : ℕ) (t : List ℕ) (end : ℕ) → Octets t → Lies s at (string t) m → signature_end s m (starts_in t (bytes "sk-")) ≡ Ok end → Formed s at t end
   unfolding signature_end
   end_taken at m t end o x =
-      let P : Reach → Type 0 = λ r. r ≡ End end → Formed s at t end in
+      let P : Result ℕ Fault → Type 0 = λ r. r ≡ Ok end → Formed s at t end in
       part-cases P (string_at s m) (λ _ _. fault) λ f u k e.
       let y = took small (string-reads small) f u k e in
       cond_cases P (starts_in t (bytes "sk-"))
@@ -197,15 +197,15 @@ module _ (s : List ℕ) (small : Bytes s) where
       })
 
   -- a signature was found at a place
-  signature_taken : (at hash f end : ℕ) → signature_at s at hash ≡ Whole f end → (t : List ℕ) × Fitting hash t × Formed s at t end
+  signature_taken : (at hash f end : ℕ) → signature_at s at hash ≡ signature_of f end → (t : List ℕ) × Fitting hash t × Formed s at t end
   unfolding signature_at
   signature_taken at hash f end =
-      let P : Signature → Type 0 = λ r. r ≡ Whole f end → (t : List ℕ) × Fitting hash t × Formed s at t end in
+      let P : Result Span Refusal → Type 0 = λ r. r ≡ signature_of f end → (t : List ℕ) × Fitting hash t × Formed s at t end in
       part-cases P (text_at s at) (λ _ _. refused) λ g u k e.
       let x = took small (text_reads small) g u k e in
       cond_cases P (fits hash (cut_of s g u))
       (λ h. reach-cases P (signature_end s k.at (starts_in (cut_of s g u) (bytes "sk-"))) (λ _. refused) λ behind d q.
-      let p : behind ≡ end = cc in
+      let p = (signature_one q).1 in
       (x.v, (fit-rule hash x.v).0 (rw x.part at h), end_taken at k.at x.v end x.holds (lies_to x.lies x.place) (rw (x.part, p) at d)))
       (λ _. refused)
 
@@ -215,7 +215,7 @@ Answered hash payload = (t : List ℕ) × (signature : List ℕ) × Fitting hash
 
 -- the signature was found in the reply's string
 string-taken : (b : ℕ) (p v : List ℕ) (g u hash f end : ℕ) → Bytes (b ∷ p) → b ≡ 14 → length v < 2 ^ 32 → Lies (b ∷ p) 1 (string v) u → g ≡ 5
-    → signature_at (cut_of (b ∷ p) 0 u) g hash ≡ Whole f end → Answered hash (b ∷ p)
+    → signature_at (cut_of (b ∷ p) 0 u) g hash ≡ signature_of f end → Answered hash (b ∷ p)
 string-taken b p v g u hash f end small is l x from e =
     let front : Lies (b ∷ p) 0 (b ∷ string v) u = record { end = omega (arith, x.end); within = x.within; shape = ap (λ (l : List ℕ). b ∷ l) x.shape } in
     let (t, fit, y) = signature_taken (b ∷ string v) (lies_bytes front small) 5 hash f end (rw (lies_cut front, from) at e) in
@@ -233,11 +233,11 @@ string-taken b p v g u hash f end small is l x from e =
       },
     )
 
-reply_taken : (payload : List ℕ) (hash f end : ℕ) → Bytes payload → reply_at payload hash ≡ Whole f end → Answered hash payload
+reply_taken : (payload : List ℕ) (hash f end : ℕ) → Bytes payload → reply_at payload hash ≡ signature_of f end → Answered hash payload
 unfolding reply_at
 reply_taken [] hash f end small = refused
 reply_taken (b ∷ p) hash f end small =
-    let P : Signature → Type 0 = λ r. r ≡ Whole f end → Answered hash (b ∷ p) in
+    let P : Result Span Refusal → Type 0 = λ r. r ≡ signature_of f end → Answered hash (b ∷ p) in
     cond_cases P (ltb 0 (length (b ∷ p)))
     (λ _. cond_cases P (eqb b 5) (λ _. refused)
     (λ _. cond_cases P (eqb b 14)
@@ -252,9 +252,9 @@ answer_found : (payload : List ℕ) (hash : ℕ) (out : List ℕ) (n : ℕ) → 
 unfolding signature_answer
 answer_found payload hash out n small = go (reply_at payload hash) refl
   where
-    go : (r : Signature) → reply_at payload hash ≡ r → wrote_says (wrote_of payload out r) ≡ grants n → Answered hash payload
-    go (Whole f end) e q = reply_taken payload hash f end small e
-    go (Signature.Refused why) e q = not_granted q
+    go : (r : Result Span Refusal) → reply_at payload hash ≡ r → wrote_says (wrote_of payload out r) ≡ grants n → Answered hash payload
+    go (Ok p) e q = reply_taken payload hash p.from p.to small e
+    go (Err why) e q = not_granted q
 
 pub written-rule : WrittenRule
 written-rule payload hash out n small = (

@@ -11,21 +11,21 @@ use Rattle.wire.specs.Numbers.{Bytes}
 use Rattle.wire.specs.Texts.{bytes}
 use Rattle.wire.specs.Abnf.{Octets}
 use Rattle.wire.specs.Read.{cut_of, string_at, text_at}
-use Rattle.wire.specs.Steps.{byte, number, part}
+use Rattle.wire.specs.Steps.{number, part}
 use Rattle.wire.specs.Write.{string, write}
 use Rattle.wire.specs.Promises.{NoString}
 use Rattle.wire.specs.declared.refusal.Refusal.TheVariants.{OutputTooShort, Malformed, UnfitType}
-use Rattle.wire.specs.declared.refusal.Wrote.{Wrote}
+use Rattle.wire.specs.declared.refusal.Refusal.{Refusal}
 use Rattle.wire.specs.Refusals.{Where, no_place, at_place, refuses, wrote_says}
 use Rattle.wire.proofs.Reading.{byte_cut, number_cut}
 use Rattle.wire.proofs.Strings.{Lies, lies_cut, lies_bytes, behind, At, inside, string-stands, string-reads, text_reads, took, string-missing, text_missing, no_text}
 use Rattle.wire.proofs.Cases.{part-cases}
 use Rattle.wire.proofs.RefusalLaws.{granted}
-use Rattle.readers.specs.declared.Reach.TheVariants.{Fault}
-use Rattle.readers.specs.declared.signature.Signature.{Signature}
-use Rattle.readers.specs.declared.signature.Signature.TheVariants.{Whole}
+use Rattle.std.specs.Prelude.{Result, Ok, Err}
+use Rattle.wire.specs.Steps.{faulted}
+use Rattle.wire.specs.declared.read.Span.{Span}
 use Rattle.readers.specs.Reaches.{reach}
-use Rattle.readers.specs.Signatures.{fits, starts_in, touched_end, signature_end, signature_at, reply_at, string_answer, string_left, wrote_of, left_of, signature_answer, signature_left}
+use Rattle.readers.specs.Signatures.{signature_of, fits, starts_in, touched_end, signature_end, signature_at, reply_at, string_answer, string_left, wrote_of, left_of, signature_answer, signature_left}
 use Rattle.readers.specs.Promises.{Fitting, CarriesSignature, Typed, SignatureFault, string-cut, type_cut, type_no_text, signature_cut, flags_cut, counter_cut, SignatureTable}
 use Rattle.readers.proofs.ReadSteps.{reach-cases}
 use Rattle.readers.proofs.FormLaws.{starts_rule}
@@ -60,7 +60,7 @@ module _ (hash : ℕ) (out : List ℕ) where
   no_text_there payload y tail whole at cut from small l is never =
       let s : List ℕ = 14 ∷ string y in
       rw (cut, from)
-      (part-cases (λ (r : Signature). (place : ℕ) × (wrote_says (wrote_of payload out r) ≡ refuses 12 (at_place place))) (text_at s 5) (λ at _. (at, refl)) λ f t k e.
+      (part-cases (λ (r : Result Span Refusal). (place : ℕ) × (wrote_says (wrote_of payload out r) ≡ refuses 12 (at_place place))) (text_at s 5) (λ at _. (at, refl)) λ f t k e.
       let x = took small {at = 5} (text_reads small) f t k e in
       let split : y ≡ string x.v ++ drop t s = x.lies.shape in
       absurd (never x.v
@@ -77,7 +77,7 @@ module _ (hash : ℕ) (out : List ℕ) where
   fourteen p small never =
       let payload : List ℕ = 14 ∷ p in
       rw (lt-ltb 0 (length payload) (omega arith))
-      (part-cases (λ (r : Signature). (place : ℕ) × (wrote_says (wrote_of payload out r) ≡ refuses 12 (at_place place))) (string_at payload 1) (λ _ _. (_, refl)) λ g u k e.
+      (part-cases (λ (r : Result Span Refusal). (place : ℕ) × (wrote_says (wrote_of payload out r) ≡ refuses 12 (at_place place))) (string_at payload 1) (λ _ _. (_, refl)) λ g u k e.
       let y = took small {at = 1} (string-reads small) g u k e in
       let is : payload ≡ 14 ∷ (string y.v ++ drop u payload) = ap (λ (l : List ℕ). 14 ∷ l) y.lies.shape in
       let front : Lies payload 0 (14 ∷ string y.v) u = record { end = omega (arith, y.lies.end); within = y.lies.within; shape = is } in
@@ -106,8 +106,8 @@ record Continues (payload : List ℕ) (hash : ℕ) (t rest : List ℕ) : Type 0 
   next : drop (behind 5 t) (14 ∷ string (string t ++ rest)) ≡ rest
   goes_on : reply_at payload hash
       ≡ cond (fits hash t)
-      (reach (λ place. Signature.Refused (Malformed place)) (signature_end (14 ∷ string (string t ++ rest)) (behind 5 t) (starts_in t (bytes "sk-"))) (λ end. Whole 5 end))
-      (Signature.Refused UnfitType)
+      (reach (λ place. Err (Malformed place)) (signature_end (14 ∷ string (string t ++ rest)) (behind 5 t) (starts_in t (bytes "sk-"))) (λ end. signature_of 5 end))
+      (Err UnfitType)
 
 continues : (hash : ℕ) (t rest tail : List ℕ) → Octets t → length (string t ++ rest) < 2 ^ 32 → Bytes (14 ∷ (string (string t ++ rest) ++ tail))
     → Continues (14 ∷ (string (string t ++ rest) ++ tail)) hash t rest
@@ -133,7 +133,7 @@ module _ (payload : List ℕ) (hash : ℕ) (out : List ℕ) (small : Bytes paylo
       let s : List ℕ = 14 ∷ string (string t ++ typed.rest) in
       let c = typed_continues in
       rw (c.goes_on, (fit-rule hash t).1 fit)
-      (reach-cases (λ (r : Signature). (place : ℕ) × (wrote_says (wrote_of payload out r) ≡ refuses 12 (at_place place))) (signature_end s (behind 5 t) (starts_in t (bytes "sk-"))) (λ place. (place, refl)) λ end e.
+      (reach-cases (λ (r : Result Span Refusal). (place : ℕ) × (wrote_says (wrote_of payload out r) ≡ refuses 12 (at_place place))) (signature_end s (behind 5 t) (starts_in t (bytes "sk-"))) (λ place. (place, refl)) λ end e.
       let y = end_taken s c.small 5 (behind 5 t) t end typed.text c.lies e in
       let split : string t ++ typed.rest ≡ y.signature ++ drop end s = y.lies.shape in
       absurd (never y.signature
@@ -150,18 +150,18 @@ module _ (payload : List ℕ) (hash : ℕ) (out : List ℕ) (small : Bytes paylo
 -- behind a type that fits the hash
 module _ (hash : ℕ) (t rest tail : List ℕ) (o : Octets t) (l : length (string t ++ rest) < 2 ^ 32) (small : Bytes (14 ∷ (string (string t ++ rest) ++ tail)))
     (fit : Fitting hash t) where
-  stops : (touched : Bool) (place : ℕ) → starts_in t (bytes "sk-") ≡ touched → signature_end (14 ∷ string (string t ++ rest)) (behind 5 t) touched ≡ Fault place
-      → reply_at (14 ∷ (string (string t ++ rest) ++ tail)) hash ≡ Signature.Refused (Malformed place)
+  stops : (touched : Bool) (place : ℕ) → starts_in t (bytes "sk-") ≡ touched → signature_end (14 ∷ string (string t ++ rest)) (behind 5 t) touched ≡ faulted place
+      → reply_at (14 ∷ (string (string t ++ rest) ++ tail)) hash ≡ Err (Malformed place)
   unfolding reach
   stops touched place is e = (continues hash t rest tail o l small).goes_on ∙ rw ((fit-rule hash t).1 fit, is, e)
 
-  no_signature_there : NoString rest → reply_at (14 ∷ (string (string t ++ rest) ++ tail)) hash ≡ Signature.Refused (Malformed (9 + length t))
+  no_signature_there : NoString rest → reply_at (14 ∷ (string (string t ++ rest) ++ tail)) hash ≡ Err (Malformed (9 + length t))
   unfolding signature_end part
   no_signature_there never =
       let c = continues hash t rest tail o l small in
       let place : behind 5 t ≡ 9 + length t = omega arith in
       stops (starts_in t (bytes "sk-")) (9 + length t) refl
-      (rw (string-missing (14 ∷ string (string t ++ rest)) c.small (behind 5 t) (rw c.next never)) (ap Fault place))
+      (rw (string-missing (14 ∷ string (string t ++ rest)) c.small (behind 5 t) (rw c.next never)) (ap faulted place))
 
 -- behind the signature of a touch key
 abbrev touch : List ℕ → List ℕ
@@ -172,8 +172,8 @@ module _ (hash : ℕ) (w sig rest more tail : List ℕ) (is : rest ≡ string si
   -- where it ends
   record Ends : Type 0 where
     next : drop (behind (behind 5 (touch w)) sig) (14 ∷ string (string (touch w) ++ rest)) ≡ more
-    stops_at : (place : ℕ) → touched_end (14 ∷ string (string (touch w) ++ rest)) (behind (behind 5 (touch w)) sig) ≡ Fault place
-        → reply_at (14 ∷ (string (string (touch w) ++ rest) ++ tail)) hash ≡ Signature.Refused (Malformed place)
+    stops_at : (place : ℕ) → touched_end (14 ∷ string (string (touch w) ++ rest)) (behind (behind 5 (touch w)) sig) ≡ faulted place
+        → reply_at (14 ∷ (string (string (touch w) ++ rest) ++ tail)) hash ≡ Err (Malformed place)
 
   ends : Ends
   unfolding signature_end part
@@ -184,15 +184,15 @@ module _ (hash : ℕ) (w sig rest more tail : List ℕ) (is : rest ≡ string si
       let (b, r) = string-stands c.small {at = behind 5 (touch w)} sig more (omega arith) (c.next ∙ is) in
       record { next = r; stops_at = λ place e. stops hash (touch w) rest tail o l small fit true place ((starts_rule (touch w) (bytes "sk-")).1 (w, refl)) (rw b.read e) }
 
-touch-none : (s : List ℕ) (at : ℕ) → length s ≤ at → touched_end s at ≡ Fault at
-unfolding touched_end byte
+touch-none : (s : List ℕ) (at : ℕ) → length s ≤ at → touched_end s at ≡ faulted at
+unfolding touched_end number
 touch-none s at h = rw (← byte_cut s at h)
 
-touch-short : (s : List ℕ) (at flags : ℕ) (rest : List ℕ) → drop at s ≡ flags ∷ rest → length s < at + 1 + 4 → touched_end s at ≡ Fault (at + 1)
-unfolding touched_end byte number
+touch-short : (s : List ℕ) (at flags : ℕ) (rest : List ℕ) → drop at s ≡ flags ∷ rest → length s < at + 1 + 4 → touched_end s at ≡ faulted (at + 1)
+unfolding touched_end number
 touch-short s at flags rest e h = rw (octet_at s at flags rest e, ← number_cut s (at + 1) h)
 
-pub fault_there : (hash : ℕ) (p : List ℕ) (place : ℕ) → Bytes (14 ∷ p) → SignatureFault hash p place → reply_at (14 ∷ p) hash ≡ Signature.Refused (Malformed place)
+pub fault_there : (hash : ℕ) (p : List ℕ) (place : ℕ) → Bytes (14 ∷ p) → SignatureFault hash p place → reply_at (14 ∷ p) hash ≡ Err (Malformed place)
 unfolding reply_at signature_at part
 fault_there hash p place small (string-cut q never) = rw (lt-ltb 0 (length (14 ∷ q)) (omega arith), string-missing (14 ∷ q) small 1 never)
 fault_there hash p place small (type_cut v tail l never) =
@@ -209,7 +209,7 @@ fault_there hash p place small (flags_cut w sig tail l o fit) =
     let s : List ℕ = 14 ∷ string (string t ++ string sig) in
     let n : length (string t ++ string sig) ≡ 4 + length t + 4 + length sig = simp length-append (omega arith) in
     let end : at ≡ 9 + length t + 4 + length sig = omega arith in
-    (ends hash w sig (string sig) [] tail (sym (append-nil (string sig))) o l small fit).stops_at _ (touch-none s at (omega arith) ∙ ap Fault end)
+    (ends hash w sig (string sig) [] tail (sym (append-nil (string sig))) o l small fit).stops_at _ (touch-none s at (omega arith) ∙ ap faulted end)
 fault_there hash p place small (counter_cut w sig rest tail flags l o fit h) =
     let t = touch w in
     let at = behind (behind 5 t) sig in
@@ -217,12 +217,12 @@ fault_there hash p place small (counter_cut w sig rest tail flags l o fit h) =
     let x = ends hash w sig (string sig ++ (flags ∷ rest)) (flags ∷ rest) tail refl o l small fit in
     let n : length (string t ++ (string sig ++ (flags ∷ rest))) ≡ 4 + length t + 4 + length sig + 1 + length rest = simp length-append (omega arith) in
     let end : at + 1 ≡ 9 + length t + 4 + length sig + 1 = omega arith in
-    x.stops_at _ (touch-short s at flags rest x.next (omega arith) ∙ ap Fault end)
+    x.stops_at _ (touch-short s at flags rest x.next (omega arith) ∙ ap faulted end)
 
 -- ## Refusals
 
 module _ (payload : List ℕ) (hash : ℕ) (out : List ℕ) (n : ℕ) (w : Where) where
-  short_left : (b : Bool) (m : ℕ) (left : List ℕ) → wrote_says (cond b (Wrote.Written m) (Wrote.Refused OutputTooShort)) ≡ refuses n w → cond b left out ≡ out
+  short_left : (b : Bool) (m : ℕ) (left : List ℕ) → wrote_says (cond b (Ok m) (Err OutputTooShort)) ≡ refuses n w → cond b left out ≡ out
   short_left true m left e = granted e
   short_left false m left e = refl
 
@@ -230,10 +230,11 @@ module _ (payload : List ℕ) (hash : ℕ) (out : List ℕ) (n : ℕ) (w : Where
   unfolding signature_answer signature_left string_answer string_left
   refused_left = go (reply_at payload hash)
     where
-      go : (r : Signature) → wrote_says (wrote_of payload out r) ≡ refuses n w → left_of payload out r ≡ out
-      go (Whole f t) e =
-          short_left (leb (4 + length (cut_of payload f t)) (length out)) (4 + length (cut_of payload f t)) (write out 0 (string (cut_of payload f t))) e
-      go (Signature.Refused why) e = refl
+      go : (r : Result Span Refusal) → wrote_says (wrote_of payload out r) ≡ refuses n w → left_of payload out r ≡ out
+      go (Ok p) e =
+          let v = cut_of payload p.from p.to in
+          short_left (leb (4 + length v) (length out)) (4 + length v) (write out 0 (string v)) e
+      go (Err why) e = refl
 
 fault_answered : (hash : ℕ) (out p : List ℕ) (place : ℕ) → Bytes (14 ∷ p) → SignatureFault hash p place
     → wrote_says (signature_answer (14 ∷ p) hash out) ≡ refuses 12 (at_place place)

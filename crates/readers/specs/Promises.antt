@@ -1,13 +1,13 @@
 -- What the readers of the two replies promise, as statements; the proofs are in proofs/.
-use Rattle.std.specs.Prelude.{ℕ, ◌+◌, ◌^◌, ◌≤◌, ◌<◌, ◌≡◌, List, [], ◌∷◌, ◌++◌, map, true, ◌↔◌, length, get_or, take}
+use Rattle.std.specs.Prelude.{ℕ, ◌+◌, ◌^◌, ◌≤◌, ◌<◌, ◌≡◌, List, [], ◌∷◌, ◌++◌, Result, map, true, ◌↔◌, length, get_or, take}
 use Rattle.wire.specs.Numbers.{Bytes, be32}
 use Rattle.wire.specs.Texts.{bytes}
 use Rattle.wire.specs.Abnf.{Octets}
 use Rattle.wire.specs.Write.{write, string}
 use Rattle.wire.specs.Promises.{OneToOne, NoString, Longest}
 use Rattle.wire.specs.Refusals.{Where, no_place, at_place, Says, grants, refuses, wrote_says}
-use Rattle.readers.specs.declared.identities.Listing.{Listing}
-use Rattle.readers.specs.declared.identities.Item.{Item}
+use Rattle.wire.specs.declared.refusal.Refusal.{Refusal}
+use Rattle.readers.specs.declared.identities.Blob.{Blob}
 use Rattle.readers.specs.Values.{listing_says, Identity, item_says}
 use Rattle.readers.specs.Identities.{count_of, certificate, item_of, blob_of_item, blob_from}
 use Rattle.readers.specs.Signatures.{fits, signature_answer, signature_left}
@@ -88,8 +88,8 @@ ItemTable = (payload : List ℕ) (i : ℕ) → Bytes payload → ItemSays payloa
 
 -- the values of a count and of an item tell it from every other
 pub record ListingsApart : Type 0 where
-  pub listings : OneToOne Listing (Says ℕ) listing_says
-  pub items : OneToOne Item (Says Identity) item_says
+  pub listings : OneToOne (Result ℕ Refusal) (Says ℕ) listing_says
+  pub items : OneToOne (Result Blob Refusal) (Says Identity) item_says
 
 -- ## Lists as they are written
 

@@ -1,8 +1,7 @@
--- How a definition goes on behind what was read.
-use Rattle.std.specs.Prelude.{ℕ}
-use Rattle.readers.specs.declared.Reach.{Reach}
-use Rattle.readers.specs.declared.Reach.TheVariants.{End, Fault}
+-- How a definition goes on behind what was read: at the place behind it, or at the place of the fault in it.
+use Rattle.std.specs.Prelude.{ℕ, Result, Ok, Err}
+use Rattle.wire.specs.declared.read.Fault.{Fault}
 
-unfoldable pub reach : {A : Type 0} → (ℕ → A) → Reach → (ℕ → A) → A
-reach z (End at) next = next at
-reach z (Fault at) next = z at
+unfoldable pub reach : {A : Type 0} → (ℕ → A) → Result ℕ Fault → (ℕ → A) → A
+reach z (Ok at) next = next at
+reach z (Err e) next = z e.at

@@ -3,10 +3,3 @@
 
 pub mod identities;
 pub mod signature;
-
-// How far reading came: the place behind what was read, or the place of the fault in it.
-#[derive(Clone, Copy)]
-enum Reach {
-    End(usize),
-    Fault(usize),
-}

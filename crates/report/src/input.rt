@@ -10,6 +10,7 @@ pub fn read_full<I: Read>(input: &mut I, room: &mut [u8]) -> io::Result<usize>
     ensures { ReadsAtMost result room.new }
 {
     let mut done = 0;
+    // By what each read gives: there is nothing to go over.
     while done < room.len() {
         let n = input.read(&mut room[done..])?;
         if n == 0 {

@@ -1,20 +1,9 @@
 // Sections of records: which record is next, and the lines that are written.
-ghost use Rattle.std.specs.Prelude.{◌≡◌, ◌<◌, length, IfOk, OnErr};
-ghost use Rattle.report.specs.declared.sections.Step.TheVariants.{End};
-ghost use Rattle.report.specs.Sections.{ran_as, section_at, first_at, moved_of, after_of, next_of, WritesLine};
+ghost use Rattle.std.specs.Prelude.{◌≡◌, ◌<◌, length, IfOk, OnErr, None};
+ghost use Rattle.report.specs.Sections.{section_at, first_at, moved_of, after_of, next_of, WritesLine};
 
-use crate::parts::Span;
 use std::io;
-use std::num::{wrapping_add_u32, wrapping_sub_u32};
-use wire::read::{Cursor, Number, Octet, Part, cut};
-
-// What became of a record, with the place behind it.
-#[derive(Clone, Copy)]
-pub enum Ran {
-    Agrees(Cursor),
-    Differs(Cursor),
-    Malformed,
-}
+use wire::read::{Cursor, Span};
 
 // A section, with the place of its next record. Each record takes up a byte or more, so no count of them wraps.
 #[derive(Clone, Copy)]
@@ -28,89 +17,39 @@ pub struct Section {
     pub next: Cursor,
 }
 
-#[derive(Clone, Copy)]
-pub enum Step {
-    Record(Section),
-    End,
-}
-
-pub fn ran_as(agrees: bool, next: Cursor) -> Ran
-    ensures { result ≡ ran_as agrees next }
-{
-    if agrees {
-        Ran::Agrees(next)
-    } else {
-        Ran::Differs(next)
-    }
-}
-
-fn write(rt: &impl Print, text: &[u8]) -> io::Result<()> {
-    rt.write_all(text)
-}
-
-fn write_number(rt: &impl Print, n: u64) -> io::Result<()> {
-    rt.print(n)
-}
-
 // Names a record that differs, one of the first 16 of its section.
 fn write_differs(rt: &impl Print, name: &[u8], index: u32, before: u32) -> io::Result<()> {
     if 16 <= before {
         return Ok(());
     }
-    write(rt, name)?;
-    write(rt, b" ")?;
-    write_number(rt, index as u64)?;
-    write(rt, b" differs\n")
+    rt.write_all(name)?;
+    println!(rt; " {index} differs")
 }
 
 fn write_count(rt: &impl Print, name: &[u8], agreed: u32, count: u32) -> io::Result<()> {
-    write(rt, name)?;
-    write(rt, b" ")?;
-    write_number(rt, agreed as u64)?;
-    write(rt, b" of ")?;
-    write_number(rt, count as u64)?;
-    write(rt, b"\n")
+    rt.write_all(name)?;
+    println!(rt; " {agreed} of {count}")
 }
 
-fn malformed(rt: &impl Print, at: usize) -> io::Result<Step>
-    ensures { IfOk result (λ step. step ≡ End) }
+fn malformed(rt: &impl Print, at: usize) -> io::Result<Option<Section>>
+    ensures { IfOk result (λ step. step ≡ None) }
 {
-    write(rt, b"malformed at ")?;
-    write_number(rt, at as u64)?;
-    write(rt, b"\n")?;
-    Ok(Step::End)
+    println!(rt; "malformed at {at}")?;
+    Ok(None)
 }
 
 // The section that starts at a place: kind, name, base and the number of its records.
-fn read_section(s: &[u8], c: Cursor) -> Step
+fn read_section(s: &[u8], c: Cursor) -> Option<Section>
     ensures { result ≡ section_at s.now c.at }
 {
-    let Octet::Value(kind, a) = c.byte(s) else {
-        return Step::End;
-    };
-    let Part::Whole {
-        from: nf,
-        to: nt,
-        next: b,
-    } = a.string(s)
-    else {
-        return Step::End;
-    };
-    let Part::Whole {
-        from: bf,
-        to: bt,
-        next: d,
-    } = b.string(s)
-    else {
-        return Step::End;
-    };
-    let Number::Value(count, next) = d.number(s) else {
-        return Step::End;
-    };
-    Step::Record(Section {
+    let (kind, a) = c.byte(s).ok()?;
+    let name = a.string(s).ok()?;
+    let base = name.next.string(s).ok()?;
+    let (count, next) = base.next.number(s).ok()?;
+    Some(Section {
         kind,
-        name: Span { from: nf, to: nt },
-        base: Span { from: bf, to: bt },
+        name: Span::from(name),
+        base: Span::from(base),
         count,
         ran: 0,
         agreed: 0,
@@ -120,68 +59,78 @@ fn read_section(s: &[u8], c: Cursor) -> Step
 
 // The first record from a place on, which is the end or where a section starts. A section without records is malformed. A write can fail only where
 // there is no record, before the end.
-pub fn first(rt: &impl Print, s: &[u8], c: Cursor) -> io::Result<Step>
+pub fn first(rt: &impl Print, s: &[u8], c: Cursor) -> io::Result<Option<Section>>
     ensures ok { IfOk result (λ step. step ≡ first_at s.now c.at) }
-    ensures err { OnErr result ((c.at < length s.now) × (first_at s.now c.at ≡ End)) }
+    ensures err { OnErr result ((c.at < length s.now) × (first_at s.now c.at ≡ None)) }
 {
-    let at = c.at;
-    if s.len() <= at {
-        return Ok(Step::End);
+    if s.len() <= c.at {
+        return Ok(None);
     }
-    let Step::Record(x) = read_section(s, c) else {
-        return malformed(rt, at);
-    };
-    if x.count == 0 {
-        return malformed(rt, at);
+    match read_section(s, c) {
+        Some(x) if x.count != 0 => Ok(Some(x)),
+        _ => malformed(rt, c.at),
     }
-    Ok(Step::Record(x))
 }
 
 // A section behind its next record.
 fn moved(x: Section, agreed: u32, next: Cursor) -> Section
     ensures { result ≡ moved_of x agreed next }
 {
-    let name = x.name;
-    let base = x.base;
     Section {
-        kind: x.kind,
-        name,
-        base,
-        count: x.count,
-        ran: wrapping_add_u32(x.ran, 1),
+        ran: x.ran.wrapping_add(1),
         agreed,
         next,
+        ..x
     }
 }
 
 // The next record of the section, or the first behind it.
-fn after(rt: &impl Print, s: &[u8], x: Section) -> io::Result<Step>
+fn after(rt: &impl Print, s: &[u8], x: Section) -> io::Result<Option<Section>>
     ensures ok { IfOk result (λ step. step ≡ after_of s.now x) }
     ensures err { OnErr result (x.ran ≡ x.count) }
 {
     if x.ran == x.count {
-        write_count(rt, cut(s, x.name.from, x.name.to), x.agreed, x.count)?;
+        write_count(rt, x.name.of(s), x.agreed, x.count)?;
         return first(rt, s, x.next);
     }
-    Ok(Step::Record(x))
+    Ok(Some(x))
 }
 
-// What is next, by what became of a section's record. A write can fail only where there is a line to write.
-pub fn next(rt: &impl Print, s: &[u8], x: Section, ran: Ran) -> io::Result<Step>
+// What is next, by whether a section's record agrees, with the place behind it, or is malformed. A write can fail only where there is a line to write.
+pub fn next(
+    rt: &impl Print,
+    s: &[u8],
+    x: Section,
+    ran: Option<(bool, Cursor)>,
+) -> io::Result<Option<Section>>
     ensures ok { IfOk result (λ step. step ≡ next_of s.now x ran) }
     ensures err { OnErr result (WritesLine x ran) }
 {
-    match ran {
-        Ran::Agrees(behind) => after(rt, s, moved(x, wrapping_add_u32(x.agreed, 1), behind)),
-        Ran::Differs(behind) => {
-            write_differs(
-                rt,
-                cut(s, x.name.from, x.name.to),
-                x.ran,
-                wrapping_sub_u32(x.ran, x.agreed),
-            )?;
-            after(rt, s, moved(x, x.agreed, behind))
-        }
-        Ran::Malformed => malformed(rt, x.next.at),
+    let Some((agrees, behind)) = ran else {
+        return malformed(rt, x.next.at);
+    };
+    if agrees {
+        return after(rt, s, moved(x, x.agreed.wrapping_add(1), behind));
     }
+    write_differs(rt, x.name.of(s), x.ran, x.ran.wrapping_sub(x.agreed))?;
+    after(rt, s, moved(x, x.agreed, behind))
+}
+
+// Judges record by record. Each takes up a byte or more, so there are no more of them than bytes. A write can fail only where there are bytes.
+pub fn records<J: FnMut(Section) -> Option<(bool, Cursor)>>(
+    rt: &impl Print,
+    s: &[u8],
+    mut judge: J,
+) -> io::Result<()>
+    requires { J.IsAlwaysCallable judge }
+    ensures { OnErr result (0 < length s.now) }
+{
+    let mut step = first(rt, s, Cursor { at: 0 })?;
+    for _ in 0..s.len() {
+        let Some(x) = step else {
+            return Ok(());
+        };
+        step = next(rt, s, x, judge(x))?;
+    }
+    Ok(())
 }

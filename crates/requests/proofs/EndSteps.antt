@@ -1,4 +1,6 @@
 -- How a request's function follows its plan: one law for each step of a plan, and one for each way to land. `search ends` goes by them.
+use Rattle.std.specs.Prelude.{Result, Ok, Err}
+use Rattle.wire.specs.declared.read.Fault.{Fault}
 use Prim.Native.Nat.{ℕ, ◌+◌, ◌-◌, ◌≤◌, ◌<◌}
 use mathlib.Core.Path.{◌≡◌, refl, sym, ap, ◌∙◌}
 use mathlib.Core.Bool.{Bool, true, false, cond}
@@ -10,9 +12,7 @@ use borrow.Author.Rules.{rules}
 use borrow.Author.Tests.{le-leb}
 use lib.ListN.{length, take, length-take}
 use Rattle.wire.specs.declared.read.Cursor.{Cursor}
-use Rattle.wire.specs.declared.read.Number.{Number}
 use Rattle.wire.specs.declared.read.Part.{Part}
-use Rattle.wire.specs.declared.read.Part.TheVariants.{Whole}
 use Rattle.wire.specs.Numbers.{be32}
 use Rattle.wire.specs.Read.{cut_of, same}
 use Rattle.wire.specs.Steps.{part, number}
@@ -21,10 +21,10 @@ use Rattle.wire.proofs.Reading.{cut_there, cut_past, cut_back, le_or_lt}
 use Rattle.wire.proofs.Writing.{write-behind}
 use Rattle.wire.proofs.Steps.{leb_yes, leb_no, plain, string-order}
 use Rattle.keys.specs.declared.addition.Carried.{Carried}
-use Rattle.keys.specs.declared.addition.Addition.{Addition}
+use Rattle.keys.specs.Additions.{Addition}
 use Rattle.rule.specs.declared.Millis.{Millis}
-use Rattle.rule.specs.declared.Found.{Found}
-use Rattle.rule.specs.declared.Found.TheVariants.{At, Nothing}
+use Rattle.rule.specs.Gateway.{Found}
+use Rattle.std.specs.Prelude.{Some, None}
 use Rattle.rule.specs.Gateway.{Entry as Key, Gateway, seek, holds, found}
 use Rattle.rule.specs.Rule.{Question, Answer, Landing, reply, close, Plan, land, ask, added}
 use Rattle.rule.specs.Calls.{asks, lands, follow}
@@ -52,37 +52,37 @@ module _ (buffer : List ℕ) (r : Called) (store out : List ℕ) (answers : (q :
   pub cond_no : (z : Plan) (b : Bool) (p : Plan) → false ≡ b → E z → E (cond b p z)
   cond_no z b p e h = rw (← e) h
 
-  pub part-fault : (z : ℕ → Plan) (p w : Part) (F : ℕ → ℕ → Cursor → Plan) (at : ℕ) → w ≡ Part.Fault at → w ≡ p → E (z at) → E (part z p F)
+  pub part-fault : (z : ℕ → Plan) (p w : Result Part Fault) (F : ℕ → ℕ → Cursor → Plan) (v : Fault) → w ≡ Err v → w ≡ p → E (z v.at) → E (part z p F)
   unfolding part
-  part-fault z p w F at q e h = rw (← e, q) h
+  part-fault z p w F v q e h = rw (← e, q) h
 
-  pub part-whole : (z : ℕ → Plan) (p w : Part) (F : ℕ → ℕ → Cursor → Plan) (f t : ℕ) (k : Cursor) → w ≡ Whole f t k → w ≡ p → E (F f t k) → E (part z p F)
+  pub part-whole : (z : ℕ → Plan) (p w : Result Part Fault) (F : ℕ → ℕ → Cursor → Plan) (v : Part) → w ≡ Ok v → w ≡ p → E (F v.from v.to v.next) → E (part z p F)
   unfolding part
-  part-whole z p w F f t k q e h = rw (← e, q) h
+  part-whole z p w F v q e h = rw (← e, q) h
 
-  pub number_fault : (z : ℕ → Plan) (p w : Number) (F : ℕ → Cursor → Plan) (at : ℕ) → w ≡ Number.Fault at → w ≡ p → E (z at) → E (number z p F)
+  pub number_fault : (z : ℕ → Plan) (p w : Result (ℕ × Cursor) Fault) (F : ℕ → Cursor → Plan) (v : Fault) → w ≡ Err v → w ≡ p → E (z v.at) → E (number z p F)
   unfolding number
-  number_fault z p w F at q e h = rw (← e, q) h
+  number_fault z p w F v q e h = rw (← e, q) h
 
-  pub number_value : (z : ℕ → Plan) (p w : Number) (F : ℕ → Cursor → Plan) (n : ℕ) (k : Cursor) → w ≡ Number.Value n k → w ≡ p → E (F n k) → E (number z p F)
+  pub number_value : (z : ℕ → Plan) (p w : Result (ℕ × Cursor) Fault) (F : ℕ → Cursor → Plan) (v : ℕ × Cursor) → w ≡ Ok v → w ≡ p → E (F v.0 v.1) → E (number z p F)
   unfolding number
-  number_value z p w F n k q e h = rw (← e, q) h
+  number_value z p w F v q e h = rw (← e, q) h
 
-  pub found_at : (z : Plan) (p w : Found) (F : ℕ → Plan) (i : ℕ) → w ≡ At i → w ≡ p → E (F i) → E (found z p F)
+  pub found_at : (z : Plan) (p w : Found) (F : ℕ → Plan) (i : ℕ) → w ≡ Some i → w ≡ p → E (F i) → E (found z p F)
   unfolding found
   found_at z p w F i q e h = rw (← e, q) h
 
-  pub found_nothing : (z : Plan) (p w : Found) (F : ℕ → Plan) → w ≡ Nothing → w ≡ p → E z → E (found z p F)
+  pub found_nothing : (z : Plan) (p w : Found) (F : ℕ → Plan) → w ≡ None → w ≡ p → E z → E (found z p F)
   unfolding found
   found_nothing z p w F q e h = rw (← e, q) h
 
-  pub added-whole : (z : Plan) (p w : Addition) (F : Carried → Plan) (c : Carried) → w ≡ Addition.Whole c → w ≡ p → E (F c) → E (added z p F)
+  pub added-whole : (z : Plan) (p w : Addition) (F : Carried → Plan) (c : Carried) → w ≡ Ok c → w ≡ p → E (F c) → E (added z p F)
   unfolding added
   added-whole z p w F c q e h = rw (← e, q) h
 
-  pub added-fault : (z : Plan) (p w : Addition) (F : Carried → Plan) (at : ℕ) → w ≡ Addition.Fault at → w ≡ p → E z → E (added z p F)
+  pub added-fault : (z : Plan) (p w : Addition) (F : Carried → Plan) (v : Fault) → w ≡ Err v → w ≡ p → E z → E (added z p F)
   unfolding added
-  added-fault z p w F at q e h = rw (← e, q) h
+  added-fault z p w F v q e h = rw (← e, q) h
 
   pub landed : (l : Landing) (after : Gateway) → Ends buffer r store out (record { outcome = lands l; gateway = after }) → E (land l after)
   unfolding follow
@@ -170,7 +170,7 @@ cut_fits s p f t n e h = rw e (⊎_elim (λ a. ⊎_elim (there a) (past a) (le_o
 -- ## Positions
 
 -- a search over the entries ends at one of them
-pub place-within : (s : State) (x : List ℕ) (test : Key → Bool) (w : Found) (i : ℕ) → w ≡ At i → w ≡ seek test 0 (gateway_of s x).entries → i < count_of s.columns.numbers
+pub place-within : (s : State) (x : List ℕ) (test : Key → Bool) (w : Found) (i : ℕ) → w ≡ Some i → w ≡ seek test 0 (gateway_of s x).entries → i < count_of s.columns.numbers
 place-within s x test w i e f =
     let inside = (seek-first test (gateway_of s x).entries i (sym f ∙ e)).inside in
     let many = state_count s x in

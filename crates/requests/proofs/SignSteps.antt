@@ -11,8 +11,8 @@ use Rattle.wire.specs.Numbers.{be32}
 use Rattle.wire.specs.Write.{string, write}
 use Rattle.wire.proofs.Writing.{write-behind}
 use Rattle.rule.specs.declared.Hash.{Hash}
-use Rattle.rule.specs.declared.Found.{Found}
-use Rattle.rule.specs.declared.Found.TheVariants.{At, Nothing}
+use Rattle.rule.specs.Gateway.{Found}
+use Rattle.std.specs.Prelude.{Some, None}
 use Rattle.rule.specs.Gateway.{Entry as Key, Gateway, entry_at, seek, holds, entry_with}
 use Rattle.rule.specs.Rule.{Question, Answer, Plan, ask, close, FAILURE, fails, confirmation, signature, signature_reply, signed, signing_data, confirming}
 use Rattle.rule.specs.Calls.{lands, for_number, lent, lent_length, follow}
@@ -172,21 +172,21 @@ module _ (buffer : List ℕ) (r : Called) (store out : List ℕ) (answers : (q :
   abbrev Keyed : Option Key → Type 0
   Keyed o = Ends buffer r store out (follow answers g (confirming g payload o at))
 
-  pub key-absent : (v : List ℕ) (w : Found) → w ≡ Nothing → w ≡ seek (holds v) 0 g.entries → Ends buffer r store out (follow answers g (fails g))
+  pub key-absent : (v : List ℕ) (w : Found) → w ≡ None → w ≡ seek (holds v) 0 g.entries → Ends buffer r store out (follow answers g (fails g))
       → Keyed (entry_with v g.entries)
   unfolding confirming
   key-absent v w e f h = rw (entry_absent v g.entries (sym f ∙ e)) h
 
-  pub key-found : (v : List ℕ) (w : Found) (i : ℕ) → w ≡ At i → w ≡ seek (holds v) 0 g.entries → ((k : Key) → entry_at g.entries i ≡ some k → Keyed (some k))
+  pub key-found : (v : List ℕ) (w : Found) (i : ℕ) → w ≡ Some i → w ≡ seek (holds v) 0 g.entries → ((k : Key) → entry_at g.entries i ≡ some k → Keyed (some k))
       → Keyed (entry_with v g.entries)
   key-found v w i e f h =
-      let at_i : seek (holds v) 0 g.entries ≡ At i = sym f ∙ e in
+      let at_i : seek (holds v) 0 g.entries ≡ Some i = sym f ∙ e in
       let held = found-entry v g.entries i at_i in
       rw (entry_found v g.entries i at_i, held.there) (h held.entry held.there)
 
 -- .. by its number and its flag for Confirm
 pub key-signed : (buffer : List ℕ) (r : Called) (x out : List ℕ) (answers : (q : Question) → Option (Answer q)) (payload : List ℕ) (at : ℕ) (ns cs bs fs ms : List ℕ) (s : State)
-    → ShowsKeys ns cs bs fs ms s → (v : List ℕ) (w : Found) (i : ℕ) → w ≡ At i → w ≡ seek (holds v) 0 (gateway_of s x).entries
+    → ShowsKeys ns cs bs fs ms s → (v : List ℕ) (w : Found) (i : ℕ) → w ≡ Some i → w ≡ seek (holds v) 0 (gateway_of s x).entries
     → ((k : Key) → k.number ≡ get_or ns i 0 → k.confirm ≡ is_set (get_or cs i 0) → Keyed buffer r x out answers (gateway_of s x) payload at (some k))
     → Keyed buffer r x out answers (gateway_of s x) payload at (entry_with v (gateway_of s x).entries)
 key-signed buffer r x out answers payload at ns cs bs fs ms s shows v w i e f h =

@@ -1,5 +1,5 @@
 -- What the code's enums stand for: the answers that are lent, and 01's six outcomes and its refusals.
-use Rattle.std.specs.Prelude.{ℕ, ◌≡◌, ◌↔◌, Bool, true, false, cond, List, [], ◌∷◌, length, get_or, take, eqb}
+use Rattle.std.specs.Prelude.{Option as Perhaps, Some, None, ℕ, ◌≡◌, ◌↔◌, Bool, true, false, cond, List, [], ◌∷◌, length, get_or, take, eqb}
 use Rattle.std.proofs.Math.Option.{Option, none, some}
 use Rattle.wire.specs.Promises.{OneToOne}
 use Rattle.wire.specs.Write.{write}
@@ -10,8 +10,7 @@ use Rattle.rule.specs.Calls as rule
 use Rattle.rule.specs.Calls.{Numbered, for_number, refused, asks, lands}
 use Rattle.requests.specs.declared.Said.{Said}
 use Rattle.requests.specs.declared.Said.TheVariants as said
-use Rattle.requests.specs.declared.Confirmed.{Confirmed}
-use Rattle.requests.specs.declared.Confirmed.TheVariants as confirmed
+use Rattle.requests.specs.declared.Confirmation.{Confirmation}
 use Rattle.requests.specs.declared.Signed.{Signed}
 use Rattle.requests.specs.declared.Signed.TheVariants as signed
 use Rattle.requests.specs.declared.Answers.{Answers}
@@ -25,9 +24,9 @@ grant_of said.Missing = none
 grant_of said.No = some false
 grant_of said.Yes = some true
 
-abbrev pub confirmation_of : Confirmed → Option (Numbered Bool)
-confirmation_of confirmed.Missing = none
-confirmation_of (confirmed.Given n granted) = some (record { number = n; answer = granted })
+abbrev pub confirmation_of : Perhaps Confirmation → Option (Numbered Bool)
+confirmation_of None = none
+confirmation_of (Some c) = some (record { number = c.number; answer = c.granted })
 
 -- what is said of a signature with a key of this number: yes where it has no Confirm, else the confirmation that counts for it
 unfoldable pub agreed : ℕ → Bool → Option (Numbered Bool) → Option Bool

@@ -1,4 +1,4 @@
-// Each request once it is past the gate, over the columns that it needs: an outcome comes out, and columns, store and reply buffer hold what the rule says.
+// Each request once it is past the gate, over lent columns and store: an outcome comes out, and columns, store and reply buffer hold what the rule says.
 // Its functions require what a call's refusals 1, 2, 3 and 5 have tested: room for the reply, a sound state and store, a signature that is not too
 // long. Only the call, in crate engine, comes here.
 #![tactic(auto)]
@@ -8,10 +8,10 @@ pub mod lock;
 pub mod replies;
 pub mod sign;
 
-use rule::Hash;
+use rule::{Hash, Millis};
 use table::{Kept, State};
 
-// An answer to a question that is yes or no.
+// An answer to a question that is yes or no: three words of 01, which each match names.
 #[derive(Clone, Copy)]
 pub enum Said {
     Missing,
@@ -21,12 +21,13 @@ pub enum Said {
 
 // The confirmation's answer; it counts for its insertion number alone.
 #[derive(Clone, Copy)]
-pub enum Confirmed {
-    Missing,
-    Given { number: u64, granted: bool },
+pub struct Confirmation {
+    pub number: u64,
+    pub granted: bool,
 }
 
-// The signer's answer; it counts for its insertion number alone. The bytes of a given signature stand beside it.
+// The signer's answer; it counts for its insertion number alone. The bytes of a given signature are lent beside it, as they cross
+// from C.
 #[derive(Clone, Copy)]
 pub enum Signed {
     Missing,
@@ -39,11 +40,21 @@ pub enum Signed {
 pub struct Answers {
     pub gate: Said,
     pub check: Said,
-    pub confirmation: Confirmed,
+    pub confirmation: Option<Confirmation>,
     pub signature: Signed,
 }
 
+// What a call is asked, and what is lent to it: the payload, the clock's reading, the answers, and the bytes of a signature that is given.
+#[derive(Clone, Copy)]
+pub struct Asked<'a> {
+    pub payload: &'a [u8],
+    pub reading: Millis,
+    pub answers: Answers,
+    pub signature: &'a [u8],
+}
+
 // A refusal and its number; a question; a reply and its length in the reply buffer; or the connection is closed.
+// Refusals and classes are 01's numbers: `OutcomesTold` and `OutcomesRead` speak of every number.
 #[derive(Clone, Copy)]
 pub enum Outcome {
     Refused {

@@ -9,12 +9,12 @@ ghost use Rattle.rule.specs.Calls.{lent, follow};
 ghost use Rattle.table.specs.declared.State.{State};
 ghost use Rattle.table.specs.Meaning.{gateway_of};
 ghost use Rattle.table.specs.Soundness.{Sound};
-ghost use Rattle.table.specs.Shown.{SoundOf, ShowsParts};
+ghost use Rattle.table.specs.Shown.{SoundOf, PartsOf};
 ghost use Rattle.requests.specs.Lists.{item_in};
 ghost use Rattle.requests.specs.Ends.{Ends};
 
 use crate::Outcome;
-use table::entries;
+use table::{Columns, entries};
 use wire::msg;
 use wire::write::{put_byte, put_number, put_string};
 
@@ -39,60 +39,35 @@ fn put_item(
 }
 
 // All items, in list order.
-fn put_items(
-    numbers: &[u64],
-    blob_lens: &[usize],
-    fields_lens: &[usize],
-    comment_lens: &[usize],
-    store: &[u8],
-    reply: &mut [u8],
-    at: usize,
-) -> usize
-    requires { SoundOf (ShowsParts numbers.now blob_lens.now fields_lens.now comment_lens.now) store.now × (at + items_room ≤ length reply.old) }
-    ensures { (result ≤ at + items_room) × ((s : State) → ShowsParts numbers.now blob_lens.now fields_lens.now comment_lens.now s → Sound s store.now → (result ≡ at + length (items (gateway_of s store.now).entries)) × (reply.new ≡ write reply.old at (items (gateway_of s store.now).entries))) }
+fn put_items(t: &Columns, store: &[u8], reply: &mut [u8], at: usize) -> usize
+    requires { SoundOf (PartsOf t.now) store.now × (at + items_room ≤ length reply.old) }
+    ensures { (result ≤ at + items_room) × ((s : State) → PartsOf t.now s → Sound s store.now → (result ≡ at + length (items (gateway_of s store.now).entries)) × (reply.new ≡ write reply.old at (items (gateway_of s store.now).entries))) }
 {
-    let count = entries::count(numbers);
+    let count = entries::count(&t.numbers);
     let mut place = at;
     let mut from = 0;
-    let mut i = 0;
-    while i < count {
+    for i in 0..count {
         place = put_item(
             store,
             from,
-            blob_lens[i],
-            fields_lens[i],
-            comment_lens[i],
+            t.blob_lens[i],
+            t.fields_lens[i],
+            t.comment_lens[i],
             reply,
             place,
         );
-        from += blob_lens[i] + (fields_lens[i] + comment_lens[i]);
-        i += 1;
+        from += t.blob_lens[i] + (t.fields_lens[i] + t.comment_lens[i]);
     }
     place
 }
 
 // The whole reply; its length.
-fn put_list(
-    numbers: &[u64],
-    blob_lens: &[usize],
-    fields_lens: &[usize],
-    comment_lens: &[usize],
-    store: &[u8],
-    reply: &mut [u8],
-) -> usize
-    requires { SoundOf (ShowsParts numbers.now blob_lens.now fields_lens.now comment_lens.now) store.now × (reply_room ≤ length reply.old) }
-    ensures { (s : State) → ShowsParts numbers.now blob_lens.now fields_lens.now comment_lens.now s → Sound s store.now → (result ≡ length (listed (gateway_of s store.now).entries)) × (reply.new ≡ write reply.old 0 (listed (gateway_of s store.now).entries)) }
+fn put_list(t: &Columns, store: &[u8], reply: &mut [u8]) -> usize
+    requires { SoundOf (PartsOf t.now) store.now × (reply_room ≤ length reply.old) }
+    ensures { (s : State) → PartsOf t.now s → Sound s store.now → (result ≡ length (listed (gateway_of s store.now).entries)) × (reply.new ≡ write reply.old 0 (listed (gateway_of s store.now).entries)) }
 {
-    let end = put_items(
-        numbers,
-        blob_lens,
-        fields_lens,
-        comment_lens,
-        store,
-        reply,
-        9,
-    );
-    let count = entries::count(numbers);
+    let end = put_items(t, store, reply, 9);
+    let count = entries::count(&t.numbers);
     let kind = put_number(reply, 0, (end - 4) as u32);
     let at = put_byte(reply, kind, msg::IDENTITIES_ANSWER);
     put_number(reply, at, count as u32);
@@ -100,17 +75,10 @@ fn put_list(
 }
 
 // 11
-pub fn request_identities(
-    numbers: &[u64],
-    blob_lens: &[usize],
-    fields_lens: &[usize],
-    comment_lens: &[usize],
-    store: &[u8],
-    reply: &mut [u8],
-) -> Outcome
-    requires { SoundOf (ShowsParts numbers.now blob_lens.now fields_lens.now comment_lens.now) store.now × (reply_room ≤ length reply.old) }
-    ensures { (s : State) → ShowsParts numbers.now blob_lens.now fields_lens.now comment_lens.now s → Sound s store.now → (a : rule.Answers) → Ends reply.old (record { outcome = result; state = s }) store.now reply.new (follow (lent a) (gateway_of s store.now) (listing (gateway_of s store.now))) }
+pub fn request_identities(t: &Columns, store: &[u8], reply: &mut [u8]) -> Outcome
+    requires { SoundOf (PartsOf t.now) store.now × (reply_room ≤ length reply.old) }
+    ensures { (s : State) → PartsOf t.now s → Sound s store.now → (a : rule.Answers) → Ends reply.old (record { outcome = result; state = s }) store.now reply.new (follow (lent a) (gateway_of s store.now) (listing (gateway_of s store.now))) }
 {
-    let len = put_list(numbers, blob_lens, fields_lens, comment_lens, store, reply);
+    let len = put_list(t, store, reply);
     Outcome::Reply { len }
 }

@@ -23,15 +23,10 @@ fn set_lock(passphrase: &mut [u8], kept: Kept, p: &[u8], reply: &mut [u8]) -> La
     requires { (5 ≤ length reply.old) × (length passphrase.old ≡ passphrase_limit) × (length p.now ≤ passphrase_limit) }
     ensures { Answered 6 reply.old result.outcome reply.new × ((t : Columns) (x : List ℕ) → Sound (held t passphrase.old kept) x → Means (held t passphrase.new result.kept) x (with_lock p.now (gateway_of (held t passphrase.old kept) x))) }
 {
-    let clock = kept.clock;
     let locked = locks::keep_passphrase(passphrase, p);
     Landed {
         outcome: success(reply),
-        kept: Kept {
-            clock,
-            next: kept.next,
-            locked,
-        },
+        kept: Kept { locked, ..kept },
     }
 }
 
@@ -41,7 +36,7 @@ pub fn lock(passphrase: &mut [u8], kept: Kept, payload: &[u8], reply: &mut [u8])
     ensures { (t : Columns) (x : List ℕ) → Sound (held t passphrase.old kept) x → (a : rule.Answers) → Ends reply.old (record { outcome = result.outcome; state = held t passphrase.new result.kept }) x reply.new (follow (lent a) (gateway_of (held t passphrase.old kept) x) (locking (gateway_of (held t passphrase.old kept) x) payload.now)) }
 {
     let start = Cursor { at: 1 };
-    let Part::Whole { from, to, next: _ } = start.string(payload) else {
+    let Ok(Part { from, to, next: _ }) = start.string(payload) else {
         return Landed {
             outcome: failure(reply),
             kept,
@@ -62,7 +57,7 @@ pub fn unlock(passphrase: &mut [u8], kept: Kept, payload: &[u8], reply: &mut [u8
     ensures { (t : Columns) (x : List ℕ) → Sound (held t passphrase.old kept) x → (a : rule.Answers) → Ends reply.old (record { outcome = result.outcome; state = held t passphrase.new result.kept }) x reply.new (follow (lent a) (gateway_of (held t passphrase.old kept) x) (unlocking (gateway_of (held t passphrase.old kept) x) payload.now)) }
 {
     let start = Cursor { at: 1 };
-    let Part::Whole { from, to, next: _ } = start.string(payload) else {
+    let Ok(Part { from, to, next: _ }) = start.string(payload) else {
         return Landed {
             outcome: failure(reply),
             kept,

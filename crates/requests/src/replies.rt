@@ -6,7 +6,7 @@ use crate::Outcome;
 use wire::msg;
 use wire::write::{put_byte, put_number};
 
-// The five bytes of a reply whose payload is `kind` alone.
+// The five bytes of a reply whose payload is the byte `kind` alone.
 fn answer(kind: u8, reply: &mut [u8]) -> Outcome
     requires { 5 ≤ length reply.old }
     ensures { Answered kind reply.old result reply.new }

@@ -11,16 +11,16 @@ ghost use Rattle.rule.specs.Calls.{lent, for_number, lent_length, follow};
 ghost use Rattle.table.specs.declared.State.{State};
 ghost use Rattle.table.specs.Meaning.{is_set, gateway_of};
 ghost use Rattle.table.specs.Soundness.{Sound};
-ghost use Rattle.table.specs.Shown.{SoundOf, ShowsKeys};
+ghost use Rattle.table.specs.Shown.{SoundOf, KeysOf};
 ghost use Rattle.requests.specs.Outcomes.{confirmation_of, agreed, signature_of, grant_of, handed, lent_of};
 ghost use Rattle.requests.specs.Ends.{Ends};
 
 use crate::replies::failure;
-use crate::{Answers, Confirmed, Outcome, Said, Signed};
-use rule::{Found, Hash};
-use table::{entries, is_set};
+use crate::{Asked, Confirmation, Outcome, Said, Signed};
+use rule::Hash;
+use table::{Columns, is_set};
 use wire::msg;
-use wire::read::{Cursor, Number, Part, cut};
+use wire::read::{Cursor, Part, cut};
 use wire::write::{put_byte, put_number, put_string};
 
 // Flag 2 set: SHA-256; else flag 4: SHA-512; else none.
@@ -37,25 +37,19 @@ fn hash_of(flags: u32) -> Hash
 }
 
 // The confirmation that counts for this insertion number.
-fn confirmed_for(c: Confirmed, number: u64) -> Said
+#[tactic(auto, unfolding(rule::specs::Calls::for_number))]
+fn confirmed_for(c: Option<Confirmation>, number: u64) -> Said
     ensures { for_number number (confirmation_of c) ≡ grant_of result }
 {
     match c {
-        Confirmed::Missing => Said::Missing,
-        Confirmed::Given { number: n, granted } => {
-            if n != number {
-                return Said::Missing;
-            }
-            if granted {
-                return Said::Yes;
-            }
-            Said::No
-        }
+        Some(c) if c.number == number && c.granted => Said::Yes,
+        Some(c) if c.number == number => Said::No,
+        _ => Said::Missing,
     }
 }
 
 // What is said of a signature with a key of this number and this flag for Confirm: yes where it has no Confirm.
-fn consent(number: u64, confirm: u8, c: Confirmed) -> Said
+fn consent(number: u64, confirm: u8, c: Option<Confirmation>) -> Said
     ensures { agreed number (is_set confirm) (confirmation_of c) ≡ grant_of result }
 {
     if !is_set(confirm) {
@@ -65,23 +59,14 @@ fn consent(number: u64, confirm: u8, c: Confirmed) -> Said
 }
 
 // The signer's answer that counts for this insertion number: none, nothing given, or the bytes beside it.
+#[tactic(auto, unfolding(rule::specs::Calls::for_number))]
 fn signed_for(s: Signed, number: u64) -> Said
     ensures { (bytes : List ℕ) → for_number number (signature_of s bytes) ≡ handed result bytes }
 {
     match s {
-        Signed::Missing => Said::Missing,
-        Signed::Nothing { number: n } => {
-            if n == number {
-                return Said::No;
-            }
-            Said::Missing
-        }
-        Signed::Given { number: n } => {
-            if n == number {
-                return Said::Yes;
-            }
-            Said::Missing
-        }
+        Signed::Nothing { number: n } if n == number => Said::No,
+        Signed::Given { number: n } if n == number => Said::Yes,
+        _ => Said::Missing,
     }
 }
 
@@ -96,26 +81,18 @@ fn put_reply(blob: &[u8], reply: &mut [u8]) -> usize
 }
 
 // Past the confirmation: data and flags, then the signer.
-fn sign_data(
-    payload: &[u8],
-    at: Cursor,
-    number: u64,
-    answers: Answers,
-    signature: &[u8],
-    reply: &mut [u8],
-) -> Outcome
-    requires { (reply_room ≤ length reply.old) × (lent_length (lent_of answers signature.now).signature ≤ signature_limit) }
-    ensures { (s : State) (x : List ℕ) → Sound s x → Ends reply.old (record { outcome = result; state = s }) x reply.new (follow (lent (lent_of answers signature.now)) (gateway_of s x) (signing_data (gateway_of s x) payload.now number at.at)) }
+fn sign_data(asked: Asked<'_>, at: Cursor, number: u64, reply: &mut [u8]) -> Outcome
+    requires { (reply_room ≤ length reply.old) × (lent_length (lent_of asked.answers asked.signature.now).signature ≤ signature_limit) }
+    ensures { (s : State) (x : List ℕ) → Sound s x → Ends reply.old (record { outcome = result; state = s }) x reply.new (follow (lent (lent_of asked.entry.answers asked.entry.signature.now)) (gateway_of s x) (signing_data (gateway_of s x) asked.entry.payload.now number at.at)) }
 {
-    let Part::Whole { from, to, next } = at.string(payload) else {
+    let Ok(Part { from, to, next }) = at.string(asked.payload) else {
         return Outcome::Close;
     };
-    let Number::Value(flags, _) = next.number(payload) else {
+    let Ok((flags, _)) = next.number(asked.payload) else {
         return Outcome::Close;
     };
     let hash = hash_of(flags);
-    let given = answers.signature;
-    match signed_for(given, number) {
+    match signed_for(asked.answers.signature, number) {
         Said::Missing => Outcome::Sign {
             number,
             from,
@@ -124,64 +101,35 @@ fn sign_data(
         },
         Said::No => Outcome::Close,
         Said::Yes => {
-            let len = put_reply(signature, reply);
+            let len = put_reply(asked.signature, reply);
             Outcome::Reply { len }
         }
     }
 }
 
 // A key of this number and this flag for Confirm was found: its Confirm, then the rest.
-fn sign_with(
-    number: u64,
-    confirm: u8,
-    payload: &[u8],
-    at: Cursor,
-    answers: Answers,
-    signature: &[u8],
-    reply: &mut [u8],
-) -> Outcome
-    requires { (reply_room ≤ length reply.old) × (lent_length (lent_of answers signature.now).signature ≤ signature_limit) }
-    ensures { (s : State) (x : List ℕ) → Sound s x → (k : Key) → k.number ≡ number → k.confirm ≡ is_set confirm → Ends reply.old (record { outcome = result; state = s }) x reply.new (follow (lent (lent_of answers signature.now)) (gateway_of s x) (confirming (gateway_of s x) payload.now (some k) at.at)) }
+fn sign_with(number: u64, confirm: u8, asked: Asked<'_>, at: Cursor, reply: &mut [u8]) -> Outcome
+    requires { (reply_room ≤ length reply.old) × (lent_length (lent_of asked.answers asked.signature.now).signature ≤ signature_limit) }
+    ensures { (s : State) (x : List ℕ) → Sound s x → (k : Key) → k.number ≡ number → k.confirm ≡ is_set confirm → Ends reply.old (record { outcome = result; state = s }) x reply.new (follow (lent (lent_of asked.entry.answers asked.entry.signature.now)) (gateway_of s x) (confirming (gateway_of s x) asked.entry.payload.now (some k) at.at)) }
 {
-    let given = answers.confirmation;
-    match consent(number, confirm, given) {
+    match consent(number, confirm, asked.answers.confirmation) {
         Said::Missing => Outcome::Confirm { number },
         Said::No => failure(reply),
-        Said::Yes => sign_data(payload, at, number, answers, signature, reply),
+        Said::Yes => sign_data(asked, at, number, reply),
     }
 }
 
 // 13
-pub fn try_sign(
-    numbers: &[u64],
-    confirm: &[u8],
-    blob_lens: &[usize],
-    fields_lens: &[usize],
-    comment_lens: &[usize],
-    store: &[u8],
-    payload: &[u8],
-    answers: Answers,
-    signature: &[u8],
-    reply: &mut [u8],
-) -> Outcome
-    requires { (reply_room ≤ length reply.old) × (lent_length (lent_of answers signature.now).signature ≤ signature_limit) × SoundOf (ShowsKeys numbers.now confirm.now blob_lens.now fields_lens.now comment_lens.now) store.now }
-    ensures { (s : State) → ShowsKeys numbers.now confirm.now blob_lens.now fields_lens.now comment_lens.now s → Sound s store.now → Ends reply.old (record { outcome = result; state = s }) store.now reply.new (follow (lent (lent_of answers signature.now)) (gateway_of s store.now) (signing (gateway_of s store.now) payload.now)) }
+pub fn try_sign(t: &Columns, store: &[u8], asked: Asked<'_>, reply: &mut [u8]) -> Outcome
+    requires { (reply_room ≤ length reply.old) × (lent_length (lent_of asked.answers asked.signature.now).signature ≤ signature_limit) × SoundOf (KeysOf t.now) store.now }
+    ensures { (s : State) → KeysOf t.now s → Sound s store.now → Ends reply.old (record { outcome = result; state = s }) store.now reply.new (follow (lent (lent_of asked.entry.answers asked.entry.signature.now)) (gateway_of s store.now) (signing (gateway_of s store.now) asked.entry.payload.now)) }
 {
     let start = Cursor { at: 1 };
-    let Part::Whole { from, to, next } = start.string(payload) else {
+    let Ok(Part { from, to, next }) = start.string(asked.payload) else {
         return Outcome::Close;
     };
-    match entries::find(
-        numbers,
-        blob_lens,
-        fields_lens,
-        comment_lens,
-        store,
-        cut(payload, from, to),
-    ) {
-        Found::Nothing => failure(reply),
-        Found::At(i) => sign_with(
-            numbers[i], confirm[i], payload, next, answers, signature, reply,
-        ),
+    match t.find(store, cut(asked.payload, from, to)) {
+        None => failure(reply),
+        Some(i) => sign_with(t.numbers[i], t.confirm[i], asked, next, reply),
     }
 }

@@ -4,6 +4,7 @@ use mathlib.Core.Path.{◌≡◌, refl, sym, ap, ap₂, ◌∙◌}
 use mathlib.Core.Bool.{Bool, true, false, ◌||◌}
 use mathlib.Core.List.{List, [], ◌∷◌, ◌++◌, append-nil}
 use native.Mathlib.Omega.{arith}
+use Rattle.std.specs.Prelude.{Some, None}
 use lib.ListN.{length, take, length-append}
 use Rattle.wire.specs.declared.Seconds.{Seconds}
 use Rattle.wire.specs.declared.Constraint.{Constraint}
@@ -11,9 +12,7 @@ use Rattle.wire.specs.declared.Constraint.TheVariants.{KeyLifetime, Confirm}
 use Rattle.wire.specs.Numbers.{be32}
 use Rattle.wire.specs.Constraints.{constraint_forms}
 use Rattle.wire.proofs.ByteLaws.{octets_bytes}
-use Rattle.keys.specs.declared.constraints.Lifetime.{Lifetime}
-use Rattle.keys.specs.declared.constraints.Lifetime.TheVariants.{Forever, For}
-use Rattle.keys.specs.Constraints.{walk_of}
+use Rattle.keys.specs.Constraints.{Lifetime, walk_of}
 use Rattle.keys.specs.Forms.{Adds, none, lifetime, confirm}
 use Rattle.keys.specs.Values.{Walked, walk_says}
 use Rattle.keys.specs.Promises.{Settles, end, twice}
@@ -37,12 +36,12 @@ none_adds (Confirm ∷ cs) l true e = confirm true (none_adds cs l true e)
 none_adds (Confirm ∷ cs) l false e = confirm false (none_adds cs l true e)
 
 -- with one they give it
-one_adds : (cs : List Constraint) (c : Bool) (n : ℕ) → n < 2 ^ 32 → lifetimes_among cs ≡ n ∷ [] → Adds Forever c cs (For (record { count = n })) (c || confirm_among cs)
+one_adds : (cs : List Constraint) (c : Bool) (n : ℕ) → n < 2 ^ 32 → lifetimes_among cs ≡ n ∷ [] → Adds None c cs (Some (record { count = n })) (c || confirm_among cs)
 one_adds [] c n small e = let z : ◌≡◌ {A = ℕ} 0 1 = cc in absurd (omega arith)
 one_adds (KeyLifetime seconds ∷ cs) c n small e =
     let is : seconds.count ≡ n = cc in
     let others : lifetimes_among cs ≡ [] = cc in
-    rw (← is) (lifetime seconds (rw is small) (none_adds cs (For seconds) c others))
+    rw (← is) (lifetime seconds (rw is small) (none_adds cs (Some seconds) c others))
 one_adds (Confirm ∷ cs) true n small e = confirm true (one_adds cs true n small e)
 one_adds (Confirm ∷ cs) false n small e = confirm false (one_adds cs true n small e)
 
@@ -77,10 +76,10 @@ second (Confirm ∷ cs) n m ns e = let b = second cs n m ns e in in_front Confir
 
 module _ (at : ℕ) (cs : List Constraint) where
   abbrev walked : Walked
-  walked = walk_says (walk_of at (constraint_forms cs) Forever false)
+  walked = walk_says (walk_of at (constraint_forms cs) None false)
 
   -- constraints that it takes up to the end, or up to what settles it
-  takes : (taken : List Constraint) (l : Lifetime) (c : Bool) (rest : List ℕ) (w : Walked) → constraint_forms cs ≡ constraint_forms taken ++ rest → Adds Forever false taken l c
+  takes : (taken : List Constraint) (l : Lifetime) (c : Bool) (rest : List ℕ) (w : Walked) → constraint_forms cs ≡ constraint_forms taken ++ rest → Adds None false taken l c
       → Settles (at + length (constraint_forms taken)) rest l c w → walked ≡ w
   takes taken l c rest w form adds settles = (constraint_rule at (constraint_forms cs) w (forms_bytes cs)).1 (taken, l, c, rest, form, adds, settles)
 
@@ -88,8 +87,8 @@ module _ (at : ℕ) (cs : List Constraint) where
   given_back h =
       let all : constraint_forms cs ≡ constraint_forms cs ++ [] = sym (append-nil (constraint_forms cs)) in
       record {
-        no_lifetime = λ e. takes cs Forever (confirm_among cs) [] _ all (none_adds cs Forever false e) (end Forever (confirm_among cs));
-        one_lifetime = λ n e. takes cs _ (confirm_among cs) [] _ all (one_adds cs false n (rw e at h).0 e) (end (For (record { count = n })) (confirm_among cs));
+        no_lifetime = λ e. takes cs None (confirm_among cs) [] _ all (none_adds cs None false e) (end None (confirm_among cs));
+        one_lifetime = λ n e. takes cs _ (confirm_among cs) [] _ all (one_adds cs false n (rw e at h).0 e) (end (Some (record { count = n })) (confirm_among cs));
         more_lifetimes = λ n m ns e.
             let b = second cs n m ns e in
             let bytes = be32 b.seconds.count ++ constraint_forms b.rest in

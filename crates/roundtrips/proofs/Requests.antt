@@ -6,7 +6,7 @@ use native.Mathlib.Omega.{arith}
 use lib.ListN.{drop}
 use Rattle.wire.specs.Numbers.{Bytes, be32}
 use Rattle.wire.specs.Read.{byte_at}
-use Rattle.wire.specs.Values.{read, octet_reads}
+use Rattle.wire.specs.Values.{read, number_reads}
 use Rattle.wire.specs.Write.{string}
 use Rattle.wire.proofs.Laws.{byte_rule, number_rule, whole_of}
 use Rattle.wire.proofs.ByteLaws.{bytes-cons, be32-bytes, bytes-string}
@@ -16,7 +16,7 @@ use Rattle.client.specs.Promises.{Strings, none, one}
 use Rattle.client.proofs.RequestRules.{list_found, lock_found, unlock_found, sign_found}
 use Rattle.roundtrips.specs.Promises.{ListRead, LockRead, UnlockRead, SignReads, SignRead}
 
-begins_of : (byte : ℕ) (payload : List ℕ) → octet_reads (byte_at payload 0) ≡ read byte 1 → Begins byte payload
+begins_of : (byte : ℕ) (payload : List ℕ) → number_reads (byte_at payload 0) ≡ read byte 1 → Begins byte payload
 begins_of byte payload e =
     let is : payload ≡ byte ∷ drop 1 payload = (byte_rule payload 0 byte (drop 1 payload)).1 (e, refl) in
     subst (Begins byte) (sym is) (record { some_byte = omega arith; first = refl })

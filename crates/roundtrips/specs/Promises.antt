@@ -1,5 +1,5 @@
 -- What the client writes the rule reads, and what the rule sends the client reads, as statements; the proofs are in proofs/.
-use Rattle.std.specs.Prelude.{ℕ, ◌+◌, ◌^◌, ◌≤◌, ◌<◌, ◌≡◌, List, [], ◌∷◌, ◌++◌, map, ◌≢◌, Bool, true, false, length, get_or, take, drop}
+use Rattle.std.specs.Prelude.{ℕ, ◌+◌, ◌^◌, ◌≤◌, ◌<◌, ◌≡◌, List, [], ◌∷◌, ◌++◌, None, map, ◌≢◌, Bool, true, false, length, get_or, take, drop}
 use Rattle.std.proofs.Math.Option.{none, some}
 use Rattle.wire.specs.declared.Seconds.{Seconds}
 use Rattle.wire.specs.declared.Constraint.{Constraint}
@@ -11,7 +11,6 @@ use Rattle.wire.specs.Write.{string}
 use Rattle.wire.specs.Promises.{Holds}
 use Rattle.wire.specs.Refusals.{grants, wrote_says}
 use Rattle.wire.specs.Constraints.{constraint_forms}
-use Rattle.keys.specs.declared.constraints.Lifetime.TheVariants.{Forever}
 use Rattle.keys.specs.Constraints.{walk_of}
 use Rattle.keys.specs.Values.{Walked, ended, second_lifetime, walk_says}
 use Rattle.rule.specs.Gateway.{Entry, Gateway, fresh}
@@ -91,7 +90,7 @@ pub record ReachesAgent (sent id pin : List ℕ) (cs : List Constraint) : Type 0
   pub payload : List ℕ
   pub splits : Holds sent payload
   pub reads : RequestReads 26 payload (id ∷ pin ∷ []) (constraint_forms cs)
-  pub walks : GivenBack cs reads.end (walk_says (walk_of reads.end (drop reads.end payload) Forever false))
+  pub walks : GivenBack cs reads.end (walk_says (walk_of reads.end (drop reads.end payload) None false))
 
 -- so does all that the writer writes with constraints given
 abbrev pub CardWalked : Type 0

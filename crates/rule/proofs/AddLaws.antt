@@ -9,16 +9,15 @@ use mathlib.Core.List.{List, [], ◌∷◌}
 use borrow.Author.Tests.{lt-ltb, leb-true, leb-false}
 use lib.ListN.{length}
 use lib.Dec.{leb}
+use Rattle.std.proofs.Common.{None, Ok}
 use Rattle.wire.specs.Limits.{last_number}
 use Rattle.wire.specs.Numbers.{Bytes}
 use Rattle.wire.proofs.Reading.{same-rule}
 use Rattle.keys.specs.declared.addition.Carried.{Carried}
-use Rattle.keys.specs.declared.addition.Addition.{Addition}
 use Rattle.keys.specs.Kinds.{blob_of}
 use Rattle.keys.specs.Additions.{addition_at}
 use Rattle.keys.specs.Forms.{ed25519_key, ecdsa_key, rsa_key, KeyFields, as_ed25519, as_nistp256, as_nistp384, as_nistp521, as_rsa}
 use Rattle.rule.specs.declared.Millis.{Millis}
-use Rattle.rule.specs.declared.Found.TheVariants.{Nothing}
 use Rattle.rule.specs.Gateway.{Entry, Gateway, locked, at_clock, advance, holds, found, lengths_of, all_lengths, others, has_room, place_for, NewKey, new_entry, with_entry}
 use Rattle.rule.specs.Soundness.{fit}
 use Rattle.rule.specs.Rule.{Question, gate, check, Answer, FAILURE, SUCCESS, added, brought, entry_of, storing, adding}
@@ -233,7 +232,7 @@ module _ (answer : (q : Question) → Option (Answer q)) (g : Gateway) (e : Entr
       by_answer (some true) is = success_not_failure refl (same-landing (sym (storing-succeeds i s is) ∙ fails))
       by_answer (some false) is = unless is
 
-  storing-fails : fit e.blob e.fields e.comment ≡ true → g.next < last_number → place_for e g.entries ≡ Nothing
+  storing-fails : fit e.blob e.fields e.comment ≡ true → g.next < last_number → place_for e g.entries ≡ None
       → (follow answer g (storing g e to)).outcome ≡ lands FAILURE
   unfolding storing found follow
   storing-fails fits left nowhere = rw (fits, lt-ltb _ _ left, nowhere)
@@ -277,7 +276,7 @@ check_asks g c from to bytes e = by_row (asks_in g c (check from to) (λ class n
     Asks r = r.outcome ≡ asks (check from to) → Seen
 
     asked : PastGate g c → locked g ≡ false → (constrained : Bool) (carried : Carried) (i : ℕ) → Begins (add_byte constrained) (payload_of c)
-        → addition_at (payload_of c) 1 constrained ≡ Addition.Whole carried → Storable (at_call g c) (read_entry g c carried) i
+        → addition_at (payload_of c) 1 constrained ≡ Ok carried → Storable (at_call g c) (read_entry g c carried) i
         → asks (check 1 carried.places.end) ≡ asks (check from to) → Seen
     asked past state constrained carried i begins read storable is =
         let (k, request, r) = add_in (payload_of c) bytes constrained carried begins read in

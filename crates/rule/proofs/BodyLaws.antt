@@ -8,21 +8,19 @@ use mathlib.Core.Option.{Option, none, some}
 use mathlib.Core.List.{List, []}
 use borrow.Author.Tests.{ltb-true}
 use lib.Dec.{leb, ltb}
+use Rattle.std.proofs.Common.{None, Ok, Some}
+use Rattle.wire.specs.Steps.{faulted, part_of}
 use Rattle.wire.specs.Limits.{passphrase_limit, last_number}
 use Rattle.wire.specs.declared.read.Cursor.{Cursor}
-use Rattle.wire.specs.declared.read.Number.{Number}
-use Rattle.wire.specs.declared.read.Part.{Part}
-use Rattle.wire.specs.declared.read.Part.TheVariants.{Whole}
 use Rattle.wire.specs.Read.{cut_of, same, string_at, number_at}
 use Rattle.keys.specs.declared.addition.Carried.{Carried}
-use Rattle.keys.specs.declared.addition.Addition.{Addition}
 use Rattle.keys.specs.Kinds.{blob_of}
 use Rattle.keys.specs.Additions.{addition_at}
-use Rattle.rule.specs.declared.Found.{Found}
-use Rattle.rule.specs.declared.Found.TheVariants.{At, Nothing}
+use Rattle.rule.specs.Gateway.{Found}
 use Rattle.rule.specs.Gateway.{Entry, Gateway, locked, seek, holds, entry_with, place_for, with_lock, without, with_entry}
 use Rattle.rule.specs.Soundness.{fit}
 use Rattle.rule.specs.Rule.{Question, gate, check, confirmation, signature, Answer, Landing, reply, close, FAILURE, SUCCESS, Plan, land, fails, closes, listing, removing, removing_all, locking, unlocking, hash_of, signature_reply, signed, signing_data, confirming, signing, entry_of, storing, adding}
+use Rattle.wire.proofs.Reading.{part_one}
 use Rattle.rule.specs.Calls.{lent, Call, asks, lands, Result, follow, call}
 use Rattle.rule.specs.Words.{Begins, Carries, HeldAt, at_call, payload_of, PastGate}
 use Rattle.rule.specs.Rows.{Row, list, add, add_constrained, remove, remove_all, sign, lock, unlock}
@@ -40,14 +38,14 @@ pub record Chosen (g : Gateway) (payload : List ℕ) (i : ℕ) (e : Entry) : Typ
   pub there : HeldAt g i e
   pub carries : Carries e.blob payload
 
-whole_not_fault : {p : Part} {from to at : ℕ} {next : Cursor} → p ≡ Whole from to next → p ≡ Part.Fault at → ⊥
-whole_not_fault e f = let z : ◌≡◌ {A = ℕ} 0 1 = cc in omega arith
+whole_not_fault : {from to at : ℕ} {next : Cursor} → part_of from to next ≡ faulted at → ⊥
+whole_not_fault e = let z : ◌≡◌ {A = ℕ} 0 1 = cc in omega arith
 
 -- nothing is ordered where the flags behind the data are cut
-flags_not_cut : {payload : List ℕ} {at from to flags x y cut : ℕ} {next : Cursor} → Ordered payload at from to flags → string_at payload at ≡ Whole x y next
-    → number_at payload next.at ≡ Number.Fault cut → ⊥
+flags_not_cut : {payload : List ℕ} {at from to flags x y cut : ℕ} {next : Cursor} → Ordered payload at from to flags → string_at payload at ≡ part_of x y next
+    → number_at payload next.at ≡ faulted cut → ⊥
 flags_not_cut {next = next} order message fault =
-    let same_next : order.next ≡ next = cc in
+    let same_next : order.next ≡ next = (part_one (sym order.message ∙ message)).next in
     let z : ◌≡◌ {A = ℕ} 0 1 = cc in
     omega arith
 
@@ -57,7 +55,7 @@ Allowed answer e = e.confirm ≡ true → answer (confirmation e.number) ≡ som
 
 -- why a sign request fails behind the gate
 pub data Failing (answer : (q : Question) → Option (Answer q)) (g : Gateway) (payload : List ℕ) : Type 0 where
-  not_found : (v : List ℕ) → Carries v payload → seek (holds v) 0 g.entries ≡ Nothing → Failing answer g payload
+  not_found : (v : List ℕ) → Carries v payload → seek (holds v) 0 g.entries ≡ None → Failing answer g payload
   said_no : (i : ℕ) (e : Entry) → Chosen g payload i e → e.confirm ≡ true → answer (confirmation e.number) ≡ some false → Failing answer g payload
 
 -- why it closes
@@ -110,8 +108,8 @@ module _ (answer : (q : Question) → Option (Answer q)) (g : Gateway) (payload 
     made c = entry_of g payload c (blob_of payload 1 c.places)
 
     pub adding-cases : (constrained : Bool)
-        → ((c : Carried) (i : ℕ) → addition_at payload 1 constrained ≡ Addition.Whole c → Storable g (made c) i → Asks (check 1 c.places.end))
-        → ((c : Carried) (i : ℕ) → addition_at payload 1 constrained ≡ Addition.Whole c → Storable g (made c) i
+        → ((c : Carried) (i : ℕ) → addition_at payload 1 constrained ≡ Ok c → Storable g (made c) i → Asks (check 1 c.places.end))
+        → ((c : Carried) (i : ℕ) → addition_at payload 1 constrained ≡ Ok c → Storable g (made c) i
         → answer (check 1 c.places.end) ≡ some true → Lands SUCCESS (with_entry i (made c) g))
         → Follows (adding constrained g payload)
     unfolding adding storing
@@ -135,7 +133,7 @@ module _ (answer : (q : Question) → Option (Answer q)) (g : Gateway) (payload 
       → Follows (signing g payload)
   unfolding signing confirming signing_data signed
   signing-cases failing closing confirms asking signs =
-      part-cases Follows (string_at payload 1) (λ _ cut. closed (no_key (λ v s. whole_not_fault s.read cut))) λ f t k read.
+      part-cases Follows (string_at payload 1) (λ _ cut. closed (no_key (λ v s. whole_not_fault (sym s.read ∙ cut)))) λ f t k read.
       by_search (record { from = f; to = t; next = k; read = read; is = refl }) (seek (holds (cut_of payload f t)) 0 g.entries) refl
     where
       failed : Failing answer g payload → Follows (fails g)
@@ -152,7 +150,7 @@ module _ (answer : (q : Question) → Option (Answer q)) (g : Gateway) (payload 
       by_data : (i : ℕ) (e : Entry) (k : Chosen g payload i e) → Allowed answer e → Follows (signing_data g payload e.number k.carries.next.at)
       by_data i e k allowed =
           part-cases Follows (string_at payload k.carries.next.at)
-          (λ _ cut. closed (no_order i e k allowed (λ from to flags order. whole_not_fault order.message cut))) λ from to next message.
+          (λ _ cut. closed (no_order i e k allowed (λ from to flags order. whole_not_fault (sym order.message ∙ cut)))) λ from to next message.
           number_cases Follows (number_at payload next.at)
           (λ _ cut. closed (no_order i e k allowed (λ _ _ flags order. flags_not_cut order message cut))) λ flags end choice.
           let order : Ordered payload k.carries.next.at from to flags = record { next = next; end = end; message = message; choice = choice } in
@@ -161,8 +159,8 @@ module _ (answer : (q : Question) → Option (Answer q)) (g : Gateway) (payload 
           (by_signer i e from to flags k order allowed)
 
       by_search : {v : List ℕ} (s : Carries v payload) (found : Found) → seek (holds v) 0 g.entries ≡ found → Follows (confirming g payload (entry_with v g.entries) s.next.at)
-      by_search {v} s Nothing absent = rw (entry_absent v g.entries absent) (failed (not_found v s absent))
-      by_search {v} s (At i) at =
+      by_search {v} s None absent = rw (entry_absent v g.entries absent) (failed (not_found v s absent))
+      by_search {v} s (Some i) at =
           let held = found_at v g.entries i at in
           let e = held.entry in
           let key : Chosen g payload i e = record { there = held.there; carries = record { from = s.from; to = s.to; next = s.next; read = s.read; is = s.is ∙ sym held.is } } in

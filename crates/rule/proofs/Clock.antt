@@ -5,8 +5,8 @@ use mathlib.Core.Path.{◌≡◌, refl, ap, ◌∙◌}
 use mathlib.Core.Bool.{true, cond}
 use mathlib.Core.List.{List, [], ◌∷◌}
 use borrow.Author.Tests.{le-leb, leb-true}
-use Rattle.keys.specs.declared.constraints.Lifetime.{Lifetime}
-use Rattle.keys.specs.declared.constraints.Lifetime.TheVariants.{Forever, For}
+use Rattle.std.proofs.Common.{None, Some}
+use Rattle.keys.specs.Constraints.{Lifetime}
 use Rattle.rule.specs.declared.Millis.{Millis}
 use Rattle.rule.specs.Gateway.{Entry, Gateway, millis_of, due_at, lasting, at_clock, later, advance}
 use Rattle.rule.proofs.Cases.{cond_cases}
@@ -16,8 +16,8 @@ same_count e = λ i. record { count = e i }
 
 due_later : (c d reading : Millis) (l : Lifetime) → c.count ≤ d.count → due_at c reading l ≡ true → due_at d reading l ≡ true
 unfolding due_at
-due_later c d reading Forever h e = e
-due_later c d reading (For seconds) h e =
+due_later c d reading None h e = e
+due_later c d reading (Some seconds) h e =
     let q : (millis_of seconds).count ≤ c.count - reading.count = leb-true _ _ e in
     let r : (millis_of seconds).count ≤ d.count - reading.count = omega arith in
     le-leb _ _ r

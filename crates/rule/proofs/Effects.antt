@@ -8,13 +8,13 @@ use mathlib.Core.List.{List, []}
 use borrow.Author.Tests.{leb-true, ltb-true}
 use lib.ListN.{length}
 use lib.Dec.{leb, ltb, eqb}
+use Rattle.std.proofs.Common.{Some}
 use Rattle.wire.specs.Limits.{passphrase_limit, last_number}
 use Rattle.wire.specs.Read.{cut_of, same, string_at, number_at}
 use Rattle.wire.proofs.Reading.{string-read}
 use Rattle.wire.proofs.Format.{part_length}
 use Rattle.keys.specs.Kinds.{blob_of}
 use Rattle.keys.specs.Additions.{addition_at}
-use Rattle.rule.specs.declared.Found.TheVariants.{At}
 use Rattle.rule.specs.Gateway.{Entry, Gateway, locked, opened, seek, holds, entry_with, place_for, with_lock, without, without_all, with_entry}
 use Rattle.rule.specs.Soundness.{fit}
 use Rattle.rule.specs.Rule.{Landing, FAILURE, SUCCESS, Plan, listing, removing, removing_all, locking, unlocking, signed, signing_data, confirming, signing, entry_of, storing, adding, gated, row, table, rule}
@@ -25,13 +25,13 @@ use Rattle.rule.proofs.Plans.{EveryLanding}
 pub record Storable (g : Gateway) (e : Entry) (i : ℕ) : Type 0 where
   pub fits : fit e.blob e.fields e.comment ≡ true
   pub numbers_left : g.next < last_number
-  pub place : place_for e g.entries ≡ At i
+  pub place : place_for e g.entries ≡ Some i
   pub number : e.number ≡ g.next
   pub reading : e.reading ≡ g.clock
 
 pub data Effect (g : Gateway) (l : Landing) (after : Gateway) : Type 0 where
   leaves : after ≡ g → Effect g l after
-  removes : (blob : List ℕ) (i : ℕ) → seek (holds blob) 0 g.entries ≡ At i → l ≡ SUCCESS → after ≡ without i g → Effect g l after
+  removes : (blob : List ℕ) (i : ℕ) → seek (holds blob) 0 g.entries ≡ Some i → l ≡ SUCCESS → after ≡ without i g → Effect g l after
   clears : l ≡ SUCCESS → after ≡ without_all g → Effect g l after
   locks : (passphrase : List ℕ) → length passphrase ≤ passphrase_limit → l ≡ SUCCESS → after ≡ with_lock passphrase g → Effect g l after
   stores : (e : Entry) (i : ℕ) → Storable g e i → l ≡ SUCCESS → after ≡ with_entry i e g → Effect g l after

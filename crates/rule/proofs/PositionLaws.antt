@@ -9,10 +9,10 @@ use mathlib.Core.List.{List, [], ◌∷◌, ◌++◌}
 use lib.ListN.{length, take, drop}
 use lib.Dec.{eqb}
 use borrow.Author.Tests.{eqb-true, eqb-false}
+use Rattle.std.proofs.Common.{None, Some}
 use Rattle.wire.specs.Read.{same}
 use Rattle.wire.proofs.Reading.{same-rule}
 use Rattle.rule.specs.declared.Millis.{Millis}
-use Rattle.rule.specs.declared.Found.TheVariants.{At, Nothing}
 use Rattle.rule.specs.Gateway.{Entry, due_at, lasting, entry_at, seek, holds, entry_with, remove_at, put_at}
 use Rattle.rule.specs.Soundness.{EveryEntry, Apart, Distinct}
 use Rattle.rule.proofs.Cases.{cond_cases, true_not_false}
@@ -287,10 +287,10 @@ pub record First (test : Entry → Bool) (es : List Entry) (i : ℕ) : Type 0 wh
 abbrev pub NonePasses : (Entry → Bool) → List Entry → Type 0
 NonePasses test es = EveryEntry (λ x. test x ≡ false) es
 
-pub at_not_nothing : {i : ℕ} → At i ≡ Nothing → ⊥
+pub at_not_nothing : {i : ℕ} → Some i ≡ None → ⊥
 at_not_nothing e = let z : ◌≡◌ {A = ℕ} 0 1 = cc in omega arith
 
-pub same-position : {i j : ℕ} → At i ≡ At j → i ≡ j
+pub same-position : {i j : ℕ} → Some i ≡ Some j → i ≡ j
 same-position e = cc
 
 module _ (test : Entry → Bool) where
@@ -316,34 +316,34 @@ module _ (test : Entry → Bool) where
   pub first_passes : (e : Entry) (es : List Entry) → First test (e ∷ es) 0 → test e ≡ true
   first_passes e es f = rw (same-entry (sym f.there)) at f.passes
 
-  seek-from : (k : ℕ) (es : List Entry) (i : ℕ) → seek test k es ≡ At i → (n : ℕ) × (i ≡ k + n) × First test es n
+  seek-from : (k : ℕ) (es : List Entry) (i : ℕ) → seek test k es ≡ Some i → (n : ℕ) × (i ≡ k + n) × First test es n
   seek-from k [] i = λ e. absurd (at_not_nothing (sym e))
   seek-from k (x ∷ es) i =
-      cond_cases (λ f. f ≡ At i → (n : ℕ) × (i ≡ k + n) × First test (x ∷ es) n) (test x)
+      cond_cases (λ f. f ≡ Some i → (n : ℕ) × (i ≡ k + n) × First test (x ∷ es) n) (test x)
       (λ t e. (0, let h = same-position e in omega arith, first_here x es t))
       (λ t e. let (n, h, f) = seek-from (suc k) es i e in (suc n, omega arith, first_behind x es n t f))
 
-  pub seek-first : (es : List Entry) (i : ℕ) → seek test 0 es ≡ At i → First test es i
+  pub seek-first : (es : List Entry) (i : ℕ) → seek test 0 es ≡ Some i → First test es i
   seek-first es i e = let (n, h, f) = seek-from 0 es i e in let m : n ≡ i = omega arith in rw m at f
 
-  first_from_lem : (k : ℕ) (es : List Entry) (i : ℕ) → First test es i → seek test k es ≡ At (k + i)
+  first_from_lem : (k : ℕ) (es : List Entry) (i : ℕ) → First test es i → seek test k es ≡ Some (k + i)
   first_from_lem k [] i f = absurd (let h = f.inside in omega arith)
-  first_from_lem k (x ∷ es) zero f = let k0 : k ≡ k + 0 = omega arith in rw (first_passes x es f) (ap At k0)
+  first_from_lem k (x ∷ es) zero f = let k0 : k ≡ k + 0 = omega arith in rw (first_passes x es f) (ap Some k0)
   first_from_lem k (x ∷ es) (suc i) f =
       let there : suc k + i ≡ k + suc i = omega arith in
-      rw (f.earlier 0 x (omega arith) refl) (first_from_lem (suc k) es i (first_rest x es i f) ∙ ap At there)
+      rw (f.earlier 0 x (omega arith) refl) (first_from_lem (suc k) es i (first_rest x es i f) ∙ ap Some there)
 
-  first_seek : (es : List Entry) (i : ℕ) → First test es i → seek test 0 es ≡ At i
-  first_seek es i f = let from0 : 0 + i ≡ i = omega arith in first_from_lem 0 es i f ∙ ap At from0
+  first_seek : (es : List Entry) (i : ℕ) → First test es i → seek test 0 es ≡ Some i
+  first_seek es i f = let from0 : 0 + i ≡ i = omega arith in first_from_lem 0 es i f ∙ ap Some from0
 
-  pub seek-none : (k : ℕ) (es : List Entry) → seek test k es ≡ Nothing → NonePasses test es
+  pub seek-none : (k : ℕ) (es : List Entry) → seek test k es ≡ None → NonePasses test es
   seek-none k [] = λ e. tt
   seek-none k (x ∷ es) =
-      cond_cases (λ f. f ≡ Nothing → NonePasses test (x ∷ es)) (test x)
+      cond_cases (λ f. f ≡ None → NonePasses test (x ∷ es)) (test x)
       (λ t never. absurd (at_not_nothing never))
       (λ t e. (t, seek-none (suc k) es e))
 
-  none_seek : (k : ℕ) (es : List Entry) → NonePasses test es → seek test k es ≡ Nothing
+  none_seek : (k : ℕ) (es : List Entry) → NonePasses test es → seek test k es ≡ None
   none_seek k [] f = refl
   none_seek k (x ∷ es) f = rw f.0 (none_seek (suc k) es f.1)
 
@@ -365,7 +365,7 @@ differs a b n = by_test (same a b) refl
     by_test true e = absurd (n ((same-rule a b).0 e))
     by_test false e = refl
 
-pub found_at : (blob : List ℕ) (es : List Entry) (i : ℕ) → seek (holds blob) 0 es ≡ At i → FoundAt blob es i
+pub found_at : (blob : List ℕ) (es : List Entry) (i : ℕ) → seek (holds blob) 0 es ≡ Some i → FoundAt blob es i
 found_at blob es i e =
     let f = seek-first (holds blob) es i e in
     record { entry = f.entry; there = f.there; is = (same-rule f.entry.blob blob).0 f.passes }
@@ -377,7 +377,7 @@ first_entry blob [] i f = absurd (let h = f.inside in omega arith)
 first_entry blob (x ∷ es) zero f = rw (first_passes (holds blob) x es f)
 first_entry blob (x ∷ es) (suc i) f = rw (f.earlier 0 x (omega arith) refl) (first_entry blob es i (first_rest (holds blob) x es i f))
 
-pub entry_found : (blob : List ℕ) (es : List Entry) (i : ℕ) → seek (holds blob) 0 es ≡ At i → entry_with blob es ≡ entry_at es i
+pub entry_found : (blob : List ℕ) (es : List Entry) (i : ℕ) → seek (holds blob) 0 es ≡ Some i → entry_with blob es ≡ entry_at es i
 entry_found blob es i e = first_entry blob es i (seek-first (holds blob) es i e)
 
 none_entry : (blob : List ℕ) (es : List Entry) → NonePasses (holds blob) es → entry_with blob es ≡ none
@@ -385,19 +385,19 @@ unfolding entry_with
 none_entry blob [] f = refl
 none_entry blob (x ∷ es) f = rw f.0 (none_entry blob es f.1)
 
-pub entry_absent : (blob : List ℕ) (es : List Entry) → seek (holds blob) 0 es ≡ Nothing → entry_with blob es ≡ none
+pub entry_absent : (blob : List ℕ) (es : List Entry) → seek (holds blob) 0 es ≡ None → entry_with blob es ≡ none
 entry_absent blob es e = none_entry blob es (seek-none (holds blob) 0 es e)
 
-pub absent_differs : (blob : List ℕ) (es : List Entry) → seek (holds blob) 0 es ≡ Nothing → EveryEntry (λ x. x.blob ≢ blob) es
+pub absent_differs : (blob : List ℕ) (es : List Entry) → seek (holds blob) 0 es ≡ None → EveryEntry (λ x. x.blob ≢ blob) es
 absent_differs blob es e =
     every_imp (λ x. holds blob x ≡ false) (λ x. x.blob ≢ blob) (λ x. not_same x.blob blob) es (seek-none (holds blob) 0 es e)
 
-pub differs_absent : (blob : List ℕ) (es : List Entry) → EveryEntry (λ x. x.blob ≢ blob) es → seek (holds blob) 0 es ≡ Nothing
+pub differs_absent : (blob : List ℕ) (es : List Entry) → EveryEntry (λ x. x.blob ≢ blob) es → seek (holds blob) 0 es ≡ None
 differs_absent blob es all =
     none_seek (holds blob) 0 es (every_imp (λ x. x.blob ≢ blob) (λ x. holds blob x ≡ false) (λ x. differs x.blob blob) es all)
 
 -- among distinct entries the search finds the one entry that has the blob
-pub held_found : (es : List Entry) → Distinct es → (i : ℕ) (e : Entry) → Holds es i e → seek (holds e.blob) 0 es ≡ At i
+pub held_found : (es : List Entry) → Distinct es → (i : ℕ) (e : Entry) → Holds es i e → seek (holds e.blob) 0 es ≡ Some i
 held_found es d i e h = first_seek (holds e.blob) es i record {
   entry = e;
   there = h;

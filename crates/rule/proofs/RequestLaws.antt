@@ -1,32 +1,30 @@
 -- Add and sign requests: what the readers take is what the draft writes, and what the draft writes they take.
 use Prim.Native.Nat.{ℕ, ◌+◌, ◌-◌, ◌^◌, ◌<◌}
 use native.Mathlib.Omega.{arith}
-use mathlib.Core.Path.{◌≡◌, refl, sym, ap, ◌∙◌}
+use mathlib.Core.Path.{◌≡◌, refl, sym, ap, ap₂, ◌∙◌}
 use mathlib.Core.Bool.{Bool, true, false}
 use mathlib.Core.List.{List, ◌∷◌, ◌++◌}
 use lib.ListN.{length, drop, length-append}
 use lib.Seq.{drop-cons, get_or-drop}
+use Rattle.std.proofs.Common.{None, Ok, Err}
 use Rattle.wire.specs.declared.read.Cursor.{Cursor}
-use Rattle.wire.specs.declared.read.Number.{Number}
-use Rattle.wire.specs.declared.read.Part.TheVariants.{Whole}
 use Rattle.wire.specs.Numbers.{Bytes, be32}
 use Rattle.wire.specs.Abnf.{Octets}
 use Rattle.wire.specs.Values.{Span, part_reads, read}
 use Rattle.wire.specs.Read.{cut_of, string_at, number_at, text_at}
-use Rattle.wire.specs.Steps.{part}
+use Rattle.wire.specs.Steps.{faulted, got, part_of, part}
 use Rattle.wire.specs.Write.{string}
-use Rattle.wire.proofs.Reading.{string-read, number_read}
+use Rattle.wire.proofs.Reading.{part_one, string-read, number_read}
 use Rattle.wire.proofs.Format.{part_length, string-shape, string-form, number_form, be-shape, be-small}
 use Rattle.wire.proofs.Laws.{text_rule, whole_of}
 use Rattle.keys.specs.declared.kinds.Places.{Places}
-use Rattle.keys.specs.declared.kinds.Key.{Key}
-use Rattle.keys.specs.declared.constraints.Lifetime.{Lifetime}
-use Rattle.keys.specs.declared.constraints.Lifetime.TheVariants.{Forever}
+use Rattle.keys.specs.Kinds.{Key}
+use Rattle.keys.specs.Constraints.{Lifetime}
 use Rattle.keys.specs.declared.constraints.Walk.{Walk}
 use Rattle.keys.specs.declared.constraints.Walk.TheVariants.{Done, Duplicate, Unknown, Cut}
-use Rattle.keys.specs.declared.addition.Piece.{Piece}
+use Rattle.wire.specs.declared.read.Span.{Span as Piece}
 use Rattle.keys.specs.declared.addition.Carried.{Carried}
-use Rattle.keys.specs.declared.addition.Addition.{Addition}
+use Rattle.keys.specs.Additions.{Addition}
 use Rattle.keys.specs.Kinds.{key_at, blob_of}
 use Rattle.keys.specs.Additions.{limits_of, constraints_at, commented_at, key, addition_at}
 use Rattle.keys.specs.Values.{seconds_in, Added, addition_reads}
@@ -54,31 +52,30 @@ drop-bytes at s bytes i = rw (get_or-drop at s i 0) (bytes (at + i))
 -- a payload carries one string, and one place is behind it
 pub one_carried : {v w payload : List ℕ} (s : Carries v payload) (t : Carries w payload) → (v ≡ w) × (s.next ≡ t.next)
 one_carried s t =
-    let from : s.from ≡ t.from = cc in
-    let to : s.to ≡ t.to = cc in
-    ((cc), (cc))
+    let same = part_one (sym s.read ∙ t.read) in
+    (sym s.is ∙ ap₂ (cut_of _) same.from same.to ∙ t.is, same.next)
 
 -- ## The steps of an add request
 
 -- what was read one behind the other
 record Steps (s : List ℕ) (c : Bool) (k : Carried) : Type 0 where
-  fields : key_at s 1 ≡ Key.Whole k.places
+  fields : key_at s 1 ≡ Ok k.places
   next : Cursor
-  comment : text_at s k.places.end ≡ Whole k.comment.from k.comment.to next
+  comment : text_at s k.places.end ≡ part_of k.comment.from k.comment.to next
   limits : constraints_at s next.at c ≡ Done k.lifetime k.confirm
 
 module _ (s : List ℕ) (c : Bool) (k : Carried) where
   abbrev Went : Addition → Type 0
-  Went a = a ≡ Addition.Whole k → Steps s c k
+  Went a = a ≡ Ok k → Steps s c k
 
-  faulty : (at : ℕ) → Went (Addition.Fault at)
+  faulty : (at : ℕ) → Went (faulted at)
   faulty at e = let z : ◌≡◌ {A = ℕ} 0 1 = cc in absurd (omega arith)
 
   steps : Went (addition_at s 1 c)
   unfolding addition_at key commented_at limits_of
   steps = by_key (key_at s 1) refl
     where
-      by_walk : (q : Places) (text : Piece) (w : Walk) → limits_of q text w ≡ Addition.Whole k
+      by_walk : (q : Places) (text : Piece) (w : Walk) → limits_of q text w ≡ Ok k
           → (q ≡ k.places) × (text ≡ k.comment) × (w ≡ Done k.lifetime k.confirm)
       by_walk q text (Done m b) e =
           let is : ◌≡◌ {A = Carried} (record { places = q; comment = text; lifetime = m; confirm = b }) k = cc in
@@ -87,21 +84,21 @@ module _ (s : List ℕ) (c : Bool) (k : Carried) where
       by_walk q text (Unknown at) e = let z : ◌≡◌ {A = ℕ} 0 1 = cc in absurd (omega arith)
       by_walk q text (Cut at) e = let z : ◌≡◌ {A = ℕ} 0 1 = cc in absurd (omega arith)
 
-      by_key : (read : Key) → key_at s 1 ≡ read → Went (key Addition.Fault read (λ p. commented_at s p c))
-      by_key (Key.Whole q) h =
+      by_key : (read : Key) → key_at s 1 ≡ read → Went (key faulted read (λ p. commented_at s p c))
+      by_key (Ok q) h =
           part-cases Went (text_at s q.end) (λ at _. faulty at) λ f t next e w.
           let (x, text, y) = by_walk q (record { from = f; to = t }) (constraints_at s next.at c) w in
-          record { fields = h ∙ ap Key.Whole x; next = next; comment = (rw x at e) ∙ (λ i. Whole (text i).from (text i).to next); limits = y }
-      by_key (Key.Fault at) h = faulty at
+          record { fields = h ∙ ap Ok x; next = next; comment = (rw x at e) ∙ (λ i. part_of (text i).from (text i).to next); limits = y }
+      by_key (Err d) h = faulty d.at
 
-  steps_back : Steps s c k → addition_at s 1 c ≡ Addition.Whole k
+  steps_back : Steps s c k → addition_at s 1 c ≡ Ok k
   unfolding addition_at key commented_at part limits_of
   steps_back r = rw (r.fields, r.comment, r.limits)
 
 -- ## Texts
 
 -- a text that is read is a string of UTF-8
-text_shape : (s : List ℕ) (at f t : ℕ) (k : Cursor) → Bytes s → text_at s at ≡ Whole f t k
+text_shape : (s : List ℕ) (at f t : ℕ) (k : Cursor) → Bytes s → text_at s at ≡ part_of f t k
     → Octets (cut_of s f t) × (drop at s ≡ string (cut_of s f t) ++ drop k.at s)
 text_shape s at f t k bytes e =
     let r = (text_rule s at (record { from = f; to = t }) k.at).0 (ap part_reads e) in
@@ -111,7 +108,7 @@ text_shape s at f t k bytes e =
 
 -- and is read
 text_there : (s : List ℕ) (at : ℕ) (v rest : List ℕ) → Bytes s → length v < 2 ^ 32 → Octets v → drop at s ≡ string v ++ rest
-    → (text_at s at ≡ Whole (at + 4) (at + 4 + length v) (record { at = at + 4 + length v })) × (cut_of s (at + 4) (at + 4 + length v) ≡ v)
+    → (text_at s at ≡ part_of (at + 4) (at + 4 + length v) (record { at = at + 4 + length v })) × (cut_of s (at + 4) (at + 4 + length v) ≡ v)
     × (drop (at + 4 + length v) s ≡ rest)
 text_there s at v rest bytes small octets e =
     let (w, is, behind) = (string-form s at v rest bytes small).0 e in
@@ -119,7 +116,7 @@ text_there s at v rest bytes small octets e =
     (whole_of (text_at s at) span _ ((text_rule s at span _).1 (ap part_reads w, rw is octets)), is, behind)
 
 -- where it lies: behind its length
-text_span : (s : List ℕ) (at : ℕ) (fields : List ℕ) (f t : ℕ) (k : Cursor) → at ≡ 1 + length fields → text_at s at ≡ Whole f t k
+text_span : (s : List ℕ) (at : ℕ) (fields : List ℕ) (f t : ℕ) (k : Cursor) → at ≡ 1 + length fields → text_at s at ≡ part_of f t k
     → ◌≡◌ {A = Span} (record { from = f; to = t }) (record { from = 1 + length fields + 4; to = 1 + length fields + 4 + length (cut_of s f t) })
 text_span s at fields f t k end e =
     let r = (text_rule s at (record { from = f; to = t }) k.at).0 (ap part_reads e) in
@@ -137,7 +134,7 @@ span_of p = record { from = p.from; to = p.to }
 -- what is read of an add request that brings this key
 pub record AddRead (payload : List ℕ) (c : Bool) (carried : Carried) (k : NewKey) : Type 0 where
   pub begins : Begins (add_byte c) payload
-  pub read : addition_at payload 1 c ≡ Addition.Whole carried
+  pub read : addition_at payload 1 c ≡ Ok carried
   pub brings : brought payload carried (blob_of payload 1 carried.places) ≡ k
   pub end : carried.places.end ≡ 1 + length k.fields
   pub lies : span_of carried.comment ≡ comment_span k
@@ -145,7 +142,7 @@ pub record AddRead (payload : List ℕ) (c : Bool) (carried : Carried) (k : NewK
 module _ (payload : List ℕ) (bytes : Bytes payload) where
   limits_in : (c : Bool) (at : ℕ) (l : Lifetime) (confirm : Bool) → constraints_at payload at c ≡ Done l confirm → LimitForm (add_byte c) (drop at payload) l confirm
   limits_in false at l confirm e =
-      let x : Forever ≡ l = cc in
+      let x : None ≡ l = cc in
       let y : false ≡ confirm = cc in
       rw (← x, ← y) (plain (drop at payload))
   limits_in true at l confirm e =
@@ -158,7 +155,7 @@ module _ (payload : List ℕ) (bytes : Bytes payload) where
   limits_out (constrained cs l confirm adds) = (true, refl, λ at e. (walk_rule at (drop at payload) l confirm (drop-bytes at payload bytes)).1 (cs, e, adds))
 
   -- what is read is a request as the draft writes it
-  pub add_in : (c : Bool) (carried : Carried) → Begins (add_byte c) payload → addition_at payload 1 c ≡ Addition.Whole carried
+  pub add_in : (c : Bool) (carried : Carried) → Begins (add_byte c) payload → addition_at payload 1 c ≡ Ok carried
       → (k : NewKey) × AddRequest payload k × AddRead payload c carried k
   add_in c carried begins e =
       let p = carried.places in
@@ -229,12 +226,12 @@ module _ (payload : List ℕ) (bytes : Bytes payload) where
   said_is r = λ i. record { blob = (r.brings i).blob; comment = r.lies i; limits = record { seconds = seconds_in (r.brings i).lifetime; confirm = (r.brings i).confirm } }
 
   said_request : (c : Bool) → Begins (add_byte c) payload → (r : Addition) → addition_at payload 1 c ≡ r → (a : Added) (end : ℕ) → addition_reads payload 1 r ≡ read a end → Requests a end
-  said_request c begins (Addition.Whole carried) e a end says =
+  said_request c begins (Ok carried) e a end says =
       let (k, request, r) = add_in c carried begins e in
       let is : said_of carried ≡ a = cc in
       let ends : carried.places.end ≡ end = cc in
       (k, request, sym is ∙ said_is r, sym ends ∙ r.end)
-  said_request c begins (Addition.Fault at) e a end says = let z : ◌≡◌ {A = ℕ} 0 1 = cc in absurd (omega arith)
+  said_request c begins (Err d) e a end says = let z : ◌≡◌ {A = ℕ} 0 1 = cc in absurd (omega arith)
 
   request_said : (c : Bool) → Begins (add_byte c) payload → length payload < 2 ^ 32 → (a : Added) (end : ℕ) → Requests a end → addition_reads payload 1 (addition_at payload 1 c) ≡ read a end
   request_said c begins small a end (k, request, is, ends) =
@@ -252,8 +249,8 @@ addition_rule payload c a end bytes small begins =
 pub record Ordered (payload : List ℕ) (at from to flags : ℕ) : Type 0 where
   pub next : Cursor
   pub end : Cursor
-  pub message : string_at payload at ≡ Whole from to next
-  pub choice : number_at payload next.at ≡ Number.Value flags end
+  pub message : string_at payload at ≡ part_of from to next
+  pub choice : number_at payload next.at ≡ got flags end
 
 -- what the readers of a sign request say of this blob, data and flags
 pub record SignRead (payload blob bytes : List ℕ) (flags : ℕ) : Type 0 where
@@ -265,7 +262,7 @@ pub record SignRead (payload blob bytes : List ℕ) (flags : ℕ) : Type 0 where
   pub is_message : cut_of payload from to ≡ bytes
 
 -- a string that is read, and what is behind it
-string-in : (s : List ℕ) (at f t : ℕ) (k : Cursor) → Bytes s → string_at s at ≡ Whole f t k → drop at s ≡ string (cut_of s f t) ++ drop k.at s
+string-in : (s : List ℕ) (at f t : ℕ) (k : Cursor) → Bytes s → string_at s at ≡ part_of f t k → drop at s ≡ string (cut_of s f t) ++ drop k.at s
 string-in s at f t k bytes e = string-shape s at f t k bytes e ∙ rw (string-read s at f t k e).place
 
 -- what is read is a request as the draft writes it

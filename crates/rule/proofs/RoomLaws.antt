@@ -5,8 +5,8 @@ use mathlib.Core.Path.{◌≡◌, refl, sym, ap, ◌∙◌}
 use mathlib.Core.Bool.{true, false}
 use mathlib.Core.List.{List, [], ◌∷◌}
 use lib.ListN.{length}
+use Rattle.std.proofs.Common.{None, Some}
 use Rattle.wire.proofs.Reading.{same-rule}
-use Rattle.rule.specs.declared.Found.TheVariants.{At, Nothing}
 use Rattle.rule.specs.Gateway.{Entry, seek, holds, lengths_of, all_lengths, others, has_room, position_for, place_for, remove_at, put_at}
 use Rattle.rule.specs.Soundness.{EveryEntry, Apart, Distinct}
 use Rattle.rule.proofs.Cases.{cond_cases, found-cases}
@@ -58,7 +58,7 @@ unfolding others
 none_others blob [] f = refl
 none_others blob (x ∷ es) f = rw f.0 (ap (λ l. x ∷ l) (none_others blob es f.1))
 
-pub others-absent : (blob : List ℕ) (es : List Entry) → seek (holds blob) 0 es ≡ Nothing → others blob es ≡ es
+pub others-absent : (blob : List ℕ) (es : List Entry) → seek (holds blob) 0 es ≡ None → others blob es ≡ es
 others-absent blob es e = none_others blob es (seek-none (holds blob) 0 es e)
 
 -- none apart from the blob's entry has the blob
@@ -75,15 +75,15 @@ first_others blob (x ∷ es) zero d f =
 first_others blob (x ∷ es) (suc i) d f =
     rw (f.earlier 0 x (omega arith) refl) (ap (λ l. x ∷ l) (first_others blob es i d.1 (first_rest (holds blob) x es i f)))
 
-pub others-found : (blob : List ℕ) (es : List Entry) (i : ℕ) → Distinct es → seek (holds blob) 0 es ≡ At i → others blob es ≡ remove_at i es
+pub others-found : (blob : List ℕ) (es : List Entry) (i : ℕ) → Distinct es → seek (holds blob) 0 es ≡ Some i → others blob es ≡ remove_at i es
 others-found blob es i d e = first_others blob es i d (seek-first (holds blob) es i e)
 
 -- ## Where an entry goes
 
 -- a held blob's position, or behind the last
 pub data Placed (blob : List ℕ) (es : List Entry) (i : ℕ) : Type 0 where
-  replacing : seek (holds blob) 0 es ≡ At i → Placed blob es i
-  anew : seek (holds blob) 0 es ≡ Nothing → i ≡ length es → Placed blob es i
+  replacing : seek (holds blob) 0 es ≡ Some i → Placed blob es i
+  anew : seek (holds blob) 0 es ≡ None → i ≡ length es → Placed blob es i
 
 pub position_placed : (blob : List ℕ) (es : List Entry) → Placed blob es (position_for blob es)
 unfolding position_for
@@ -103,17 +103,17 @@ pub record HasPlace (e : Entry) (es : List Entry) (i : ℕ) : Type 0 where
   pub room : has_room e es ≡ true
   pub placed : Placed e.blob es i
 
-pub has_place : (e : Entry) (es : List Entry) (i : ℕ) → place_for e es ≡ At i → HasPlace e es i
+pub has_place : (e : Entry) (es : List Entry) (i : ℕ) → place_for e es ≡ Some i → HasPlace e es i
 unfolding place_for
 has_place e es i =
-    cond_cases (λ f. f ≡ At i → HasPlace e es i) (has_room e es)
+    cond_cases (λ f. f ≡ Some i → HasPlace e es i) (has_room e es)
     (λ room at. let p : position_for e.blob es ≡ i = same-position at in record { room = room; placed = rw p at (position_placed e.blob es) })
     (λ _ never. absurd (at_not_nothing (sym never)))
 
-pub room_place : (e : Entry) (es : List Entry) → has_room e es ≡ true → place_for e es ≡ At (position_for e.blob es)
+pub room_place : (e : Entry) (es : List Entry) → has_room e es ≡ true → place_for e es ≡ Some (position_for e.blob es)
 unfolding place_for
 room_place e es room = rw room
 
-pub no_place : (e : Entry) (es : List Entry) → has_room e es ≡ false → place_for e es ≡ Nothing
+pub no_place : (e : Entry) (es : List Entry) → has_room e es ≡ false → place_for e es ≡ None
 unfolding place_for
 no_place e es full = rw full

@@ -9,11 +9,11 @@ use mathlib.Core.List.{List, [], ◌∷◌}
 use borrow.Author.Tests.{leb-true, ltb-true, eqb-true, eqb-false, le-leb, lt-ltb, eq-eqb, ne_eqb}
 use lib.Dec.{leb, ltb, eqb}
 use lib.ListN.{length}
+use Rattle.std.proofs.Common.{Some}
 use Rattle.wire.specs.Limits.{entries_limit, store_size, blob_limit, fields_limit, comment_limit, passphrase_limit, last_number}
 use Rattle.wire.specs.Numbers.{within}
 use Rattle.wire.specs.Read.{same}
 use Rattle.rule.specs.declared.Millis.{Millis}
-use Rattle.rule.specs.declared.Found.TheVariants.{At}
 use Rattle.rule.specs.Gateway.{Entry, Gateway, at_clock, later, advance, lengths_of, all_lengths, others, has_room, place_for, remove_at, put_at, with_lock, without, without_all, with_entry}
 use Rattle.rule.specs.Soundness.{EveryEntry, Apart, Distinct, Fits, SoundEntry, Sound, every_entry, apart, distinct, fit, sound_entry, sound}
 use Rattle.rule.specs.Rule.{Question, Answer, Landing, Plan, land, ask, rule}
@@ -193,7 +193,7 @@ new_apart g e i s n p j x d h =
     other_blob (anew absent _) q = every_at (λ x. x.blob ≢ e.blob) g.entries (absent_differs e.blob g.entries absent) j x h (sym q)
 
 -- what is put in takes the room that was tested
-pub room_after : (e : Entry) (es : List Entry) (i : ℕ) → Distinct es → place_for e es ≡ At i
+pub room_after : (e : Entry) (es : List Entry) (i : ℕ) → Distinct es → place_for e es ≡ Some i
     → (length (put_at i e es) ≤ entries_limit) × (all_lengths (put_at i e es) ≤ store_size)
 room_after e es i d p =
     let place = has_place e es i p in

@@ -8,9 +8,9 @@ use mathlib.Core.Option.{none}
 use mathlib.Core.List.{List, [], ◌∷◌}
 use lib.Dec.{leb}
 use borrow.Author.Tests.{leb-false}
+use Rattle.std.proofs.Common.{None, Some}
 use Rattle.wire.specs.declared.Seconds.{Seconds}
-use Rattle.keys.specs.declared.constraints.Lifetime.{Lifetime}
-use Rattle.keys.specs.declared.constraints.Lifetime.TheVariants.{Forever, For}
+use Rattle.keys.specs.Constraints.{Lifetime}
 use Rattle.rule.specs.declared.Millis.{Millis}
 use Rattle.rule.specs.Gateway.{Entry, Gateway, millis_of, due_at, lasting, at_clock, later, advance}
 use Rattle.rule.specs.Soundness.{EveryEntry}
@@ -61,12 +61,12 @@ lasting-on_time clock (e ∷ es) =
 
 -- on time, or just added with lifetime 0
 abbrev Timely : Millis → ℕ → Entry → Type 0
-Timely clock next e = OnTime clock e ⊎ ((e.number ≡ next) × (e.lifetime ≡ For (record { count = 0 })))
+Timely clock next e = OnTime clock e ⊎ ((e.number ≡ next) × (e.lifetime ≡ Some (record { count = 0 })))
 
-forever_not_for : (seconds : Seconds) → Forever ≡ For seconds → ⊥
+forever_not_for : (seconds : Seconds) → None ≡ Some seconds → ⊥
 forever_not_for seconds never = let z : ◌≡◌ {A = ℕ} 0 1 = cc in omega arith
 
-same-seconds : {a b : Seconds} → For a ≡ For b → a ≡ b
+same-seconds : {a b : Seconds} → Some a ≡ Some b → a ≡ b
 same-seconds e = cc
 
 still_timely : (g : Gateway) {es : List Entry} → Fewer g.entries es → EveryEntry (OnTime g.clock) g.entries → EveryEntry (Timely g.clock g.next) es
@@ -75,7 +75,7 @@ still_timely g {es} fewer all = every_imp (OnTime g.clock) (Timely g.clock g.nex
 new_timely : (clock : Millis) (next : ℕ) (e : Entry) → e.number ≡ next → e.reading ≡ clock → Timely clock next e
 new_timely clock next e number reading = by_lifetime e.lifetime refl
   where
-    by_count : (n : ℕ) → e.lifetime ≡ For (record { count = n }) → Timely clock next e
+    by_count : (n : ℕ) → e.lifetime ≡ Some (record { count = n }) → Timely clock next e
     by_count zero is = inr (number, is)
     by_count (suc n) is = inl λ seconds for.
         let count : suc n ≡ seconds.count = ap (λ s. s.count) (same-seconds (sym is ∙ for)) in
@@ -83,8 +83,8 @@ new_timely clock next e number reading = by_lifetime e.lifetime refl
         omega arith
 
     by_lifetime : (l : Lifetime) → e.lifetime ≡ l → Timely clock next e
-    by_lifetime Forever is = inl (λ seconds never. absurd (forever_not_for seconds (sym is ∙ never)))
-    by_lifetime (For seconds) is = by_count seconds.count is
+    by_lifetime None is = inl (λ seconds never. absurd (forever_not_for seconds (sym is ∙ never)))
+    by_lifetime (Some seconds) is = by_count seconds.count is
 
 effect_timely : {g after : Gateway} {l : Landing} → EveryEntry (OnTime g.clock) g.entries → Effect g l after
     → EveryEntry (Timely g.clock g.next) after.entries

@@ -6,9 +6,9 @@ use mathlib.Core.Logic.{◌≢◌, ◌⊎◌, inl, inr}
 use mathlib.Core.Bool.{Bool, true, false}
 use mathlib.Core.List.{List}
 use borrow.Author.Tests.{leb-true}
+use Rattle.std.proofs.Common.{None, Some}
 use Rattle.wire.specs.Numbers.{Bytes}
-use Rattle.keys.specs.declared.constraints.Lifetime.{Lifetime}
-use Rattle.keys.specs.declared.constraints.Lifetime.TheVariants.{Forever, For}
+use Rattle.keys.specs.Constraints.{Lifetime}
 use Rattle.keys.specs.Kinds.{blob_of}
 use Rattle.rule.specs.Gateway.{Entry, Gateway, millis_of, due_at, at_clock, later, advance}
 use Rattle.rule.specs.Rule.{entry_of, listing, removing_all}
@@ -31,8 +31,8 @@ unfolding due_at
 due_expired g c e = by_lifetime e.lifetime refl
   where
     by_lifetime : (l : Lifetime) → e.lifetime ≡ l → due_at (later g.clock c.reading) e.reading l ≡ true → Leaves g c e
-    by_lifetime Forever is t = absurd (true_not_false (sym t))
-    by_lifetime (For seconds) is t = let up : (millis_of seconds).count ≤ (later g.clock c.reading).count - e.reading.count = leb-true _ _ t in expired seconds is (omega arith)
+    by_lifetime None is t = absurd (true_not_false (sym t))
+    by_lifetime (Some seconds) is t = let up : (millis_of seconds).count ≤ (later g.clock c.reading).count - e.reading.count = leb-true _ _ t in expired seconds is (omega arith)
 
 still_held : (g : Gateway) (c : Call) (i : ℕ) (e : Entry) → HeldAt g i e → due_at (later g.clock c.reading) e.reading e.lifetime ≡ false → Held (at_call g c) e
 unfolding advance at_clock

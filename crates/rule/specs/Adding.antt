@@ -1,5 +1,5 @@
 -- The promises of 17 and 25, over the draft's form of an add request.
-use Rattle.std.specs.Prelude.{ℕ, ◌+◌, ◌-◌, ◌^◌, max, ◌≤◌, ◌<◌, ◌≡◌, ◌↔◌, ◌⊎◌, ◌≢◌, Bool, true, false, List, [], ◌∷◌, ◌++◌, length}
+use Rattle.std.specs.Prelude.{ℕ, ◌+◌, ◌-◌, ◌^◌, max, ◌≤◌, ◌<◌, ◌≡◌, ◌↔◌, ◌⊎◌, ◌≢◌, Bool, true, false, List, [], ◌∷◌, ◌++◌, length, None}
 use Rattle.std.proofs.Math.Option.{some}
 use Rattle.wire.specs.Limits.{blob_limit, fields_limit, comment_limit}
 use Rattle.wire.specs.declared.Constraint.{Constraint}
@@ -7,8 +7,7 @@ use Rattle.wire.specs.Numbers.{Bytes}
 use Rattle.wire.specs.Abnf.{Octets}
 use Rattle.wire.specs.Values.{read, Span}
 use Rattle.wire.specs.Write.{string}
-use Rattle.keys.specs.declared.constraints.Lifetime.{Lifetime}
-use Rattle.keys.specs.declared.constraints.Lifetime.TheVariants.{Forever}
+use Rattle.keys.specs.Constraints.{Lifetime}
 use Rattle.keys.specs.Additions.{addition_at}
 use Rattle.keys.specs.Values.{seconds_in, Added, addition_reads}
 use Rattle.keys.specs.Forms.{KeyFields, constraint_forms, Adds}
@@ -21,8 +20,8 @@ use Rattle.rule.specs.Words.{Begins, HeldAt, Held, at_call, payload_of, PastGate
 
 -- what an add request carries, as the draft writes it: for 17 bytes behind the comment mean nothing, for 25 they are constraints
 pub data LimitForm : ℕ → List ℕ → Lifetime → Bool → Type 0 where
-  plain : (rest : List ℕ) → LimitForm 17 rest Forever false
-  constrained : (cs : List Constraint) (l : Lifetime) (c : Bool) → Adds Forever false cs l c → LimitForm 25 (constraint_forms cs) l c
+  plain : (rest : List ℕ) → LimitForm 17 rest None false
+  constrained : (cs : List Constraint) (l : Lifetime) (c : Bool) → Adds None false cs l c → LimitForm 25 (constraint_forms cs) l c
 
 pub record AddRequest (payload : List ℕ) (k : NewKey) : Type 0 where
   pub byte : ℕ

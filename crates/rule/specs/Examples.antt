@@ -1,10 +1,9 @@
 -- 01's starred examples, as one statement. Where 01 says "then", the state is the one that the call before it left.
-use Rattle.std.specs.Prelude.{ℕ, zero, suc, ◌≡◌, true, false, List, [], ◌∷◌, length, replicate}
+use Rattle.std.specs.Prelude.{ℕ, zero, suc, ◌≡◌, true, false, List, [], ◌∷◌, length, replicate, None}
 use Rattle.std.proofs.Math.Option.{none, some}
 use Rattle.wire.specs.Limits.{store_size, reply_room}
 use Rattle.wire.specs.declared.frame.Split.TheVariants.{MoreNeeded, TooLong}
 use Rattle.wire.specs.Frames.{split_of}
-use Rattle.keys.specs.declared.constraints.Lifetime.TheVariants.{Forever}
 use Rattle.rule.specs.declared.Hash.{Hash}
 use Rattle.rule.specs.declared.Hash.TheVariants.{Plain, Sha256, Sha512}
 use Rattle.rule.specs.Gateway.{Entry, Gateway, zero_millis, fresh}
@@ -39,7 +38,7 @@ locked_ab = record { entries = []; lock = 0x61 ∷ 0x62 ∷ []; clock = zero_mil
 -- one key, held under the blob 61, and a request for its signature over no data
 abbrev pub one_key : Gateway
 one_key = record {
-  entries = (record { number = 1; reading = zero_millis; lifetime = Forever; confirm = false; blob = 0x61 ∷ []; fields = 0 ∷ []; comment = [] }) ∷ [];
+  entries = (record { number = 1; reading = zero_millis; lifetime = None; confirm = false; blob = 0x61 ∷ []; fields = 0 ∷ []; comment = [] }) ∷ [];
   lock = [];
   clock = zero_millis;
   next = 2;
@@ -92,7 +91,7 @@ pub record StarredExamples : Type 0 where
 -- 01's soundness at its limits, on one held key
 abbrev pub key_with : ℕ → ℕ → ℕ → ℕ → ℕ → Gateway
 key_with number reading blob fields comment = record {
-  entries = (record { number = number; reading = record { count = reading }; lifetime = Forever; confirm = false; blob = replicate blob 1; fields = replicate fields 1; comment = replicate comment 1 }) ∷ [];
+  entries = (record { number = number; reading = record { count = reading }; lifetime = None; confirm = false; blob = replicate blob 1; fields = replicate fields 1; comment = replicate comment 1 }) ∷ [];
   lock = [];
   clock = record { count = 5 };
   next = 3;
@@ -104,8 +103,8 @@ lock_of_length n next = record { entries = []; lock = replicate n 1; clock = zer
 -- a second key beside one of number 1 and blob 61
 abbrev pub besides : ℕ → ℕ → Gateway
 besides number byte = record {
-  entries = (record { number = 1; reading = zero_millis; lifetime = Forever; confirm = false; blob = 0x61 ∷ []; fields = 0 ∷ []; comment = [] })
-      ∷ (record { number = number; reading = zero_millis; lifetime = Forever; confirm = false; blob = byte ∷ []; fields = 0 ∷ []; comment = [] }) ∷ [];
+  entries = (record { number = 1; reading = zero_millis; lifetime = None; confirm = false; blob = 0x61 ∷ []; fields = 0 ∷ []; comment = [] })
+      ∷ (record { number = number; reading = zero_millis; lifetime = None; confirm = false; blob = byte ∷ []; fields = 0 ∷ []; comment = [] }) ∷ [];
   lock = [];
   clock = zero_millis;
   next = 3;
@@ -113,7 +112,7 @@ besides number byte = record {
 
 -- n keys of two bytes
 abbrev pub short_key : ℕ → Entry
-short_key n = record { number = n; reading = zero_millis; lifetime = Forever; confirm = false; blob = n ∷ []; fields = 0 ∷ []; comment = [] }
+short_key n = record { number = n; reading = zero_millis; lifetime = None; confirm = false; blob = n ∷ []; fields = 0 ∷ []; comment = [] }
 
 abbrev pub short_keys_from : ℕ → ℕ → List Entry
 short_keys_from from zero = []
@@ -124,7 +123,7 @@ short_keys n = record { entries = short_keys_from 1 n; lock = []; clock = zero_m
 
 -- seven keys of 4,351 bytes, and one with 7 bytes beside its key fields: 32,768 where these are 2,304
 abbrev pub broad_key : ℕ → ℕ → ℕ → ℕ → Entry
-broad_key n blob fields comment = record { number = n; reading = zero_millis; lifetime = Forever; confirm = false; blob = n ∷ replicate blob 0; fields = replicate fields 1; comment = replicate comment 1 }
+broad_key n blob fields comment = record { number = n; reading = zero_millis; lifetime = None; confirm = false; blob = n ∷ replicate blob 0; fields = replicate fields 1; comment = replicate comment 1 }
 
 abbrev pub filled_to : ℕ → Gateway
 filled_to fields = record {

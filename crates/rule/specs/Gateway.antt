@@ -1,14 +1,11 @@
 -- The gateway in 01's words ("Table, store and clock"), with no bytes: layout is the table's.
-use Rattle.std.specs.Prelude.{ℕ, zero, suc, ◌+◌, ◌-◌, ◌*◌, max, Bool, false, not, cond, ◌&&◌, List, [], ◌∷◌, length, leb, ltb}
+use Rattle.std.specs.Prelude.{ℕ, zero, suc, ◌+◌, ◌-◌, ◌*◌, max, Bool, false, not, cond, ◌&&◌, List, [], ◌∷◌, length, leb, ltb, None, Some, Option as RustOption}
 use Rattle.std.proofs.Math.Option.{Option, none, some}
 use Rattle.wire.specs.Limits.{entries_limit, store_size}
 use Rattle.wire.specs.declared.Seconds.{Seconds}
 use Rattle.wire.specs.Read.{same}
-use Rattle.keys.specs.declared.constraints.Lifetime.{Lifetime}
-use Rattle.keys.specs.declared.constraints.Lifetime.TheVariants.{Forever, For}
+use Rattle.keys.specs.Constraints.{Lifetime}
 use Rattle.rule.specs.declared.Millis.{Millis}
-use Rattle.rule.specs.declared.Found.{Found}
-use Rattle.rule.specs.declared.Found.TheVariants.{At, Nothing}
 
 -- "An entry has an insertion number, the reading at insertion, perhaps a lifetime, and Confirm or not", the key's two byte strings, and
 -- (#101) its comment
@@ -51,8 +48,8 @@ millis_of seconds = record { count = seconds.count * 1000 }
 
 -- "each entry with lifetime L is removed .. if clock minus insertion reading is at least 1,000 L"
 unfoldable pub due_at : Millis → Millis → Lifetime → Bool
-due_at clock reading Forever = false
-due_at clock reading (For seconds) = leb (millis_of seconds).count (clock.count - reading.count)
+due_at clock reading None = false
+due_at clock reading (Some seconds) = leb (millis_of seconds).count (clock.count - reading.count)
 
 unfoldable pub lasting : Millis → List Entry → List Entry
 lasting clock [] = []
@@ -77,18 +74,22 @@ entry_at [] i = none
 entry_at (e ∷ es) zero = some e
 entry_at (e ∷ es) (suc i) = entry_at es i
 
+-- where a search over the entries ended
+abbrev pub Found : Type 0
+Found = RustOption ℕ
+
 -- the first position, from number i on, whose entry passes a test
 abbrev pub seek : (Entry → Bool) → ℕ → List Entry → Found
-seek test i [] = Nothing
-seek test i (e ∷ es) = cond (test e) (At i) (seek test (suc i) es)
+seek test i [] = None
+seek test i (e ∷ es) = cond (test e) (Some i) (seek test (suc i) es)
 
 abbrev pub holds : List ℕ → Entry → Bool
 holds blob e = same e.blob blob
 
 -- going on by where a search ended
 unfoldable pub found : {A : Type 0} → A → Found → (ℕ → A) → A
-found z (At i) next = next i
-found z Nothing next = z
+found z (Some i) next = next i
+found z None next = z
 
 -- the entry that has a blob, if one has it
 unfoldable pub entry_with : List ℕ → List Entry → Option Entry
@@ -119,7 +120,7 @@ unfoldable pub position_for : List ℕ → List Entry → ℕ
 position_for blob es = found (length es) (seek (holds blob) 0 es) λ i. i
 
 unfoldable pub place_for : Entry → List Entry → Found
-place_for e es = cond (has_room e es) (At (position_for e.blob es)) Nothing
+place_for e es = cond (has_room e es) (Some (position_for e.blob es)) None
 
 -- ## New states
 

@@ -1,5 +1,5 @@
 -- 01's "Rule by first byte" as a plan: what to ask, what to do with each answer, and how to land. Rows and steps stand in 01's order.
-use Rattle.std.specs.Prelude.{ℕ, ◌-◌, ◌/◌, ◌%◌, Bool, true, false, cond, List, [], ◌∷◌, ◌++◌, length, get_or, leb, ltb, eqb}
+use Rattle.std.specs.Prelude.{ℕ, ◌-◌, ◌/◌, ◌%◌, Bool, true, false, cond, List, [], ◌∷◌, ◌++◌, length, get_or, leb, ltb, eqb, Ok, Err}
 use Rattle.std.proofs.Math.Option.{Option, none, some}
 use Rattle.wire.specs.Limits.{passphrase_limit, last_number}
 use Rattle.wire.specs.Numbers.{be32}
@@ -7,7 +7,7 @@ use Rattle.wire.specs.Read.{cut_of, same, string_at, number_at}
 use Rattle.wire.specs.Steps.{part, number}
 use Rattle.wire.specs.Write.{string}
 use Rattle.keys.specs.declared.addition.Carried.{Carried}
-use Rattle.keys.specs.declared.addition.Addition.{Addition}
+use Rattle.keys.specs.Additions.{Addition}
 use Rattle.keys.specs.Kinds.{blob_of}
 use Rattle.keys.specs.Additions.{addition_at}
 use Rattle.rule.specs.declared.Hash.{Hash}
@@ -126,8 +126,8 @@ signing g payload =
 
 -- going on with what an add request carries
 unfoldable pub added : {A : Type 0} → A → Addition → (Carried → A) → A
-added z (Addition.Whole c) next = next c
-added z (Addition.Fault at) next = z
+added z (Ok c) next = next c
+added z (Err e) next = z
 
 -- what it brings, with the blob that was made of its fields
 abbrev pub brought : List ℕ → Carried → List ℕ → NewKey

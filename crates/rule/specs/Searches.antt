@@ -1,9 +1,8 @@
 -- What a search over the list answers, in 01's values: the position, or none.
-use Rattle.std.specs.Prelude.{ℕ}
+use Rattle.std.specs.Prelude.{ℕ, None, Some}
 use Rattle.std.proofs.Math.Option.{Option, none, some}
-use Rattle.rule.specs.declared.Found.{Found}
-use Rattle.rule.specs.declared.Found.TheVariants.{At, Nothing}
+use Rattle.rule.specs.Gateway.{Found}
 
 abbrev pub found_place : Found → Option ℕ
-found_place (At i) = some i
-found_place Nothing = none
+found_place (Some i) = some i
+found_place None = none

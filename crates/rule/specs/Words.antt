@@ -1,8 +1,8 @@
 -- The words of the promises: what a request begins with and carries, what a gateway holds, and a call past its gate.
 use Rattle.std.specs.Prelude.{ℕ, ◌<◌, ◌≡◌, true, List, length, get_or}
 use Rattle.std.proofs.Math.Option.{none, some}
+use Rattle.wire.specs.Steps.{part_of}
 use Rattle.wire.specs.declared.read.Cursor.{Cursor}
-use Rattle.wire.specs.declared.read.Part.TheVariants.{Whole}
 use Rattle.wire.specs.Read.{cut_of, string_at}
 use Rattle.rule.specs.Gateway.{Entry, Gateway, entry_at, advance}
 use Rattle.rule.specs.Calls.{Call, refusal}
@@ -17,7 +17,7 @@ pub record Carries (v payload : List ℕ) : Type 0 where
   pub from : ℕ
   pub to : ℕ
   pub next : Cursor
-  pub read : string_at payload 1 ≡ Whole from to next
+  pub read : string_at payload 1 ≡ part_of from to next
   pub is : cut_of payload from to ≡ v
 
 -- e stands at position i of the list

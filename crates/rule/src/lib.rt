@@ -8,13 +8,6 @@ pub struct Millis {
     pub count: u64,
 }
 
-// Where a search over the entries ended.
-#[derive(Clone, Copy)]
-pub enum Found {
-    At(usize),
-    Nothing,
-}
-
 // The hash that a signature is asked for with.
 #[derive(Clone, Copy)]
 pub enum Hash {

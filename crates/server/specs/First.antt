@@ -1,13 +1,12 @@
 -- The first call of a request, from the connection's bytes (#104): "connection bytes go in; out comes more needed, too long, or the first outcome with
 -- the bytes used". The splitter, and once a frame is whole the call on its payload with nothing lent.
-use Rattle.std.specs.Prelude.{ℕ, ◌≡◌, List, [], ◌∷◌}
+use Rattle.std.specs.Prelude.{None, ℕ, ◌≡◌, List, [], ◌∷◌}
 use Rattle.wire.specs.declared.frame.Split.{Split}
 use Rattle.wire.specs.declared.frame.Split.TheVariants as split
 use Rattle.wire.specs.Frames.{split_of, frame_payload}
 use Rattle.rule.specs.declared.Millis.{Millis}
 use Rattle.table.specs.declared.State.{State}
 use Rattle.requests.specs.declared.Said.TheVariants as said
-use Rattle.requests.specs.declared.Confirmed.TheVariants as confirmed
 use Rattle.requests.specs.declared.Signed.TheVariants as signed
 use Rattle.requests.specs.declared.Answers.{Answers}
 use Rattle.requests.specs.declared.Outcome.{Outcome}
@@ -28,7 +27,7 @@ first_values (Began used o) = 3 ∷ used ∷ outcome_values o
 
 -- "no answer is lent yet"
 abbrev pub nothing_lent : Answers
-nothing_lent = record { gate = said.Missing; check = said.Missing; confirmation = confirmed.Missing; signature = signed.Missing }
+nothing_lent = record { gate = said.Missing; check = said.Missing; confirmation = None; signature = signed.Missing }
 
 -- of a refusal only the number is told, of any other outcome the bytes used too
 unfoldable pub first_in : ℕ → Outcome → First

@@ -22,7 +22,7 @@ pub enum Row {
     Unlock,
 }
 
-// A row whose lock state fits goes by the gate's answer.
+// A row whose lock state fits goes by the gate's answer; its class is 01's number, as an outcome has it.
 fn gated(row: Row, class: u8, fit: bool, gate: Said) -> Row
     ensures { result ≡ gated_row row class fit gate }
 {
@@ -37,6 +37,7 @@ fn gated(row: Row, class: u8, fit: bool, gate: Said) -> Row
 }
 
 // The table by first byte.
+#[tactic(auto, unfolding(crate::specs::Rows::row_of))]
 fn row_of(first: u8, locked: bool, gate: Said) -> Row
     ensures { result ≡ row_of first locked gate }
 {
@@ -54,6 +55,7 @@ fn row_of(first: u8, locked: bool, gate: Said) -> Row
 }
 
 // The row of a payload; an empty one fails.
+#[tactic(auto, unfolding(crate::specs::Rows::row_in))]
 pub fn row_in(payload: &[u8], locked: bool, gate: Said) -> Row
     ensures { result ≡ row_in payload.now locked gate }
 {
@@ -69,8 +71,7 @@ pub fn lent_length(given: Signed, bytes: &[u8]) -> usize
     ensures { result ≡ lent_length (signature_of given bytes.now) }
 {
     match given {
-        Signed::Missing => 0,
-        Signed::Nothing { number: _ } => 0,
+        Signed::Missing | Signed::Nothing { number: _ } => 0,
         Signed::Given { number: _ } => bytes.len(),
     }
 }

@@ -3,10 +3,10 @@
 ghost use Rattle.std.specs.Prelude.{◌≡◌};
 ghost use Rattle.server.specs.First.{first_in, nothing_lent};
 
-use requests::{Answers, Confirmed, Outcome, Said, Signed};
+use requests::{Answers, Outcome, Said, Signed};
 
-// More bytes are needed; the frame is too long; a refusal and its number; or the request has begun: the bytes that its frame takes, its length in
-// front included, and the outcome, whose parts are places in the payload.
+// More bytes are needed; the frame is too long; a refusal and its number, as an outcome has it; or the request has begun: the bytes that its
+// frame takes, its length in front included, and the outcome, whose parts are places in the payload.
 #[derive(Clone, Copy)]
 pub enum First {
     MoreNeeded,
@@ -22,12 +22,13 @@ pub fn nothing_lent() -> Answers
     Answers {
         gate: Said::Missing,
         check: Said::Missing,
-        confirmation: Confirmed::Missing,
+        confirmation: None,
         signature: Signed::Missing,
     }
 }
 
 // A refusal uses no bytes.
+#[tactic(auto, unfolding(crate::specs::First::first_in))]
 pub fn first_in(used: usize, outcome: Outcome) -> First
     ensures { result ≡ first_in used outcome }
 {

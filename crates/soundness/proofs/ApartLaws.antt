@@ -7,15 +7,16 @@ use mathlib.Core.List.{List, [], ◌∷◌, ◌++◌, map}
 use native.Mathlib.Omega.{arith}
 use native.Mathlib.Numerals.{add-one}
 use native.Mathlib.Nat.{not-suc-le-zero, le_of_suc-le-suc, suc-add, sub-zero, suc-sub-suc}
-use borrow.Author.Tests.{eqb-true, eqb-false, eq-eqb, ne_eqb, ltb-true, lt-ltb, le-ltb, not-true}
+use borrow.Author.Tests.{eqb-true, eqb-false, eq-eqb, ne_eqb, ltb-true, lt-ltb}
 use lib.Dec.{eqb, ltb}
-use lib.ListN.{length, take, drop, get_or, set, length-drop, drop_of_length-le}
-use lib.Seq.{length-take-le, drop-cons, take-nil, take-suc-set, get_or-take, ext_get_or}
+use lib.ListN.{length, take, drop, get_or, set}
+use lib.Seq.{length-take-le, take-nil, take-suc-set, get_or-take, ext_get_or}
+use Rattle.std.specs.List.{list_any, IsAllAdjacentAnswer}
 use Rattle.wire.specs.Read.{same}
 use Rattle.wire.proofs.Cases.{and_left, and_right}
 use Rattle.wire.proofs.Reading.{same_true, same-rule}
-use Rattle.rule.specs.declared.Found.{Found}
-use Rattle.rule.specs.declared.Found.TheVariants.{At, Nothing}
+use Rattle.rule.specs.Gateway.{Found}
+use Rattle.std.specs.Prelude.{Some, None}
 use Rattle.rule.specs.Gateway.{Entry as Key, zero_millis, entry_at, seek, holds}
 use Rattle.rule.specs.Soundness.{every_entry, apart, distinct}
 use Rattle.rule.proofs.Cases.{true_not_false}
@@ -33,38 +34,24 @@ use Rattle.table.proofs.TestLaws.{short_rule}
 use Rattle.soundness.specs.Rising.{below_first, rising}
 use Rattle.soundness.proofs.SoundnessLaws.{walk_on, walk_out, walk_end}
 
--- ## Among the numbers left, of any width
+-- ## Among numbers, of any width
 
--- found before place i, or among those from i on
-abbrev pub found_along : Bool → ℕ → ℕ → List ℕ → Bool
-found_along found i n l = found || among n (drop i l)
-
-pub among-step : (l : List ℕ) (n i : ℕ) (found : Bool) → i < length l → found_along found i n l ≡ found_along (found || eqb (get_or l i 0) n) (i + 1) n l
+among_by : (n : ℕ) (l : List ℕ) → list_any (λ x. eqb x n) l ≡ among n l
 unfolding among
-among-step l n i true h = refl
-among-step l n i false h = rw (add-one, drop-cons l i 0 h)
+among_by n [] = refl
+among_by n (m ∷ l) = ap (λ (t : Bool). eqb m n || t) (among_by n l)
 
-pub among-end : (l : List ℕ) (n i : ℕ) (found : Bool) → length l ≤ i → found_along found i n l ≡ found
-unfolding among
-among-end l n i true h = refl
-among-end l n i false h = rw (drop_of_length-le l h)
+drop-take : (n m : ℕ) (l : List ℕ) → m ≤ n → take (n - m) (drop m l) ≡ drop m (take n l)
+drop-take n zero l h = rw sub-zero
+drop-take zero (suc m) l h = absurd (not-suc-le-zero h)
+drop-take (suc n) (suc m) [] h = take-nil (suc n - suc m)
+drop-take (suc n) (suc m) (b ∷ l) h = rw suc-sub-suc (drop-take n m l (le_of_suc-le-suc h))
+
+-- .. among the first n, those behind the first m
+pub among_part : (k n m : ℕ) (l : List ℕ) → m ≤ n → list_any (λ x. eqb x k) (take (n - m) (drop m l)) ≡ among k (drop m (take n l))
+among_part k n m l h = among_by k _ ∙ ap (among k) (drop-take n m l h)
 
 -- ## Numbers that rise
-
-rising_none : rising [] ≡ true
-unfolding rising
-rising_none = refl
-
-rising-goes : (n : ℕ) (rest : List ℕ) → rising (n ∷ rest) ≡ below_first n rest && rising rest
-unfolding rising
-rising-goes n rest = refl
-
--- one number rises
-one_rises : (l : List ℕ) → length l ≤ 1 → rising l ≡ true
-unfolding rising
-one_rises [] h = refl
-one_rises (n ∷ []) h = refl
-one_rises (n ∷ m ∷ l) h = absurd (not-suc-le-zero (le_of_suc-le-suc h))
 
 -- below the first of rising numbers, below all of them
 below_more : (n m : ℕ) (l : List ℕ) → n < m → below_first m l ≡ true → below_first n l ≡ true
@@ -90,30 +77,25 @@ none_behind l n i rises fits h e t =
     let inside : i < length (take n l) = rw (length-take-le n l fits) h in
     sym (ap (λ (m : ℕ). among m (drop (i + 1) (take n l))) (sym (get_or-take n l i 0 h)) ∙ rising-new (take n l) i inside (sym e ∙ t))
 
--- of the first n, those from the one before place i on
-abbrev pub RisingLeft : List ℕ → ℕ → ℕ → Type 0
-RisingLeft l n i = rising (drop (i - 1) (take n l)) ≡ rising (take n l)
+all_rise : (l : List ℕ) → ((k d : ℕ) → k + 1 < length l → true ≡ ltb (get_or l k d) (get_or l (k + 1) d)) → true ≡ rising l
+unfolding rising
+all_rise [] f = refl
+all_rise (n ∷ []) f = refl
+all_rise (n ∷ m ∷ l) f =
+    let rest = all_rise (m ∷ l) (λ k d h. rw suc-add at (f (suc k) d (omega arith))) in
+    rw (← f 0 0 (omega arith)) rest
 
-module _ (l : List ℕ) (n i : ℕ) (fits : n ≤ length l) (behind-first : 1 ≤ i) where
-  front_long : length (take n l) ≡ n
-  front_long = length-take-le n l fits
+one_falls : (l : List ℕ) (k : ℕ) → k + 1 < length l → false ≡ ltb (get_or l k 0) (get_or l (k + 1) 0) → false ≡ rising l
+unfolding rising
+one_falls [] k h e = absurd (not-suc-le-zero h)
+one_falls (n ∷ []) k h e = absurd (not-suc-le-zero (le_of_suc-le-suc (rw add-one at h)))
+one_falls (n ∷ m ∷ l) zero h e = rw (← e)
+one_falls (n ∷ m ∷ l) (suc k) h e = rw (← one_falls (m ∷ l) k (omega arith) (rw suc-add at e)) (sym (and-false (ltb n m)))
 
-  module _ (h : i < n) where
-    test_is : below_first (get_or (take n l) (i - 1) 0) (drop (i - 1 + 1) (take n l)) ≡ ltb (get_or l (i - 1) 0) (get_or l i 0)
-    test_is =
-        let back : i - 1 + 1 ≡ i = omega arith in
-        rw (back, drop-cons (take n l) i 0 (rw front_long h), get_or-take n l i 0 h, get_or-take n l (i - 1) 0 (omega arith))
-
-    pub rise_on : get_or l (i - 1) 0 < get_or l i 0 → RisingLeft l n i → RisingLeft l n (i + 1)
-    rise_on q left =
-        let on : i + 1 - 1 ≡ i - 1 + 1 = omega arith in
-        rw on (walk_on rising below_first rising_none rising-goes 0 (take n l) _ (i - 1) true (rw front_long (omega arith)) refl (sym (test_is ∙ lt-ltb _ _ q)) left)
-
-    pub rise_out : get_or l i 0 ≤ get_or l (i - 1) 0 → RisingLeft l n i → false ≡ rising (take n l)
-    rise_out q = walk_out rising below_first rising_none rising-goes 0 (take n l) _ (i - 1) false (rw front_long (omega arith)) refl (sym (test_is ∙ le-ltb _ _ q))
-
-  pub rise_end : n ≤ i → RisingLeft l n i → true ≡ rising (take n l)
-  rise_end h left = sym (one_rises (drop (i - 1) (take n l)) (rw (length-drop, front_long) (omega arith))) ∙ left
+-- each number below the next
+pub rising_by : (l : List ℕ) (r : Bool) → IsAllAdjacentAnswer (λ x y b. b ≡ ltb x y) l r → r ≡ rising l
+rising_by l true all = all_rise l all
+rising_by l false (k, h, e) = one_falls l k h (e 0)
 
 -- ## A list filled by its index
 
@@ -129,13 +111,6 @@ module _ (blobs fields comments : List ℕ) where
   pub shorts_none : (x : List ℕ) → ◌≡◌ {A = List ℕ} [] (shorts_in blobs fields comments 0 x)
   unfolding shorts_in up_to
   shorts_none x = refl
-
-  -- an entry's bytes end before those of n entries do
-  pub part-inside : (i n : ℕ) → i < n → start_in blobs fields comments i + (get_or blobs i 0 + (get_or fields i 0 + get_or comments i 0)) ≤ start_in blobs fields comments n
-  part-inside i n h =
-      let step = start-step blobs fields comments i in
-      let more = start-mono blobs fields comments (suc i) n h in
-      omega arith
 
 -- ## Short numbers
 
@@ -157,7 +132,7 @@ number_of k = k.number
 abbrev pub short_number : Key → ℕ
 short_number k = short_of k.blob
 
-at_not_nothing : {j : ℕ} → At j ≡ Nothing → ⊥
+at_not_nothing : {j : ℕ} → Some j ≡ None → ⊥
 at_not_nothing e = let z : ◌≡◌ {A = ℕ} 0 1 = cc in omega arith
 
 module _ (k x : Key) where
@@ -187,35 +162,35 @@ module _ (k : Key) where
       by_test false _ rest go = rw (← go rest) (sym (and-false (apart k x)))
 
   -- a blob that stands behind
-  pub blob_again : (ks : List Key) (i j : ℕ) → seek (holds k.blob) i ks ≡ At j → false ≡ every_entry (apart k) ks
+  pub blob_again : (ks : List Key) (i j : ℕ) → seek (holds k.blob) i ks ≡ Some j → false ≡ every_entry (apart k) ks
   unfolding every_entry
   blob_again [] i j e = absurd (at_not_nothing (sym e))
   blob_again (x ∷ ks) i j e = by_test (holds k.blob x) refl e (blob_again ks (suc i) j)
     where
-      by_test : (t : Bool) → holds k.blob x ≡ t → cond t (At i) (seek (holds k.blob) (suc i) ks) ≡ At j → (seek (holds k.blob) (suc i) ks ≡ At j → false ≡ every_entry (apart k) ks) → false ≡ apart k x && every_entry (apart k) ks
+      by_test : (t : Bool) → holds k.blob x ≡ t → cond t (Some i) (seek (holds k.blob) (suc i) ks) ≡ Some j → (seek (holds k.blob) (suc i) ks ≡ Some j → false ≡ every_entry (apart k) ks) → false ≡ apart k x && every_entry (apart k) ks
       by_test true t _ _ = rw (blob_shared k x t)
       by_test false _ rest go = rw (← go rest) (sym (and-false (apart k x)))
 
   -- neither stands behind
-  pub neither_again : (ks : List Key) (i : ℕ) → among k.number (map number_of ks) ≡ false → seek (holds k.blob) i ks ≡ Nothing → true ≡ every_entry (apart k) ks
+  pub neither_again : (ks : List Key) (i : ℕ) → among k.number (map number_of ks) ≡ false → seek (holds k.blob) i ks ≡ None → true ≡ every_entry (apart k) ks
   unfolding among every_entry
   neither_again [] i e f = refl
   neither_again (x ∷ ks) i e f = by_tests (eqb x.number k.number) (holds k.blob x) refl refl e f (neither_again ks (suc i))
     where
-      by_tests : (t u : Bool) → eqb x.number k.number ≡ t → holds k.blob x ≡ u → t || among k.number (map number_of ks) ≡ false → cond u (At i) (seek (holds k.blob) (suc i) ks) ≡ Nothing
-          → (among k.number (map number_of ks) ≡ false → seek (holds k.blob) (suc i) ks ≡ Nothing → true ≡ every_entry (apart k) ks) → true ≡ apart k x && every_entry (apart k) ks
+      by_tests : (t u : Bool) → eqb x.number k.number ≡ t → holds k.blob x ≡ u → t || among k.number (map number_of ks) ≡ false → cond u (Some i) (seek (holds k.blob) (suc i) ks) ≡ None
+          → (among k.number (map number_of ks) ≡ false → seek (holds k.blob) (suc i) ks ≡ None → true ≡ every_entry (apart k) ks) → true ≡ apart k x && every_entry (apart k) ks
       by_tests true u _ _ never _ _ = absurd (true_not_false never)
       by_tests false true _ _ _ never _ = absurd (at_not_nothing never)
       by_tests false false t u numbers blobs go = rw (neither_shared k x t u) (go numbers blobs)
 
   -- where the short number of a blob does not stand behind, the blob does not
-  pub short_new : (ks : List Key) (i : ℕ) → among (short_number k) (map short_number ks) ≡ false → seek (holds k.blob) i ks ≡ Nothing
+  pub short_new : (ks : List Key) (i : ℕ) → among (short_number k) (map short_number ks) ≡ false → seek (holds k.blob) i ks ≡ None
   unfolding among
   short_new [] i e = refl
   short_new (x ∷ ks) i e = by_tests (eqb (short_number x) (short_number k)) (holds k.blob x) refl refl e (short_new ks (suc i))
     where
       by_tests : (t u : Bool) → eqb (short_number x) (short_number k) ≡ t → holds k.blob x ≡ u → t || among (short_number k) (map short_number ks) ≡ false
-          → (among (short_number k) (map short_number ks) ≡ false → seek (holds k.blob) (suc i) ks ≡ Nothing) → cond u (At i) (seek (holds k.blob) (suc i) ks) ≡ Nothing
+          → (among (short_number k) (map short_number ks) ≡ false → seek (holds k.blob) (suc i) ks ≡ None) → cond u (Some i) (seek (holds k.blob) (suc i) ks) ≡ None
       by_tests true u _ _ never _ = absurd (true_not_false never)
       by_tests false true t u _ _ = absurd (short_rule x.blob k.blob (eqb-false (short_number x) (short_number k) t) (same_true x.blob k.blob u))
       by_tests false false _ _ rest go = go rest
@@ -231,12 +206,6 @@ map-entry : (f : Key → ℕ) (ks : List Key) (i : ℕ) (k : Key) → entry_at k
 map-entry f [] i k e = absurd (some_not_none (sym e))
 map-entry f (x ∷ ks) zero k e = ap f (same-entry e)
 map-entry f (x ∷ ks) (suc i) k e = map-entry f ks i k e
-
-pub drop-take : (n m : ℕ) (l : List ℕ) → m ≤ n → take (n - m) (drop m l) ≡ drop m (take n l)
-drop-take n zero l h = rw sub-zero
-drop-take zero (suc m) l h = absurd (not-suc-le-zero h)
-drop-take (suc n) (suc m) [] h = take-nil (suc n - suc m)
-drop-take (suc n) (suc m) (b ∷ l) h = rw suc-sub-suc (drop-take n m l (le_of_suc-le-suc h))
 
 -- is the number of entry i among those behind it?
 module _ (f : Key → ℕ) (ks : List Key) (l : List ℕ) (n : ℕ) (listed : map f ks ≡ take n l) (i : ℕ) (k : Key) (h : i < n) (held : entry_at ks i ≡ some k) where
@@ -311,20 +280,19 @@ module _ (numbers blobs fields comments x shorts : List ℕ) (i n : ℕ) (counte
     told-by_number t = number_again k behind (sym numbers_say ∙ t)
 
     module _ (new : b ≡ false) where
-      pub told-by_short : (d : Bool) → d ≡ among (get_or shorts i 0) (take (n - (i + 1)) (drop (i + 1) shorts)) → not d ≡ true → true ≡ every_entry (apart k) behind
-      told-by_short d f t =
-          let others = f ∙ ap (among (get_or shorts i 0)) (drop-take n (i + 1) shorts (omega arith)) in
-          let absent : among (short_number k) (map short_number behind) ≡ false = sym (among-behind short_number _ shorts n by_shorts i k h held d others) ∙ not-true d t in
+      pub told-by_short : among (get_or shorts i 0) (drop (i + 1) (take n shorts)) ≡ false → true ≡ every_entry (apart k) behind
+      told-by_short t =
+          let absent : among (short_number k) (map short_number behind) ≡ false = sym (among-behind short_number _ shorts n by_shorts i k h held _ refl) ∙ t in
           neither_again k behind (i + 1) (sym numbers_say ∙ new) (short_new k behind (i + 1) absent)
 
       module _ (blob : List ℕ) (is : blob ≡ k.blob) (r : Found) (f : r ≡ seek (holds blob) (i + 1) behind) where
         searched : seek (holds k.blob) (i + 1) behind ≡ r
         searched = sym (f ∙ ap (λ (y : List ℕ). seek (holds y) (i + 1) behind) is)
 
-        pub told-by_blob : (j : ℕ) → r ≡ At j → false ≡ every_entry (apart k) behind
+        pub told-by_blob : (j : ℕ) → r ≡ Some j → false ≡ every_entry (apart k) behind
         told-by_blob j t = blob_again k behind (i + 1) j (searched ∙ t)
 
-        pub told-by_none : r ≡ Nothing → true ≡ every_entry (apart k) behind
+        pub told-by_none : r ≡ None → true ≡ every_entry (apart k) behind
         told-by_none t = neither_again k behind (i + 1) (sym numbers_say ∙ new) (searched ∙ t)
 
 -- ## Each entry against those behind it
@@ -356,14 +324,14 @@ module _ (numbers blobs fields comments x : List ℕ) (i : ℕ) where
       within : i < length (gateway_of s x).entries
       within = rw (state_count s x) inside
 
-      unlike_at : b ≡ every_entry (apart (get_or (gateway_of s x).entries i (key_at s x i))) (drop (i + 1) (gateway_of s x).entries)
-      unlike_at = rw (get_or-entry (gateway_of s x).entries i (key_at s x i) (key_at s x i) (state_entry s x i inside)) (e s (key_at s x i) shows (state_entry s x i inside))
+      unlike_at : every_entry (apart (get_or (gateway_of s x).entries i (key_at s x i))) (drop (i + 1) (gateway_of s x).entries) ≡ b
+      unlike_at = rw (get_or-entry (gateway_of s x).entries i (key_at s x i) (key_at s x i) (state_entry s x i inside)) (sym (e s (key_at s x i) shows (state_entry s x i inside)))
 
-    pub distinct-on : not b ≡ false → DistinctLeft numbers blobs fields comments x i → DistinctLeft numbers blobs fields comments x (i + 1)
-    distinct-on q left s shows = walk_on distinct (λ k. every_entry (apart k)) distinct_none distinct-goes (key_at s x i) _ _ i b (within s shows) q (unlike_at s shows) (left s shows)
+    pub distinct-on : b ≡ true → DistinctLeft numbers blobs fields comments x i → DistinctLeft numbers blobs fields comments x (i + 1)
+    distinct-on q left s shows = walk_on distinct (λ k. every_entry (apart k)) distinct_none distinct-goes (key_at s x i) _ _ i (within s shows) (unlike_at s shows ∙ q) (left s shows)
 
-    pub distinct-out : not b ≡ true → DistinctLeft numbers blobs fields comments x i → DistinctSays false numbers blobs fields comments x
-    distinct-out q left s shows = walk_out distinct (λ k. every_entry (apart k)) distinct_none distinct-goes (key_at s x i) _ _ i b (within s shows) q (unlike_at s shows) (left s shows)
+    pub distinct-out : b ≡ false → DistinctLeft numbers blobs fields comments x i → DistinctSays false numbers blobs fields comments x
+    distinct-out q left s shows = walk_out distinct (λ k. every_entry (apart k)) distinct_none distinct-goes (key_at s x i) _ _ i (within s shows) (unlike_at s shows ∙ q) (left s shows)
 
   pub distinct-end : count_of numbers ≤ i → DistinctLeft numbers blobs fields comments x i → DistinctSays true numbers blobs fields comments x
   distinct-end h left s shows =

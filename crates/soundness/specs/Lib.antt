@@ -1,2 +1,3 @@
--- The definition that contracts of helpers cite; what the test itself says is in table's `specs/Soundness.antt`.
+-- The definitions that contracts of helpers cite; what the test itself says is in table's `specs/Soundness.antt`.
 pub mod Rising
+pub mod Shortened

@@ -1,7 +1,7 @@
 -- Laws of zeros and padding, of a part put back, and one law for each turn and end of the loops over a part.
 use Prim.Native.Nat.{ℕ, zero, suc, ◌+◌, ◌-◌, ◌≤◌, ◌<◌, max}
 use mathlib.Core.Path.{◌≡◌, refl, sym, ap, ◌∙◌}
-use mathlib.Core.Bool.{Bool, true, false, ◌&&◌}
+use mathlib.Core.Bool.{Bool, true, false, ◌&&◌, and-false}
 use mathlib.Core.List.{List, [], ◌∷◌, ◌++◌, append-nil, append_assoc}
 use mathlib.Core.Logic.{◌↔◌}
 use native.Mathlib.Omega.{arith}
@@ -17,6 +17,15 @@ use Rattle.wire.specs.Write.{write}
 use Rattle.wire.proofs.Reading.{same_true}
 use Rattle.rule.proofs.Cases.{and_left, and_right}
 use Rattle.table.specs.Bytes.{all_zero, Zeros, greatest_byte, padded}
+
+-- ## Lists of other lengths
+
+pub same-long : (a b : List ℕ) → (length a ≡ length b → ⊥) → false ≡ same a b
+unfolding same
+same-long [] [] h = absurd (h refl)
+same-long [] (y ∷ ys) h = refl
+same-long (x ∷ xs) [] h = refl
+same-long (x ∷ xs) (y ∷ ys) h = rw (← same-long xs ys (λ e. h (ap suc e))) (sym (and-false (eqb x y)))
 
 -- ## Zeros
 

@@ -11,8 +11,8 @@ use lib.Dec.{leb, ltb}
 use lib.ListN.{length, drop, get_or, length-drop}
 use lib.Seq.{length-take-le}
 use Rattle.wire.specs.Limits.{entries_limit, store_size}
-use Rattle.rule.specs.declared.Found.{Found}
-use Rattle.rule.specs.declared.Found.TheVariants.{At, Nothing}
+use Rattle.rule.specs.Gateway.{Found}
+use Rattle.std.specs.Prelude.{Some, None}
 use Rattle.rule.specs.Gateway.{Entry as Key, Gateway, entry_at, seek, holds, found, lengths_of, all_lengths, others, has_room, position_for, place_for}
 use Rattle.rule.specs.Searches.{found_place}
 use Rattle.rule.specs.Soundness as rule
@@ -32,27 +32,27 @@ use Rattle.table.proofs.WritingLaws.{sound-writing, end_lengths, sound-meaning}
 use Rattle.table.proofs.ReadLaws.{state_end, state_whole_end, state_few, state_housed, part-within}
 
 pub founds_apart : FoundsApart
-founds_apart (At i) (At j) e = cc
-founds_apart (At i) Nothing e = absurd (some_not_none e)
-founds_apart Nothing (At j) e = absurd (some_not_none (sym e))
-founds_apart Nothing Nothing e = refl
+founds_apart (Some i) (Some j) e = cc
+founds_apart (Some i) None e = absurd (some_not_none e)
+founds_apart None (Some j) e = absurd (some_not_none (sym e))
+founds_apart None None e = refl
 
-pub at_place : (f : Found) (i : ℕ) → found_place f ≡ some i → f ≡ At i
-at_place f i e = founds_apart f (At i) e
+pub at_place : (f : Found) (i : ℕ) → found_place f ≡ some i → f ≡ Some i
+at_place f i e = founds_apart f (Some i) e
 
 -- ## The entry that has a blob
 
 module _ (g : Gateway) (G : rule.Sound g) (blob : List ℕ) where
-  held_at : (i : ℕ) → seek (holds blob) 0 g.entries ≡ At i → HoldsBlob g.entries blob i
+  held_at : (i : ℕ) → seek (holds blob) 0 g.entries ≡ Some i → HoldsBlob g.entries blob i
   held_at i e = let f = found_at blob g.entries i e in (f.entry, f.there, f.is)
 
-  at_held : (i : ℕ) → HoldsBlob g.entries blob i → seek (holds blob) 0 g.entries ≡ At i
+  at_held : (i : ℕ) → HoldsBlob g.entries blob i → seek (holds blob) 0 g.entries ≡ Some i
   at_held i (k, there, is) = rw is at (held_found g.entries G.distinct i k there)
 
-  none_held : seek (holds blob) 0 g.entries ≡ Nothing → (j : ℕ) → HoldsBlob g.entries blob j → ⊥
+  none_held : seek (holds blob) 0 g.entries ≡ None → (j : ℕ) → HoldsBlob g.entries blob j → ⊥
   none_held e j (k, there, is) = every_at (λ x. x.blob ≢ blob) g.entries (absent_differs blob g.entries e) j k there is
 
-  held_none : ((j : ℕ) → HoldsBlob g.entries blob j → ⊥) → seek (holds blob) 0 g.entries ≡ Nothing
+  held_none : ((j : ℕ) → HoldsBlob g.entries blob j → ⊥) → seek (holds blob) 0 g.entries ≡ None
   held_none absent = differs_absent blob g.entries (every_of (λ x. x.blob ≢ blob) g.entries (λ j k there is. absent j (k, there, is)))
 
 pub find_rule : FindRule
@@ -100,15 +100,15 @@ module _ (s : State) (x : List ℕ) (S : Sound s x) where
   -- ## Where a key goes
 
   abbrev Fitting : ℕ → ℕ → ℕ → Found
-  Fitting i beside own = cond (leb (beside + own) store_size) (At i) Nothing
+  Fitting i beside own = cond (leb (beside + own) store_size) (Some i) None
 
   placed_by : (e : Key) (i : ℕ) (beside : ℕ) → position_for e.blob ks ≡ i → ltb (length (others e.blob ks)) entries_limit ≡ true → all_lengths (others e.blob ks) ≡ beside
       → Fitting i beside (lengths_of e) ≡ place_for e ks
   unfolding place_for has_room
-  placed_by e i beside position count lengths = rw (position, count, lengths) (cond_cases (λ (f : Found). f ≡ cond (leb (beside + lengths_of e) store_size) (At i) Nothing) (leb (beside + lengths_of e) store_size) (λ t. rw t) (λ t. rw t))
+  placed_by e i beside position count lengths = rw (position, count, lengths) (cond_cases (λ (f : Found). f ≡ cond (leb (beside + lengths_of e) store_size) (Some i) None) (leb (beside + lengths_of e) store_size) (λ t. rw t) (λ t. rw t))
 
   -- in the place of the entry that has the blob, beside all others
-  pub replaced : (e : Key) (i : ℕ) → seek (holds e.blob) 0 ks ≡ At i → Fitting i (end - size_at i) (lengths_of e) ≡ place_for e ks
+  pub replaced : (e : Key) (i : ℕ) → seek (holds e.blob) 0 ks ≡ Some i → Fitting i (end - size_at i) (lengths_of e) ≡ place_for e ks
   unfolding position_for found
   replaced e i at =
       let G = sound-meaning s x S in
@@ -122,14 +122,14 @@ module _ (s : State) (x : List ℕ) (S : Sound s x) where
       placed_by e i (end - size_at i) (rw at) (lt-ltb (length (others e.blob ks)) entries_limit (rw beside (omega arith))) (rw beside (omega arith))
 
   -- behind the last one, beside all
-  pub appended : (e : Key) → seek (holds e.blob) 0 ks ≡ Nothing → length ks < entries_limit → Fitting (length ks) end (lengths_of e) ≡ place_for e ks
+  pub appended : (e : Key) → seek (holds e.blob) 0 ks ≡ None → length ks < entries_limit → Fitting (length ks) end (lengths_of e) ≡ place_for e ks
   unfolding position_for found
   appended e absent few =
       let beside = others-absent e.blob ks absent in
       placed_by e (length ks) end (rw absent) (lt-ltb (length (others e.blob ks)) entries_limit (rw beside few)) (rw beside (sym state_lengths))
 
   -- "24 others are held"
-  pub no_position : (e : Key) → seek (holds e.blob) 0 ks ≡ Nothing → entries_limit ≤ length ks → Nothing ≡ place_for e ks
+  pub no_position : (e : Key) → seek (holds e.blob) 0 ks ≡ None → entries_limit ≤ length ks → None ≡ place_for e ks
   unfolding place_for has_room
   no_position e absent many = rw (others-absent e.blob ks absent, le-ltb (length ks) entries_limit many)
 
@@ -169,7 +169,7 @@ pub record Own (blobs fields comments : List ℕ) (i : ℕ) : Type 0 where
   pub inside : i < entries_limit
   pub within : get_or blobs i 0 + (get_or fields i 0 + get_or comments i 0) ≤ start_in blobs fields comments entries_limit
 
-pub shown_own : (numbers blobs fields comments x : List ℕ) → SoundOf (ShowsParts numbers blobs fields comments) x → (blob : List ℕ) (i : ℕ) (r : Found) → r ≡ At i
+pub shown_own : (numbers blobs fields comments x : List ℕ) → SoundOf (ShowsParts numbers blobs fields comments) x → (blob : List ℕ) (i : ℕ) (r : Found) → r ≡ Some i
     → ((s : State) → ShowsParts numbers blobs fields comments s → r ≡ seek (holds blob) 0 (gateway_of s x).entries) → Own blobs fields comments i
 shown_own numbers blobs fields comments x shown blob i r at is =
     let s = shown.state in
@@ -197,26 +197,26 @@ module _ (numbers blobs fields comments x blob : List ℕ) (r : Found) (searched
   sought : (s : State) (e : Key) → ShowsParts numbers blobs fields comments s → e.blob ≡ blob → seek (holds e.blob) 0 (gateway_of s x).entries ≡ r
   sought s e shows is = ap (λ b. seek (holds b) 0 (gateway_of s x).entries) is ∙ sym (searched s shows)
 
-  pub goes_replaced : (i end own : ℕ) → r ≡ At i → end ≡ start_in blobs fields comments entries_limit → own ≡ get_or blobs i 0 + (get_or fields i 0 + get_or comments i 0)
-      → (f : Found) → f ≡ cond (leb (end - own + size) store_size) (At i) Nothing → Chosen numbers blobs fields comments x blob size f
+  pub goes_replaced : (i end own : ℕ) → r ≡ Some i → end ≡ start_in blobs fields comments entries_limit → own ≡ get_or blobs i 0 + (get_or fields i 0 + get_or comments i 0)
+      → (f : Found) → f ≡ cond (leb (end - own + size) store_size) (Some i) None → Chosen numbers blobs fields comments x blob size f
   goes_replaced i end own at ends owns f is s e shows S same-blob sizes =
       let Ends-there = ends ∙ (λ j. start_in (sym shows.blobs_are j) (sym shows.fields_are j) (sym shows.comments_are j) entries_limit) in
       let owns-there = owns ∙ (λ j. get_or (sym shows.blobs_are j) i 0 + (get_or (sym shows.fields_are j) i 0 + get_or (sym shows.comments_are j) i 0)) in
-      is ∙ (λ j. cond (leb (Ends-there j - owns-there j + sym sizes j) store_size) (At i) Nothing) ∙ replaced s x S e i (sought s e shows same-blob ∙ at)
+      is ∙ (λ j. cond (leb (Ends-there j - owns-there j + sym sizes j) store_size) (Some i) None) ∙ replaced s x S e i (sought s e shows same-blob ∙ at)
 
   module _ (n : ℕ) (counted : n ≡ count_of numbers) where
     many : (s : State) → ShowsParts numbers blobs fields comments s → length (gateway_of s x).entries ≡ n
     many s shows = state_count s x ∙ ap count_of shows.numbers_are ∙ sym counted
 
-    pub goes_last : (end : ℕ) → r ≡ Nothing → (n ≡ entries_limit → ⊥) → end ≡ start_in blobs fields comments entries_limit
-        → (f : Found) → f ≡ cond (leb (end + size) store_size) (At n) Nothing → Chosen numbers blobs fields comments x blob size f
+    pub goes_last : (end : ℕ) → r ≡ None → (n ≡ entries_limit → ⊥) → end ≡ start_in blobs fields comments entries_limit
+        → (f : Found) → f ≡ cond (leb (end + size) store_size) (Some n) None → Chosen numbers blobs fields comments x blob size f
     goes_last end none not_full ends f is s e shows S same-blob sizes =
         let Ends-there = ends ∙ (λ j. start_in (sym shows.blobs_are j) (sym shows.fields_are j) (sym shows.comments_are j) entries_limit) in
         let long = many s shows in
         let few = (sound-meaning s x S).few in
-        is ∙ (λ j. cond (leb (Ends-there j + sym sizes j) store_size) (At (sym long j)) Nothing) ∙ appended s x S e (sought s e shows same-blob ∙ none) (omega arith)
+        is ∙ (λ j. cond (leb (Ends-there j + sym sizes j) store_size) (Some (sym long j)) None) ∙ appended s x S e (sought s e shows same-blob ∙ none) (omega arith)
 
-    pub goes_nowhere : r ≡ Nothing → n ≡ entries_limit → Chosen numbers blobs fields comments x blob size Nothing
+    pub goes_nowhere : r ≡ None → n ≡ entries_limit → Chosen numbers blobs fields comments x blob size None
     goes_nowhere none full s e shows S same-blob sizes =
         let long = many s shows in
         no_position s x S e (sought s e shows same-blob ∙ none) (omega arith)
@@ -227,7 +227,7 @@ place_for-rule s x e i S =
     let g = gateway_of s x in
     let G = sound-meaning s x S in
     let ks = g.entries in
-    ((λ p. let h = has_place e ks i (at_place _ i p) in (h.room, chosen G h.placed)), (λ (room, c). ap found_place (room_place e ks room ∙ ap At (position G c))))
+    ((λ p. let h = has_place e ks i (at_place _ i p) in (h.room, chosen G h.placed)), (λ (room, c). ap found_place (room_place e ks room ∙ ap Some (position G c))))
   where
     chosen : rule.Sound (gateway_of s x) → Placed e.blob (gateway_of s x).entries i
         → HoldsBlob (gateway_of s x).entries e.blob i ⊎ (((j : ℕ) → HoldsBlob (gateway_of s x).entries e.blob j → ⊥) × (i ≡ length (gateway_of s x).entries))

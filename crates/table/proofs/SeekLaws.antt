@@ -6,7 +6,7 @@ use mathlib.Core.Option.{some}
 use mathlib.Core.List.{List, [], ◌∷◌}
 use native.Mathlib.Numerals.{add-one}
 use lib.ListN.{length, drop, drop_of_length-le}
-use Rattle.rule.specs.declared.Found.TheVariants.{At, Nothing}
+use Rattle.std.specs.Prelude.{Some, None}
 use Rattle.rule.specs.Gateway.{Entry as Key, entry_at, seek}
 use Rattle.rule.proofs.PositionLaws.{some_not_none, same-entry}
 
@@ -19,8 +19,8 @@ module _ (test : Key → Bool) (ks : List Key) (i : ℕ) where
   pub seek-step : (k : Key) → entry_at ks i ≡ some k → test k ≡ false → seek test i (drop i ks) ≡ seek test (i + 1) (drop (i + 1) ks)
   seek-step k e t = rw (add-one, drop-entry ks i k e, t)
 
-  pub seek_stop : (k : Key) → entry_at ks i ≡ some k → test k ≡ true → seek test i (drop i ks) ≡ At i
+  pub seek_stop : (k : Key) → entry_at ks i ≡ some k → test k ≡ true → seek test i (drop i ks) ≡ Some i
   seek_stop k e t = rw (drop-entry ks i k e, t)
 
-  pub seek-end : length ks ≤ i → seek test i (drop i ks) ≡ Nothing
+  pub seek-end : length ks ≤ i → seek test i (drop i ks) ≡ None
   seek-end h = rw (drop_of_length-le ks h)

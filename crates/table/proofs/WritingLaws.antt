@@ -10,8 +10,8 @@ use native.Mathlib.Nat.{not-suc-le-zero, le_of_suc-le-suc}
 use lib.ListN.{length, take, drop, replicate, get_or, length-drop, length-map, length-take, length-append, take-append-drop}
 use lib.Seq.{length-take-le, take_at, drop_at, take-append-le, drop-append-le, take_all, take-add}
 use Rattle.wire.specs.Limits.{entries_limit, store_size, passphrase_limit}
-use Rattle.keys.specs.declared.constraints.Lifetime.{Lifetime}
-use Rattle.keys.specs.declared.constraints.Lifetime.TheVariants.{Forever, For}
+use Rattle.keys.specs.Constraints.{Lifetime}
+use Rattle.std.specs.Prelude.{Some, None}
 use Rattle.rule.specs.declared.Millis.{Millis}
 use Rattle.rule.specs.Gateway.{Entry as Key, Gateway, fresh, lengths_of, all_lengths, with_lock}
 use Rattle.rule.specs.Soundness.{EveryEntry, SoundEntry}
@@ -42,7 +42,7 @@ flag_kept (suc (suc n)) h = absurd (omega arith)
 lifetime_kept : (f : Figures) → Flag f.limited → (is_set f.limited ≡ false → f.seconds.count ≡ 0) → (f.limited ≡ limited_flag (lifetime_of f)) × (f.seconds ≡ kept_seconds (lifetime_of f))
 lifetime_kept f flag none-without = by_limit (is_set f.limited) refl
   where
-    by_limit : (b : Bool) → is_set f.limited ≡ b → (f.limited ≡ limited_flag (cond b (For f.seconds) Forever)) × (f.seconds ≡ kept_seconds (cond b (For f.seconds) Forever))
+    by_limit : (b : Bool) → is_set f.limited ≡ b → (f.limited ≡ limited_flag (cond b (Some f.seconds) None)) × (f.seconds ≡ kept_seconds (cond b (Some f.seconds) None))
     by_limit true b = (flag_kept f.limited flag ∙ ap flag_of b, refl)
     by_limit false b = let zero-seconds : f.seconds.count ≡ 0 = none-without b in (flag_kept f.limited flag ∙ ap flag_of b, (λ j. record { count = zero-seconds j }))
 
@@ -197,16 +197,16 @@ flag_sound true = omega arith
 flag_sound false = omega arith
 
 limited_sound : (l : Lifetime) → Flag (limited_flag l)
-limited_sound Forever = omega arith
-limited_sound (For seconds) = omega arith
+limited_sound None = omega arith
+limited_sound (Some seconds) = omega arith
 
-lifetime_back_lem : (l : Lifetime) → cond (is_set (limited_flag l)) (For (kept_seconds l)) Forever ≡ l
-lifetime_back_lem Forever = refl
-lifetime_back_lem (For seconds) = refl
+lifetime_back_lem : (l : Lifetime) → cond (is_set (limited_flag l)) (Some (kept_seconds l)) None ≡ l
+lifetime_back_lem None = refl
+lifetime_back_lem (Some seconds) = refl
 
 no_seconds_back : (l : Lifetime) → is_set (limited_flag l) ≡ false → (kept_seconds l).count ≡ 0
-no_seconds_back Forever z = refl
-no_seconds_back (For seconds) z = let never : ◌≡◌ {A = ℕ} 0 1 = cc in absurd (omega arith)
+no_seconds_back None z = refl
+no_seconds_back (Some seconds) z = let never : ◌≡◌ {A = ℕ} 0 1 = cc in absurd (omega arith)
 
 key-size : (k : Key) → length (bytes_for k) ≡ size (figures_for k)
 unfolding size figures_for bytes_for

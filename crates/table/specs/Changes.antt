@@ -1,8 +1,8 @@
 -- What the changes do to columns and store, and what they ask for.
-use Rattle.std.specs.Prelude.{ℕ, ◌+◌, ◌<◌, ◌≤◌, ◌≡◌, cond, List, [], ◌∷◌, ◌++◌, length, take, drop, get_or}
+use Rattle.std.specs.Prelude.{ℕ, ◌+◌, ◌-◌, ◌<◌, ◌≤◌, ◌≡◌, cond, List, [], ◌∷◌, ◌++◌, length, take, drop, replicate, get_or}
 use Rattle.wire.specs.Limits.{entries_limit, store_size, last_number}
 use Rattle.wire.specs.Write.{write}
-use Rattle.rule.specs.declared.Found.TheVariants.{At}
+use Rattle.std.specs.Prelude.{Some}
 use Rattle.rule.specs.declared.Millis.{Millis}
 use Rattle.rule.specs.Gateway.{Entry as Key, due_at, place_for, NewKey, new_entry}
 use Rattle.rule.specs.Soundness.{Fits}
@@ -33,22 +33,22 @@ unfoldable pub sizes_in : List ℕ → List ℕ → List ℕ → List ℕ
 sizes_in blobs fields comments = up_to (λ i. get_or blobs i 0 + (get_or fields i 0 + get_or comments i 0)) entries_limit
 
 -- "Removal and expiry close the gap and zero the freed end", in a column and in the store
-unfoldable pub closed : List ℕ → List ℕ → List ℕ
-closed marks column = padded (length column) (unmarked marks column)
+unfoldable pub closed : {A : Type 0} → A → List ℕ → List A → List A
+closed none marks column = unmarked marks column ++ replicate (length column - length (unmarked marks column)) none
 
 unfoldable pub closed_parts : List ℕ → List ℕ → List ℕ → List ℕ
 closed_parts marks sizes x = padded (length x) (unmarked_parts marks sizes x)
 
 abbrev pub closed_columns : List ℕ → Columns → Columns
 closed_columns marks t = columns
-    (closed marks t.numbers)
-    (closed marks t.readings)
-    (closed marks t.blob_lens)
-    (closed marks t.fields_lens)
-    (closed marks t.comment_lens)
-    (closed marks t.seconds)
-    (closed marks t.limited)
-    (closed marks t.confirm)
+    (closed 0 marks t.numbers)
+    (closed 0 marks t.readings)
+    (closed 0 marks t.blob_lens)
+    (closed 0 marks t.fields_lens)
+    (closed 0 marks t.comment_lens)
+    (closed 0 marks t.seconds)
+    (closed 0 marks t.limited)
+    (closed 0 marks t.confirm)
 
 -- a mark for each of 24 entries that is due
 unfoldable pub due_marks : Millis → List ℕ → List ℕ → List ℕ → List ℕ
@@ -89,7 +89,7 @@ pub record MayPut (s : State) (x : List ℕ) (i : ℕ) (k : NewKey) : Type 0 whe
   pub sound : Sound s x
   pub numbers_left : s.next < last_number
   pub lengths : NewFits k
-  pub place : place_for (made s k) (gateway_of s x).entries ≡ At i
+  pub place : place_for (made s k) (gateway_of s x).entries ≡ Some i
 
 -- of lent columns, whatever the passphrase
 pub record MayPutWith (t : Columns) (kept : Kept) (x : List ℕ) (i : ℕ) (k : NewKey) : Type 0 where

@@ -3,6 +3,7 @@ use Rattle.std.specs.Prelude.{ℕ, zero, suc, ◌+◌, ◌≡◌, cond, List, []
 use Rattle.wire.specs.Limits.{entries_limit}
 use Rattle.table.specs.declared.Columns.{Columns}
 use Rattle.table.specs.declared.Figures.{Figures}
+use Rattle.table.specs.declared.Shown.{Shown}
 use Rattle.table.specs.Bytes.{sum_of, padded}
 
 -- ## What the columns show
@@ -18,6 +19,10 @@ columns numbers readings blobs fields comments seconds limited confirm = record 
   limited = limited;
   confirm = confirm;
 }
+
+-- the columns that are read
+abbrev pub shown : Shown → Columns
+shown t = columns t.numbers.now t.readings.now t.blob_lens.now t.fields_lens.now t.comment_lens.now t.seconds.now t.limited.now t.confirm.now
 
 -- each column has 24 numbers
 pub record Long (t : Columns) : Type 0 where

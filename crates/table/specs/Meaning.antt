@@ -2,8 +2,8 @@
 use Rattle.std.specs.Prelude.{ℕ, ◌+◌, Bool, true, false, cond, List, [], ◌∷◌, ◌++◌, map, length, take, drop, eqb}
 use Rattle.wire.specs.Limits.{store_size, comment_limit, passphrase_limit}
 use Rattle.wire.specs.declared.Seconds.{Seconds}
-use Rattle.keys.specs.declared.constraints.Lifetime.{Lifetime}
-use Rattle.keys.specs.declared.constraints.Lifetime.TheVariants.{Forever, For}
+use Rattle.keys.specs.Constraints.{Lifetime}
+use Rattle.std.specs.Prelude.{Some, None}
 use Rattle.rule.specs.Gateway.{Entry as Key, Gateway, zero_millis}
 use Rattle.table.specs.declared.Columns.{Columns}
 use Rattle.table.specs.declared.Figures.{Figures}
@@ -26,7 +26,7 @@ is_set flag = eqb flag 1
 
 -- "perhaps a lifetime"
 abbrev pub limited_lifetime : ℕ → Seconds → Lifetime
-limited_lifetime limited seconds = cond (is_set limited) (For seconds) Forever
+limited_lifetime limited seconds = cond (is_set limited) (Some seconds) None
 
 abbrev pub lifetime_of : Figures → Lifetime
 lifetime_of f = limited_lifetime f.limited f.seconds
@@ -91,12 +91,12 @@ flag_of false = 0
 flag_of true = 1
 
 abbrev pub limited_flag : Lifetime → ℕ
-limited_flag Forever = 0
-limited_flag (For seconds) = 1
+limited_flag None = 0
+limited_flag (Some seconds) = 1
 
 abbrev pub kept_seconds : Lifetime → Seconds
-kept_seconds Forever = record { count = 0 }
-kept_seconds (For seconds) = seconds
+kept_seconds None = record { count = 0 }
+kept_seconds (Some seconds) = seconds
 
 unfoldable pub figures_for : Key → Figures
 figures_for k = record {
@@ -142,6 +142,10 @@ layout g = padded store_size (laid g.entries)
 -- the state of lent columns and passphrase, and of what goes by value beside them
 abbrev pub held : Columns → List ℕ → Kept → State
 held t bytes k = record { columns = t; lock = record { bytes = bytes; len = k.locked }; clock = k.clock; next = k.next }
+
+-- what goes by value beside the arrays of a state
+abbrev pub kept_in : State → Kept
+kept_in s = record { clock = s.clock; next = s.next; locked = s.lock.len }
 
 -- a state with other columns
 abbrev pub with_table : Columns → State → State

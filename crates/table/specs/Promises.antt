@@ -3,8 +3,8 @@ use Rattle.std.specs.Prelude.{ℕ, ◌+◌, ◌≤◌, ◌<◌, ◌≡◌, true,
 use Rattle.std.proofs.Math.Option.{Option, some}
 use Rattle.wire.specs.Limits.{store_size, passphrase_limit}
 use Rattle.wire.specs.Promises.{OneToOne}
-use Rattle.keys.specs.declared.constraints.Lifetime.TheVariants.{Forever, For}
-use Rattle.rule.specs.declared.Found.{Found}
+use Rattle.std.specs.Prelude.{Some, None}
+use Rattle.rule.specs.Gateway.{Found}
 use Rattle.rule.specs.Gateway.{Entry as Key, Gateway, fresh, entry_at, seek, holds, has_room, place_for}
 use Rattle.rule.specs.Searches.{found_place}
 use Rattle.rule.specs.Soundness as rule
@@ -37,8 +37,8 @@ comment_from s i = fields_from s i + get_or s.columns.fields_lens i 0
 pub record KeySays (s : State) (x : List ℕ) (i : ℕ) (k : Key) : Type 0 where
   pub number : k.number ≡ get_or s.columns.numbers i 0
   pub reading : k.reading.count ≡ get_or s.columns.readings i 0
-  pub lifetime : get_or s.columns.limited i 0 ≡ 1 → k.lifetime ≡ For (record { count = get_or s.columns.seconds i 0 })
-  pub no_lifetime : get_or s.columns.limited i 0 ≡ 0 → k.lifetime ≡ Forever
+  pub lifetime : get_or s.columns.limited i 0 ≡ 1 → k.lifetime ≡ Some (record { count = get_or s.columns.seconds i 0 })
+  pub no_lifetime : get_or s.columns.limited i 0 ≡ 0 → k.lifetime ≡ None
   pub confirm : get_or s.columns.confirm i 0 ≡ 1 → k.confirm ≡ true
   pub no_confirm : get_or s.columns.confirm i 0 ≡ 0 → k.confirm ≡ false
   pub blob : k.blob ≡ take (get_or s.columns.blob_lens i 0) (drop (blob_from s i) x)

@@ -23,6 +23,13 @@ pub record ShowsKeys (numbers confirm blobs fields comments : List ℕ) (s : Sta
   pub parts : ShowsParts numbers blobs fields comments s
   pub confirm_is : s.columns.confirm ≡ confirm
 
+-- .. of columns
+abbrev pub PartsOf : Columns → State → Type 0
+PartsOf t = ShowsParts t.numbers t.blob_lens t.fields_lens t.comment_lens
+
+abbrev pub KeysOf : Columns → State → Type 0
+KeysOf t = ShowsKeys t.numbers t.confirm t.blob_lens t.fields_lens t.comment_lens
+
 -- what a removal writes
 abbrev pub ShowsTable : Columns → State → Type 0
 ShowsTable t s = s.columns ≡ t

@@ -155,6 +155,9 @@ pub record Housed (numbers blobs fields comments x : List ℕ) : Type 0 where
   pub long_comments : length comments ≡ entries_limit
   pub room : start_in blobs fields comments (count_of numbers) ≤ length x
 
+abbrev pub HousedIn : Columns → List ℕ → Type 0
+HousedIn t = Housed t.numbers t.blob_lens t.fields_lens t.comment_lens
+
 -- a state and store that mean this gateway, and are sound
 pub record Means (s : State) (x : List ℕ) (g : Gateway) : Type 0 where
   pub gateway : gateway_of s x ≡ g

@@ -9,11 +9,7 @@ use wire::write::window;
 pub fn wipe(p: &mut [u8])
     ensures { p.new ≡ replicate (length p.old) 0 }
 {
-    let mut i = 0;
-    while i < p.len() {
-        p[i] = 0;
-        i += 1;
-    }
+    p.fill(0);
 }
 
 // The bytes of `src` go into a part of the same length; whoever cuts the part cuts it so.
@@ -21,14 +17,11 @@ pub fn copy_in(p: &mut [u8], src: &[u8])
     requires { length p.old ≡ length src.now }
     ensures { p.new ≡ src.now }
 {
-    let mut i = 0;
-    while i < src.len() {
-        p[i] = src[i];
-        i += 1;
-    }
+    p.copy_from_slice(src);
 }
 
 // The bytes of `src`, and zeros behind them; whoever cuts the part cuts it long enough.
+#[tactic(auto, unfolding(crate::specs::Bytes::padded))]
 pub fn pad(p: &mut [u8], src: &[u8])
     requires { length src.now ≤ length p.old }
     ensures { p.new ≡ padded (length p.old) src.now }
@@ -38,25 +31,14 @@ pub fn pad(p: &mut [u8], src: &[u8])
     wipe(&mut p[n..]);
 }
 
-fn greater(a: u8, b: u8) -> u8
-    ensures { result ≡ max a b }
-{
-    if a < b {
-        return b;
-    }
-    a
-}
-
 // Goes over all bytes with no early exit, so that it is compiled to vector code; two parts in one loop take half the turns.
 fn greatest_byte(a: &[u8], b: &[u8]) -> u8
     requires { length a.now ≡ length b.now }
     ensures { result ≡ max (greatest_byte a.now) (greatest_byte b.now) }
 {
-    let mut most = 0;
-    let mut i = 0;
-    while i < a.len() {
-        most = greater(most, greater(a[i], b[i]));
-        i += 1;
+    let mut most: u8 = 0;
+    for i in 0..a.len() {
+        most = most.max(a[i].max(b[i]));
     }
     most
 }
@@ -71,25 +53,14 @@ pub fn is_zero(p: &[u8]) -> bool
     greatest_byte(&p[..h], &p[from..]) == 0
 }
 
-fn both(a: bool, b: bool) -> bool
-    ensures { result ≡ a && b }
-{
-    if a {
-        return b;
-    }
-    false
-}
-
 // Goes over all bytes with no early exit, as above: parts that differ late cost no more than others.
 fn is_all_equal(a: &[u8], b: &[u8]) -> bool
     requires { length a.now ≡ length b.now }
     ensures { result ≡ same a.now b.now }
 {
     let mut equal = true;
-    let mut i = 0;
-    while i < a.len() {
-        equal = both(equal, a[i] == b[i]);
-        i += 1;
+    for i in 0..a.len() {
+        equal &= a[i] == b[i];
     }
     equal
 }

@@ -20,13 +20,11 @@ pub fn millis_of(seconds: Seconds) -> Millis
 pub fn past(clock: Millis, reading: Millis) -> u64
     ensures { result ≡ clock.count - reading.count }
 {
-    if clock.count < reading.count {
-        return 0;
-    }
-    clock.count - reading.count
+    clock.count.saturating_sub(reading.count)
 }
 
-// Is an entry with this reading and lifetime due at the clock?
+// Is an entry with this reading and lifetime, as the columns have it, due at the clock?
+#[tactic(auto, unfolding(rule::specs::Gateway::due_at))]
 pub fn is_due(reading: Millis, seconds: Seconds, limited: u8, clock: Millis) -> bool
     ensures { result ≡ due_at clock reading (limited_lifetime limited seconds) }
 {
@@ -41,8 +39,7 @@ pub fn is_due(reading: Millis, seconds: Seconds, limited: u8, clock: Millis) -> 
 pub fn later(a: Millis, b: Millis) -> Millis
     ensures { result ≡ later a b }
 {
-    if a.count < b.count {
-        return b;
+    Millis {
+        count: a.count.max(b.count),
     }
-    a
 }

@@ -9,12 +9,13 @@ pub mod locks;
 
 ghost use Rattle.std.specs.Prelude.{◌≡◌};
 ghost use Rattle.rule.specs.Gateway.{fresh as fresh_gateway};
-ghost use Rattle.table.specs.Meaning.{is_set, state_of};
+ghost use Rattle.table.specs.Entries.{shown};
+ghost use Rattle.table.specs.Meaning.{is_set, state_of, held, kept_in};
 
 use rule::Millis;
 use wire::{Seconds, limits};
 
-// What the columns have at one index; `limited` and `confirm` are 0 or 1.
+// What the columns have at one index, also where they are not sound: `limited` and `confirm` are 0 or 1 there, and seconds stand with a lifetime alone.
 #[derive(Clone, Copy)]
 pub struct Figures {
     pub number: u64,
@@ -27,7 +28,8 @@ pub struct Figures {
     pub confirm: u8,
 }
 
-// What is kept of each entry beside its bytes, in list order. Readings count milliseconds. Behind the last entry all is zero.
+// What is kept of each entry beside its bytes, in list order. Readings count milliseconds. Behind the last entry all is zero. C reads it: an array
+// for each thing.
 #[repr(C)]
 #[derive(Clone, Copy)]
 pub struct Columns {
@@ -41,7 +43,37 @@ pub struct Columns {
     pub confirm: [u8; limits::ENTRIES_LIMIT],
 }
 
-// The passphrase and its length; the rest is zero. A length of 0 is open.
+// Columns that are read where they lie; those of a state have 24 numbers, others as many as they have.
+#[derive(Clone, Copy)]
+pub struct Shown<'a> {
+    pub numbers: &'a [u64],
+    pub readings: &'a [u64],
+    pub blob_lens: &'a [usize],
+    pub fields_lens: &'a [usize],
+    pub comment_lens: &'a [usize],
+    pub seconds: &'a [u32],
+    pub limited: &'a [u8],
+    pub confirm: &'a [u8],
+}
+
+impl Columns {
+    pub fn show(&self) -> Shown<'_>
+        ensures { shown result ≡ self.now }
+    {
+        Shown {
+            numbers: &self.numbers,
+            readings: &self.readings,
+            blob_lens: &self.blob_lens,
+            fields_lens: &self.fields_lens,
+            comment_lens: &self.comment_lens,
+            seconds: &self.seconds,
+            limited: &self.limited,
+            confirm: &self.confirm,
+        }
+    }
+}
+
+// The form that 01 names: the passphrase and its length; the rest is zero. A length of 0 is open.
 #[repr(C)]
 #[derive(Clone, Copy)]
 pub struct LockRecord {
@@ -58,12 +90,33 @@ pub struct State {
     pub next: u64,
 }
 
-// What goes by value where the rest of a state is lent: the kept clock, the next number, the passphrase's length.
+// What goes by value where the arrays of a state are lent: the kept clock, the next number, the passphrase's length.
 #[derive(Clone, Copy)]
 pub struct Kept {
     pub clock: Millis,
     pub next: u64,
     pub locked: usize,
+}
+
+impl State {
+    pub fn kept(&self) -> Kept
+        ensures { result ≡ kept_in self.now }
+    {
+        Kept {
+            clock: self.clock,
+            next: self.next,
+            locked: self.lock.len,
+        }
+    }
+
+    // Its arrays stay.
+    pub fn keep(&mut self, kept: Kept)
+        ensures { self.new ≡ held self.old.columns self.old.lock.bytes kept }
+    {
+        self.clock = kept.clock;
+        self.next = kept.next;
+        self.lock.len = kept.locked;
+    }
 }
 
 // What a flag says.
@@ -74,6 +127,7 @@ pub fn is_set(flag: u8) -> bool
 }
 
 // All zero, next insertion number 1.
+#[tactic(auto, unfolding(crate::specs::Meaning::state_of, crate::specs::Entries::columns_of, crate::specs::Meaning::lock_of, crate::specs::Bytes::padded))]
 pub fn fresh() -> State
     ensures { result ≡ state_of fresh_gateway }
 {

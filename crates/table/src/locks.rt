@@ -23,10 +23,8 @@ pub fn is_passphrase(bytes: &[u8], len: usize, p: &[u8]) -> bool
     }
     // No way out of this loop before its end: what it executes does not tell where the first unequal byte is.
     let mut differences = 0;
-    let mut i = 0;
-    while i < len {
+    for i in 0..len {
         differences |= bytes[i] ^ p[i];
-        i += 1;
     }
     differences == 0
 }

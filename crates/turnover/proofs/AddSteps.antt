@@ -1,4 +1,6 @@
 -- The add requests: the limits as the code tests them, the key check, the place that may take the key, and the blob that was derived beside the table.
+use Rattle.std.specs.Prelude.{Ok, Err}
+use Rattle.wire.specs.declared.read.Fault.{Fault}
 use Prim.Native.Nat.{ℕ, ◌+◌, ◌≤◌, ◌<◌}
 use mathlib.Core.Path.{◌≡◌, refl, sym, ap, subst, ◌∙◌}
 use mathlib.Core.Logic.{⊎_elim}
@@ -16,14 +18,13 @@ use Rattle.wire.proofs.Reading.{le_or_lt, cut_empty}
 use Rattle.wire.proofs.Steps.{ltb_yes, ltb_no}
 use Rattle.wire.proofs.Writing.{length-write}
 use Rattle.keys.specs.declared.kinds.Places.{Places}
-use Rattle.keys.specs.declared.kinds.Blob.{Blob}
-use Rattle.keys.specs.declared.kinds.Blob.TheVariants.{Length, TooLong}
+use Rattle.keys.specs.Kinds.{Blob}
 use Rattle.keys.specs.declared.addition.Carried.{Carried}
-use Rattle.keys.specs.declared.addition.Addition.{Addition}
+use Rattle.keys.specs.Additions.{Addition}
 use Rattle.keys.specs.Additions.{addition_at}
 use Rattle.keys.specs.Kinds.{blob_of, blob_answer, blob_left}
-use Rattle.rule.specs.declared.Found.{Found}
-use Rattle.rule.specs.declared.Found.TheVariants.{At, Nothing}
+use Rattle.rule.specs.Gateway.{Found}
+use Rattle.std.specs.Prelude.{Some, None}
 use Rattle.rule.specs.Gateway.{Entry as Key, Gateway, lengths_of, place_for, NewKey, with_entry}
 use Rattle.rule.specs.Soundness.{fit}
 use Rattle.rule.specs.Rule.{Plan, SUCCESS, land, fails, ask, check, brought, entry_of, storing, adding}
@@ -71,7 +72,7 @@ module _ (s : State) (x : List ℕ) where
   numbers_gone e = ltb_no s.next last_number (omega arith)
 
   -- the place for a key within the limits may take it
-  pub may_put : (i : ℕ) (k : NewKey) (w : Found) → Sound s x → w ≡ At i → w ≡ place_for (made s k) (gateway_of s x).entries → true ≡ fit k.blob k.fields k.comment
+  pub may_put : (i : ℕ) (k : NewKey) (w : Found) → Sound s x → w ≡ Some i → w ≡ place_for (made s k) (gateway_of s x).entries → true ≡ fit k.blob k.fields k.comment
       → (s.next ≡ last_number → ⊥) → MayPut s x i k
   unfolding gateway_of
   may_put i k w S e f fits h = record {
@@ -121,16 +122,16 @@ pub record Stands (s : List ℕ) (at : ℕ) (p : Places) (n : ℕ) (left : List 
 
 module _ (s : List ℕ) (at : ℕ) (p : Places) (room : List ℕ) (w : Blob) (answer : w ≡ blob_answer s at p room) where
   -- a blob that has no room is over the room's length
-  pub blob_over : (n : ℕ) → length room ≡ n → w ≡ TooLong → n < length (blob_of s at p)
+  pub blob_over : (n : ℕ) → length room ≡ n → w ≡ None → n < length (blob_of s at p)
   unfolding blob_answer
   blob_over n l e = rw (← l) (go (leb (length (blob_of s at p)) (length room)) refl (sym answer ∙ e))
     where
-      go : (b : Bool) → leb (length (blob_of s at p)) (length room) ≡ b → cond b (Length (length (blob_of s at p))) TooLong ≡ TooLong → length room < length (blob_of s at p)
+      go : (b : Bool) → leb (length (blob_of s at p)) (length room) ≡ b → cond b (Some (length (blob_of s at p))) None ≡ None → length room < length (blob_of s at p)
       go true t h = let z : ◌≡◌ {A = ℕ} 0 1 = cc in absurd (omega arith)
       go false t h = leb-false _ _ t
 
   -- one that has room stands at its front
-  pub blob_stands : (n : ℕ) (left : List ℕ) → left ≡ blob_left s at p room → w ≡ Length n → Stands s at p n left
+  pub blob_stands : (n : ℕ) (left : List ℕ) → left ≡ blob_left s at p room → w ≡ Some n → Stands s at p n left
   unfolding blob_answer blob_left write
   blob_stands n left f e = go (leb (length (blob_of s at p)) (length room)) refl (sym answer ∙ e) f
     where
@@ -143,7 +144,7 @@ module _ (s : List ℕ) (at : ℕ) (p : Places) (room : List ℕ) (w : Blob) (an
           let t : take n left ≡ blob = rw k (take_at blob (drop (0 + length blob) room) n q) in
           record { inside = omega arith; size = rw t (sym q); blob = t }
 
-      go : (b : Bool) → leb (length blob) (length room) ≡ b → cond b (Length (length blob)) TooLong ≡ Length n → left ≡ cond b (write room 0 blob) room → Stands s at p n left
+      go : (b : Bool) → leb (length blob) (length room) ≡ b → cond b (Some (length blob)) None ≡ Some n → left ≡ cond b (write room 0 blob) room → Stands s at p n left
       go true t h k = let q : length blob ≡ n = cc in there (leb-true _ _ t) q k
       go false t h k = let z : ◌≡◌ {A = ℕ} 0 1 = cc in absurd (omega arith)
 
@@ -172,7 +173,7 @@ module _ (t : Columns) (x : List ℕ) (kept : Kept) where
   with_parts h = record { state = held t h.bytes kept; shows = its_own h.bytes; sound = h.sound }
 
   -- what `put` asks for
-  pub with_place : SoundWith t kept x → (i : ℕ) (k : NewKey) (f : Found) (size : ℕ) → lengths_new k ≡ size → f ≡ At i → PlaceFor f k.blob size → true ≡ fit k.blob k.fields k.comment
+  pub with_place : SoundWith t kept x → (i : ℕ) (k : NewKey) (f : Found) (size : ℕ) → lengths_new k ≡ size → f ≡ Some i → PlaceFor f k.blob size → true ≡ fit k.blob k.fields k.comment
       → (kept.next ≡ last_number → ⊥) → MayPutWith t kept x i k
   unfolding lengths_of
   with_place h i k f size sized at is fits left =
@@ -212,14 +213,14 @@ module _ (t : Columns) (x : List ℕ) (kept : Kept) where
             unfolding lengths_of
             goes b S = is (held t b kept) (made (held t b kept) (brought payload c blob)) (its_own b) S refl sized
 
-            pub full_ends : f ≡ Nothing → Answered 5 buffer o out → AddEnds (stores c blob) o out t x kept
+            pub full_ends : f ≡ None → Answered 5 buffer o out → AddEnds (stores c blob) o out t x kept
             unfolding storing gateway_of
             full_ends none_free done b S a e =
                 cond_yes _ _ _ _ _ _ _ _ _ fits
                 (cond_yes _ _ _ _ _ _ _ _ _ (numbers_left (held t b kept) x S left)
                 (found_nothing _ _ _ _ _ _ _ _ f _ none_free (goes b S) (failing o out done b S a e)))
 
-            module _ (i : ℕ) (at : f ≡ At i) where
+            module _ (i : ℕ) (at : f ≡ Some i) where
               -- the check decides
               module _ (b : List ℕ) (S : Sound (held t b kept) x) (a : rule.Answers) (r : Called) (y : List ℕ) where
                 abbrev g : Gateway
@@ -254,11 +255,11 @@ module _ (t : Columns) (x : List ℕ) (kept : Kept) where
       stored_as c blob other o out u y after e = subst (λ (z : List ℕ). AddEnds (stores c z) o out u y after) e
 
       module _ (constrained : Bool) (v : Addition) (read : v ≡ addition_at payload 1 constrained) (o : Outcome) (out : List ℕ) where
-        pub fault_ends : (at : ℕ) → v ≡ Addition.Fault at → Answered 5 buffer o out → AddEnds (λ g. adding constrained g payload) o out t x kept
+        pub fault_ends : (w : Fault) → v ≡ Err w → Answered 5 buffer o out → AddEnds (λ g. adding constrained g payload) o out t x kept
         unfolding adding
-        fault_ends at fault done b S a e = added-fault _ _ _ _ _ _ _ _ v _ at fault read (failing o out done b S a e)
+        fault_ends w fault done b S a e = added-fault _ _ _ _ _ _ _ _ v _ w fault read (failing o out done b S a e)
 
-        pub whole_ends : (u : Columns) (y : List ℕ) (after : Kept) (c : Carried) → v ≡ Addition.Whole c → AddEnds (stores c (blob_of payload 1 c.places)) o out u y after
+        pub whole_ends : (u : Columns) (y : List ℕ) (after : Kept) (c : Carried) → v ≡ Ok c → AddEnds (stores c (blob_of payload 1 c.places)) o out u y after
             → AddEnds (λ g. adding constrained g payload) o out u y after
         unfolding adding
         whole_ends u y after c whole h b S a e = added-whole _ _ _ _ _ _ _ _ v _ c whole read (h b S a e)

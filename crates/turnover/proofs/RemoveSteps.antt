@@ -1,4 +1,6 @@
 -- The removals: what they ask of lent columns, and how they end. A key goes, or all do, and the plan lands there.
+use Rattle.wire.specs.declared.read.Fault.{Fault}
+use Rattle.std.specs.Prelude.{Result, Ok, Err}
 use Prim.Native.Nat.{ℕ, ◌<◌}
 use mathlib.Core.Path.{◌≡◌, ap, subst}
 use mathlib.Core.List.{List}
@@ -6,10 +8,9 @@ use native.Mathlib.Omega.{arith}
 use Rattle.wire.specs.Limits.{entries_limit}
 use Rattle.wire.specs.declared.read.Cursor.{Cursor}
 use Rattle.wire.specs.declared.read.Part.{Part}
-use Rattle.wire.specs.declared.read.Part.TheVariants.{Whole}
 use Rattle.wire.specs.Read.{cut_of, string_at}
-use Rattle.rule.specs.declared.Found.{Found}
-use Rattle.rule.specs.declared.Found.TheVariants.{At, Nothing}
+use Rattle.rule.specs.Gateway.{Found}
+use Rattle.std.specs.Prelude.{Some, None}
 use Rattle.rule.specs.Gateway.{Gateway, seek, holds, without, without_all}
 use Rattle.rule.specs.Rule.{Plan, removing, removing_all}
 use Rattle.rule.specs.Calls as rule
@@ -51,7 +52,7 @@ module _ (t : Columns) (x : List ℕ) where
     shown_housed = state_housed h.state x h.sound _ _ _ _ (shown_parts h.state h.shows)
 
     -- a search ends at one of 24
-    pub shown_within : (f : Found) (blob : List ℕ) (i : ℕ) → Sought f blob → f ≡ At i → i < entries_limit
+    pub shown_within : (f : Found) (blob : List ℕ) (i : ℕ) → Sought f blob → f ≡ Some i → i < entries_limit
     shown_within f blob i is at =
         let inside = place-within h.state x (holds blob) f i at (is h.state (shown_parts h.state h.shows)) in
         let few = state_few h.state x h.sound in
@@ -75,25 +76,25 @@ module _ (t : Columns) (x : List ℕ) where
     unfolding removing_all
     all-removed u y gone done s shows S a = landed _ _ _ _ _ _ _ _ (answering done _ _ _ (gone s shows S))
 
-    module _ (payload : List ℕ) (w : Part) (read : w ≡ string_at payload 1) where
-      pub unread : (at : ℕ) → w ≡ Part.Fault at → Answered 5 buffer o out → TableEnds (λ g. removing g payload) t x
+    module _ (payload : List ℕ) (w : Result Part Fault) (read : w ≡ string_at payload 1) where
+      pub unread : (v : Fault) → w ≡ Err v → Answered 5 buffer o out → TableEnds (λ g. removing g payload) t x
       unfolding removing
-      unread at fault done s shows S a = part-fault _ _ _ _ _ _ _ _ w _ at fault read (landed _ _ _ _ _ _ _ _ (answering done _ _ _ (stays s shows S)))
+      unread v fault done s shows S a = part-fault _ _ _ _ _ _ _ _ w _ v fault read (landed _ _ _ _ _ _ _ _ (answering done _ _ _ (stays s shows S)))
 
-      module _ (from to : ℕ) (k : Cursor) (whole : w ≡ Whole from to k) (f : Found) (blob : List ℕ) (cut : blob ≡ cut_of payload from to) (is : Sought f blob) where
-        found_in : (s : State) → ShowsTable t s → f ≡ seek (holds (cut_of payload from to)) 0 (gateway_of s x).entries
-        found_in s shows = sought blob (cut_of payload from to) (gateway_of s x).entries f cut (is s (shown_parts s shows))
+      module _ (v : Part) (whole : w ≡ Ok v) (f : Found) (blob : List ℕ) (cut : blob ≡ cut_of payload v.from v.to) (is : Sought f blob) where
+        found_in : (s : State) → ShowsTable t s → f ≡ seek (holds (cut_of payload v.from v.to)) 0 (gateway_of s x).entries
+        found_in s shows = sought blob (cut_of payload v.from v.to) (gateway_of s x).entries f cut (is s (shown_parts s shows))
 
-        pub one_removed : (u : Columns) (y : List ℕ) (i : ℕ) → f ≡ At i → Changes (without i) t x u y → Answered 6 buffer o out → TableEnds (λ g. removing g payload) u y
+        pub one_removed : (u : Columns) (y : List ℕ) (i : ℕ) → f ≡ Some i → Changes (without i) t x u y → Answered 6 buffer o out → TableEnds (λ g. removing g payload) u y
         unfolding removing
         one_removed u y i at gone done s shows S a =
-            part-whole _ _ _ _ _ _ _ _ w _ from to k whole read
+            part-whole _ _ _ _ _ _ _ _ w _ v whole read
             (found_at _ _ _ _ _ _ _ _ f _ i at (found_in s shows)
             (landed _ _ _ _ _ _ _ _ (answering done _ _ _ (gone s shows S))))
 
-        pub none_held : f ≡ Nothing → Answered 5 buffer o out → TableEnds (λ g. removing g payload) t x
+        pub none_held : f ≡ None → Answered 5 buffer o out → TableEnds (λ g. removing g payload) t x
         unfolding removing
         none_held at done s shows S a =
-            part-whole _ _ _ _ _ _ _ _ w _ from to k whole read
+            part-whole _ _ _ _ _ _ _ _ w _ v whole read
             (found_nothing _ _ _ _ _ _ _ _ f _ at (found_in s shows)
             (landed _ _ _ _ _ _ _ _ (answering done _ _ _ (stays s shows S))))

@@ -6,51 +6,35 @@ ghost use Rattle.rule.specs.Soundness.{fit};
 ghost use Rattle.rule.specs.Rule.{entry_of, storing, adding};
 ghost use Rattle.rule.specs.Calls as rule;
 ghost use Rattle.rule.specs.Calls.{lent, follow};
-ghost use Rattle.table.specs.Entries.{columns};
 ghost use Rattle.table.specs.Meaning.{gateway_of, held};
 ghost use Rattle.table.specs.Soundness.{Sound};
 ghost use Rattle.table.specs.Shown.{SoundWith};
 ghost use Rattle.requests.specs.Outcomes.{grant_of};
 ghost use Rattle.requests.specs.Ends.{Ends};
 
-use keys::addition::{Addition, Carried, addition_at};
-use keys::kinds::{Blob, Places, put_blob};
+use keys::addition::{Carried, addition_at};
+use keys::kinds::{Places, put_blob};
 use requests::replies::{failure, success};
 use requests::{Landed, Outcome, Said};
-use rule::Found;
-use table::{Kept, entries};
+use table::{Columns, Kept};
 use wire::limits;
 use wire::read::cut;
 
 // Are the lengths within 01's limits?
+#[tactic(auto, unfolding(rule::specs::Soundness::fit))]
 fn fits(blob: &[u8], fields: &[u8], comment: &[u8]) -> bool
     ensures { result ≡ fit blob.now fields.now comment.now }
 {
-    if blob.len() < 1 {
-        return false;
-    }
-    if limits::BLOB_LIMIT < blob.len() {
-        return false;
-    }
-    if fields.len() < 1 {
-        return false;
-    }
-    if limits::FIELDS_LIMIT < fields.len() {
-        return false;
-    }
-    comment.len() <= limits::COMMENT_LIMIT
+    1 <= blob.len()
+        && blob.len() <= limits::BLOB_LIMIT
+        && 1 <= fields.len()
+        && fields.len() <= limits::FIELDS_LIMIT
+        && comment.len() <= limits::COMMENT_LIMIT
 }
 
 // The key with this blob is stored, if its lengths, the numbers, the room and the key check allow it.
 fn store_key(
-    numbers: &mut [u64],
-    readings: &mut [u64],
-    blob_lens: &mut [usize],
-    fields_lens: &mut [usize],
-    comment_lens: &mut [usize],
-    seconds: &mut [u32],
-    limited: &mut [u8],
-    confirm: &mut [u8],
+    t: &mut Columns,
     kept: Kept,
     store: &mut [u8],
     payload: &[u8],
@@ -59,8 +43,8 @@ fn store_key(
     check: Said,
     reply: &mut [u8],
 ) -> Landed
-    requires { (5 ≤ length reply.old) × SoundWith (columns numbers.old readings.old blob_lens.old fields_lens.old comment_lens.old seconds.old limited.old confirm.old) kept store.old }
-    ensures { (b : List ℕ) → Sound (held (columns numbers.old readings.old blob_lens.old fields_lens.old comment_lens.old seconds.old limited.old confirm.old) b kept) store.old → (a : rule.Answers) → a.check ≡ grant_of check → Ends reply.old (record { outcome = result.outcome; state = held (columns numbers.new readings.new blob_lens.new fields_lens.new comment_lens.new seconds.new limited.new confirm.new) b result.kept }) store.new reply.new (follow (lent a) (gateway_of (held (columns numbers.old readings.old blob_lens.old fields_lens.old comment_lens.old seconds.old limited.old confirm.old) b kept) store.old) (storing (gateway_of (held (columns numbers.old readings.old blob_lens.old fields_lens.old comment_lens.old seconds.old limited.old confirm.old) b kept) store.old) (entry_of (gateway_of (held (columns numbers.old readings.old blob_lens.old fields_lens.old comment_lens.old seconds.old limited.old confirm.old) b kept) store.old) payload.now carried blob.now) carried.places.end)) }
+    requires { (5 ≤ length reply.old) × SoundWith t.old kept store.old }
+    ensures { (b : List ℕ) → Sound (held t.old b kept) store.old → (a : rule.Answers) → a.check ≡ grant_of check → Ends reply.old (record { outcome = result.outcome; state = held t.new b result.kept }) store.new reply.new (follow (lent a) (gateway_of (held t.old b kept) store.old) (storing (gateway_of (held t.old b kept) store.old) (entry_of (gateway_of (held t.old b kept) store.old) payload.now carried blob.now) carried.places.end)) }
 {
     let to = carried.places.end;
     let comment = carried.comment;
@@ -79,20 +63,12 @@ fn store_key(
         };
     }
     let size = blob.len() + (fields.len() + text.len());
-    match entries::place_for(
-        numbers,
-        blob_lens,
-        fields_lens,
-        comment_lens,
-        store,
-        blob,
-        size,
-    ) {
-        Found::Nothing => Landed {
+    match t.place_for(store, blob, size) {
+        None => Landed {
             outcome: failure(reply),
             kept,
         },
-        Found::At(i) => match check {
+        Some(i) => match check {
             Said::Missing => Landed {
                 outcome: Outcome::Check { from: 1, to },
                 kept,
@@ -102,22 +78,7 @@ fn store_key(
                 kept,
             },
             Said::Yes => {
-                let after = changes::put(
-                    numbers,
-                    readings,
-                    blob_lens,
-                    fields_lens,
-                    comment_lens,
-                    seconds,
-                    limited,
-                    confirm,
-                    kept,
-                    store,
-                    i,
-                    payload,
-                    carried,
-                    blob,
-                );
+                let after = changes::put(t, kept, store, i, payload, carried, blob);
                 Landed {
                     outcome: success(reply),
                     kept: after,
@@ -129,14 +90,7 @@ fn store_key(
 
 // The blob is derived beside the table, in as many bytes as the limit is.
 fn store_derived(
-    numbers: &mut [u64],
-    readings: &mut [u64],
-    blob_lens: &mut [usize],
-    fields_lens: &mut [usize],
-    comment_lens: &mut [usize],
-    seconds: &mut [u32],
-    limited: &mut [u8],
-    confirm: &mut [u8],
+    t: &mut Columns,
     kept: Kept,
     store: &mut [u8],
     payload: &[u8],
@@ -144,33 +98,16 @@ fn store_derived(
     check: Said,
     reply: &mut [u8],
 ) -> Landed
-    requires { (5 ≤ length reply.old) × SoundWith (columns numbers.old readings.old blob_lens.old fields_lens.old comment_lens.old seconds.old limited.old confirm.old) kept store.old }
-    ensures { (b : List ℕ) → Sound (held (columns numbers.old readings.old blob_lens.old fields_lens.old comment_lens.old seconds.old limited.old confirm.old) b kept) store.old → (a : rule.Answers) → a.check ≡ grant_of check → Ends reply.old (record { outcome = result.outcome; state = held (columns numbers.new readings.new blob_lens.new fields_lens.new comment_lens.new seconds.new limited.new confirm.new) b result.kept }) store.new reply.new (follow (lent a) (gateway_of (held (columns numbers.old readings.old blob_lens.old fields_lens.old comment_lens.old seconds.old limited.old confirm.old) b kept) store.old) (storing (gateway_of (held (columns numbers.old readings.old blob_lens.old fields_lens.old comment_lens.old seconds.old limited.old confirm.old) b kept) store.old) (entry_of (gateway_of (held (columns numbers.old readings.old blob_lens.old fields_lens.old comment_lens.old seconds.old limited.old confirm.old) b kept) store.old) payload.now carried (blob_of payload.now 1 carried.places)) carried.places.end)) }
+    requires { (5 ≤ length reply.old) × SoundWith t.old kept store.old }
+    ensures { (b : List ℕ) → Sound (held t.old b kept) store.old → (a : rule.Answers) → a.check ≡ grant_of check → Ends reply.old (record { outcome = result.outcome; state = held t.new b result.kept }) store.new reply.new (follow (lent a) (gateway_of (held t.old b kept) store.old) (storing (gateway_of (held t.old b kept) store.old) (entry_of (gateway_of (held t.old b kept) store.old) payload.now carried (blob_of payload.now 1 carried.places)) carried.places.end)) }
 {
-    let at = carried.places;
     let mut room = [0u8; limits::BLOB_LIMIT];
-    match put_blob(payload, 1, at, &mut room[..limits::BLOB_LIMIT]) {
-        Blob::TooLong => Landed {
+    match put_blob(payload, 1, carried.places, &mut room) {
+        None => Landed {
             outcome: failure(reply),
             kept,
         },
-        Blob::Length(n) => store_key(
-            numbers,
-            readings,
-            blob_lens,
-            fields_lens,
-            comment_lens,
-            seconds,
-            limited,
-            confirm,
-            kept,
-            store,
-            payload,
-            carried,
-            &room[..n],
-            check,
-            reply,
-        ),
+        Some(n) => store_key(t, kept, store, payload, carried, &room[..n], check, reply),
     }
 }
 
@@ -178,22 +115,12 @@ fn store_derived(
 fn is_in_one(at: Places) -> bool
     ensures { result ≡ eqb at.swap at.front && eqb at.back at.front }
 {
-    if at.swap != at.front {
-        return false;
-    }
-    at.back == at.front
+    at.swap == at.front && at.back == at.front
 }
 
 // The blob where it stands, or derived.
 fn store_fields(
-    numbers: &mut [u64],
-    readings: &mut [u64],
-    blob_lens: &mut [usize],
-    fields_lens: &mut [usize],
-    comment_lens: &mut [usize],
-    seconds: &mut [u32],
-    limited: &mut [u8],
-    confirm: &mut [u8],
+    t: &mut Columns,
     kept: Kept,
     store: &mut [u8],
     payload: &[u8],
@@ -201,58 +128,27 @@ fn store_fields(
     check: Said,
     reply: &mut [u8],
 ) -> Landed
-    requires { (5 ≤ length reply.old) × SoundWith (columns numbers.old readings.old blob_lens.old fields_lens.old comment_lens.old seconds.old limited.old confirm.old) kept store.old }
-    ensures { (b : List ℕ) → Sound (held (columns numbers.old readings.old blob_lens.old fields_lens.old comment_lens.old seconds.old limited.old confirm.old) b kept) store.old → (a : rule.Answers) → a.check ≡ grant_of check → Ends reply.old (record { outcome = result.outcome; state = held (columns numbers.new readings.new blob_lens.new fields_lens.new comment_lens.new seconds.new limited.new confirm.new) b result.kept }) store.new reply.new (follow (lent a) (gateway_of (held (columns numbers.old readings.old blob_lens.old fields_lens.old comment_lens.old seconds.old limited.old confirm.old) b kept) store.old) (storing (gateway_of (held (columns numbers.old readings.old blob_lens.old fields_lens.old comment_lens.old seconds.old limited.old confirm.old) b kept) store.old) (entry_of (gateway_of (held (columns numbers.old readings.old blob_lens.old fields_lens.old comment_lens.old seconds.old limited.old confirm.old) b kept) store.old) payload.now carried (blob_of payload.now 1 carried.places)) carried.places.end)) }
+    requires { (5 ≤ length reply.old) × SoundWith t.old kept store.old }
+    ensures { (b : List ℕ) → Sound (held t.old b kept) store.old → (a : rule.Answers) → a.check ≡ grant_of check → Ends reply.old (record { outcome = result.outcome; state = held t.new b result.kept }) store.new reply.new (follow (lent a) (gateway_of (held t.old b kept) store.old) (storing (gateway_of (held t.old b kept) store.old) (entry_of (gateway_of (held t.old b kept) store.old) payload.now carried (blob_of payload.now 1 carried.places)) carried.places.end)) }
 {
-    let at = carried.places;
-    let front = at.front;
-    if is_in_one(at) {
+    if is_in_one(carried.places) {
         return store_key(
-            numbers,
-            readings,
-            blob_lens,
-            fields_lens,
-            comment_lens,
-            seconds,
-            limited,
-            confirm,
+            t,
             kept,
             store,
             payload,
             carried,
-            cut(payload, 1, front),
+            cut(payload, 1, carried.places.front),
             check,
             reply,
         );
     }
-    store_derived(
-        numbers,
-        readings,
-        blob_lens,
-        fields_lens,
-        comment_lens,
-        seconds,
-        limited,
-        confirm,
-        kept,
-        store,
-        payload,
-        carried,
-        check,
-        reply,
-    )
+    store_derived(t, kept, store, payload, carried, check, reply)
 }
 
 // 17, and 25 with constraints
 pub fn add_key(
-    numbers: &mut [u64],
-    readings: &mut [u64],
-    blob_lens: &mut [usize],
-    fields_lens: &mut [usize],
-    comment_lens: &mut [usize],
-    seconds: &mut [u32],
-    limited: &mut [u8],
-    confirm: &mut [u8],
+    t: &mut Columns,
     kept: Kept,
     store: &mut [u8],
     payload: &[u8],
@@ -260,29 +156,14 @@ pub fn add_key(
     check: Said,
     reply: &mut [u8],
 ) -> Landed
-    requires { (5 ≤ length reply.old) × SoundWith (columns numbers.old readings.old blob_lens.old fields_lens.old comment_lens.old seconds.old limited.old confirm.old) kept store.old }
-    ensures { (b : List ℕ) → Sound (held (columns numbers.old readings.old blob_lens.old fields_lens.old comment_lens.old seconds.old limited.old confirm.old) b kept) store.old → (a : rule.Answers) → a.check ≡ grant_of check → Ends reply.old (record { outcome = result.outcome; state = held (columns numbers.new readings.new blob_lens.new fields_lens.new comment_lens.new seconds.new limited.new confirm.new) b result.kept }) store.new reply.new (follow (lent a) (gateway_of (held (columns numbers.old readings.old blob_lens.old fields_lens.old comment_lens.old seconds.old limited.old confirm.old) b kept) store.old) (adding constrained (gateway_of (held (columns numbers.old readings.old blob_lens.old fields_lens.old comment_lens.old seconds.old limited.old confirm.old) b kept) store.old) payload.now)) }
+    requires { (5 ≤ length reply.old) × SoundWith t.old kept store.old }
+    ensures { (b : List ℕ) → Sound (held t.old b kept) store.old → (a : rule.Answers) → a.check ≡ grant_of check → Ends reply.old (record { outcome = result.outcome; state = held t.new b result.kept }) store.new reply.new (follow (lent a) (gateway_of (held t.old b kept) store.old) (adding constrained (gateway_of (held t.old b kept) store.old) payload.now)) }
 {
     match addition_at(payload, 1, constrained) {
-        Addition::Fault(_) => Landed {
+        Err(_) => Landed {
             outcome: failure(reply),
             kept,
         },
-        Addition::Whole(carried) => store_fields(
-            numbers,
-            readings,
-            blob_lens,
-            fields_lens,
-            comment_lens,
-            seconds,
-            limited,
-            confirm,
-            kept,
-            store,
-            payload,
-            carried,
-            check,
-            reply,
-        ),
+        Ok(carried) => store_fields(t, kept, store, payload, carried, check, reply),
     }
 }

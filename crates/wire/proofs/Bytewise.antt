@@ -7,9 +7,9 @@ use native.Mathlib.Nat.{le_of_suc-le-suc, eq-or-lt_of_le, not-suc-le-zero}
 use native.Mathlib.Omega.{arith}
 use borrow.Author.Tests.{le-leb}
 use lib.Dec.{T, leb, eqb, eqb→eq}
-use Rattle.wire.specs.declared.utf8.Utf.{Utf}
-use Rattle.wire.specs.declared.utf8.Utf.TheVariants.{Tails, Bad}
-use Rattle.wire.specs.Utf8.{lead_of}
+use Rattle.std.proofs.Common.{Option, Some, None}
+use Rattle.wire.specs.declared.utf8.Tails.{Tails}
+use Rattle.wire.specs.Utf8.{wants, lead_of}
 use Rattle.wire.specs.Abnf.{In}
 
 both : (a b : Bool) → T (a && b) → T a × T b
@@ -26,27 +26,30 @@ all-at (suc n) P t b h =
     let p = both (P n) (all n P) t in
     ⊎_elim (λ e. subst (λ (k : ℕ). T (P k)) (sym e) p.0) (λ l. all-at n P p.1 b l) (eq-or-lt_of_le (le_of_suc-le-suc h))
 
-abbrev same_utf : Utf → Utf → Bool
-same_utf Bad Bad = true
-same_utf Bad (Tails x y z) = false
-same_utf (Tails a b c) Bad = false
-same_utf (Tails a b c) (Tails x y z) = eqb a x && (eqb b y && eqb c z)
+abbrev same_state : Option Tails → Option Tails → Bool
+same_state None None = true
+same_state None (Some u) = false
+same_state (Some t) None = false
+same_state (Some t) (Some u) = eqb t.left u.left && (eqb t.low u.low && eqb t.high u.high)
 
-same-utf : (u v : Utf) → T (same_utf u v) → u ≡ v
-same-utf Bad Bad t = refl
-same-utf Bad (Tails x y z) t = absurd t
-same-utf (Tails a b c) Bad t = absurd t
-same-utf (Tails a b c) (Tails x y z) t =
-    let p = both (eqb a x) (eqb b y && eqb c z) t in
-    let q = both (eqb b y) (eqb c z) p.1 in
-    cc (eqb→eq a x p.0, eqb→eq b y q.0, eqb→eq c z q.1)
+same-state : (t u : Option Tails) → T (same_state t u) → t ≡ u
+same-state None None h = refl
+same-state None (Some u) h = absurd h
+same-state (Some t) None h = absurd h
+same-state (Some t) (Some u) h =
+    let p = both (eqb t.left u.left) (eqb t.low u.low && eqb t.high u.high) h in
+    let q = both (eqb t.low u.low) (eqb t.high u.high) p.1 in
+    let l = eqb→eq t.left u.left p.0 in
+    let m = eqb→eq t.low u.low q.0 in
+    let n = eqb→eq t.high u.high q.1 in
+    λ i. wants (l i) (m i) (n i)
 
 abbrev says : ℕ → ℕ → Bool
-says low b = cond (leb low b) (same_utf (lead_of low) (lead_of b)) true
+says low b = cond (leb low b) (same_state (lead_of low) (lead_of b)) true
 
 -- every byte from low to high says what low says
 abbrev pub OneRow : ℕ → ℕ → Type 0
 OneRow low high = T (all (suc high) (says low))
 
 pub lead_in : (low high b : ℕ) → OneRow low high → In low high b → lead_of low ≡ lead_of b
-lead_in low high b t h = same-utf (lead_of low) (lead_of b) (rw (le-leb low b h.0) at (all-at (suc high) (says low) t b (omega arith)))
+lead_in low high b t h = same-state (lead_of low) (lead_of b) (rw (le-leb low b h.0) at (all-at (suc high) (says low) t b (omega arith)))

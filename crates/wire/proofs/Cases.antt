@@ -3,32 +3,26 @@ use Prim.Native.Nat.{ℕ}
 use mathlib.Core.Path.{◌≡◌, refl, sym}
 use mathlib.Core.Bool.{Bool, true, false, ◌&&◌, not, cond}
 use native.Mathlib.Omega.{arith}
+use Rattle.std.proofs.Common.{Result, Ok, Err}
 use Rattle.wire.specs.declared.read.Cursor.{Cursor}
-use Rattle.wire.specs.declared.read.Octet.{Octet}
-use Rattle.wire.specs.declared.read.Number.{Number}
+use Rattle.wire.specs.declared.read.Fault.{Fault}
 use Rattle.wire.specs.declared.read.Part.{Part}
-use Rattle.wire.specs.declared.read.Part.TheVariants.{Whole}
-use Rattle.wire.specs.Steps.{byte, number, part}
+use Rattle.wire.specs.Steps.{got, part_of, faulted, number, part}
 
 module _ {A : Type 0} (P : A → Type 0) where
   pub cond_cases : (b : Bool) {z a : A} → (b ≡ true → P a) → (b ≡ false → P z) → P (cond b a z)
   cond_cases true f g = f refl
   cond_cases false f g = g refl
 
-  pub byte_cases : (o : Octet) {z : ℕ → A} {next : ℕ → Cursor → A} → ((at : ℕ) → P (z at)) → ((b : ℕ) (k : Cursor) → o ≡ Octet.Value b k → P (next b k)) → P (byte z o next)
-  unfolding byte
-  byte_cases (Octet.Value b k) g h = h b k refl
-  byte_cases (Octet.Fault at) g h = g at
-
-  pub number_cases : (n : Number) {z : ℕ → A} {next : ℕ → Cursor → A} → ((at : ℕ) → n ≡ Number.Fault at → P (z at)) → ((i : ℕ) (k : Cursor) → n ≡ Number.Value i k → P (next i k)) → P (number z n next)
+  pub number_cases : (r : Result (ℕ × Cursor) Fault) {z : ℕ → A} {next : ℕ → Cursor → A} → ((at : ℕ) → r ≡ faulted at → P (z at)) → ((n : ℕ) (k : Cursor) → r ≡ got n k → P (next n k)) → P (number z r next)
   unfolding number
-  number_cases (Number.Value i k) g h = h i k refl
-  number_cases (Number.Fault at) g h = g at refl
+  number_cases (Ok r) g h = h r.0 r.1 refl
+  number_cases (Err e) g h = g e.at refl
 
-  pub part-cases : (p : Part) {z : ℕ → A} {next : ℕ → ℕ → Cursor → A} → ((at : ℕ) → p ≡ Part.Fault at → P (z at)) → ((f t : ℕ) (k : Cursor) → p ≡ Whole f t k → P (next f t k)) → P (part z p next)
+  pub part-cases : (p : Result Part Fault) {z : ℕ → A} {next : ℕ → ℕ → Cursor → A} → ((at : ℕ) → p ≡ faulted at → P (z at)) → ((f t : ℕ) (k : Cursor) → p ≡ part_of f t k → P (next f t k)) → P (part z p next)
   unfolding part
-  part-cases (Whole f t k) g h = h f t k refl
-  part-cases (Part.Fault at) g h = g at refl
+  part-cases (Ok p) g h = h p.from p.to p.next refl
+  part-cases (Err e) g h = g e.at refl
 
 -- ## Tests
 

@@ -9,11 +9,9 @@ use native.Mathlib.Nat.{add-sub_cancel_left, add_assoc, add-zero, div-div-eq-div
 use lib.ListN.{length, get_or, take, drop, length-append, length-take, length-drop, take-append-drop}
 use lib.Seq.{get_or-drop, drop-cons, drop-drop, take_at, drop_at}
 use Rattle.wire.specs.declared.read.Cursor.{Cursor}
-use Rattle.wire.specs.declared.read.Number.{Number}
-use Rattle.wire.specs.declared.read.Part.{Part}
-use Rattle.wire.specs.declared.read.Part.TheVariants.{Whole}
 use Rattle.wire.specs.Numbers.{be, be32, be_at, Bytes}
 use Rattle.wire.specs.Read.{cut_of, number_at, string_at}
+use Rattle.wire.specs.Steps.{got, part_of, faulted}
 use Rattle.wire.specs.Write.{string}
 use Rattle.wire.proofs.Reading.{le_or_lt, cut_there, number_there, number_cut, number_read, number_short, string-there, string-cut, string-read}
 
@@ -71,7 +69,7 @@ module _ (s : List ℕ) (at : ℕ) where
   be-within n rest e = omega (arith, simp (length-drop, length-append) at (ap length e))
 
 pub number_form : (s : List ℕ) (at n : ℕ) (rest : List ℕ) → Bytes s → n < 2 ^ 32
-    → (drop at s ≡ be32 n ++ rest) ↔ ((number_at s at ≡ Number.Value n (record { at = at + 4 })) × (drop (at + 4) s ≡ rest))
+    → (drop at s ≡ be32 n ++ rest) ↔ ((number_at s at ≡ got n (record { at = at + 4 })) × (drop (at + 4) s ≡ rest))
 number_form s at n rest bytes h = (
   (λ e.
       let n' = be-written s at n rest h e in
@@ -83,7 +81,7 @@ number_form s at n rest bytes h = (
 )
 
 pub number_none : (s : List ℕ) (at : ℕ) → Bytes s
-    → (number_at s at ≡ Number.Fault at) ↔ ((n : ℕ) (rest : List ℕ) → n < 2 ^ 32 → drop at s ≡ be32 n ++ rest → ⊥)
+    → (number_at s at ≡ faulted at) ↔ ((n : ℕ) (rest : List ℕ) → n < 2 ^ 32 → drop at s ≡ be32 n ++ rest → ⊥)
 number_none s at bytes = (
   (λ e n rest h w. let f = number_short s at at e in let b = be-within s at n rest w in omega arith),
   (λ none.
@@ -109,7 +107,7 @@ pub part_length : (s : List ℕ) (f t : ℕ) → f ≤ t → t ≤ length s → 
 part_length s f t h k = rw (← cut_there s f t h k) (simp (length-take, length-drop) (omega arith))
 
 -- what is read is what the format writes, as one equation
-pub string-shape : (s : List ℕ) (at f t : ℕ) (k : Cursor) → Bytes s → string_at s at ≡ Whole f t k → drop at s ≡ string (cut_of s f t) ++ drop t s
+pub string-shape : (s : List ℕ) (at f t : ℕ) (k : Cursor) → Bytes s → string_at s at ≡ part_of f t k → drop at s ≡ string (cut_of s f t) ++ drop t s
 string-shape s at f t k bytes e =
     let w = string-read s at f t k e in
     let n : be_at s at ≡ length (cut_of s f t) = (let l = part_length s f t (omega arith) w.within in omega arith) in
@@ -118,7 +116,7 @@ string-shape s at f t k bytes e =
 
 pub string-form : (s : List ℕ) (at : ℕ) (v rest : List ℕ) → Bytes s → length v < 2 ^ 32
     → (drop at s ≡ string v ++ rest)
-    ↔ ((string_at s at ≡ Whole (at + 4) (at + 4 + length v) (record { at = at + 4 + length v }))
+    ↔ ((string_at s at ≡ part_of (at + 4) (at + 4 + length v) (record { at = at + 4 + length v }))
     × (cut_of s (at + 4) (at + 4 + length v) ≡ v)
     × (drop (at + 4 + length v) s ≡ rest))
 string-form s at v rest bytes h = (
@@ -132,7 +130,7 @@ string-form s at v rest bytes h = (
 )
 
 pub string-none : (s : List ℕ) (at : ℕ) → Bytes s
-    → (string_at s at ≡ Part.Fault at) ↔ ((v rest : List ℕ) → length v < 2 ^ 32 → drop at s ≡ string v ++ rest → ⊥)
+    → (string_at s at ≡ faulted at) ↔ ((v rest : List ℕ) → length v < 2 ^ 32 → drop at s ≡ string v ++ rest → ⊥)
 string-none s at bytes = (
   (λ e v rest h w. let z : ◌≡◌ {A = ℕ} 0 1 = (let r = ((string-form s at v rest bytes h).0 w).0 in cc) in omega arith),
   (λ none.

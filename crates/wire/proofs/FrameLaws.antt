@@ -12,10 +12,9 @@ use lib.Seq.{take_at, length-take-le, take-append-le, drop-append-le, drop-drop}
 use Rattle.wire.specs.Limits.{payload_limit}
 use Rattle.wire.specs.declared.frame.Split.{Split}
 use Rattle.wire.specs.declared.frame.Split.TheVariants.{MoreNeeded, TooLong, Frame}
-use Rattle.wire.specs.declared.read.Number.{Number}
 use Rattle.wire.specs.Numbers.{be32, be_at}
 use Rattle.wire.specs.Read.{cut_of, number_at}
-use Rattle.wire.specs.Steps.{number}
+use Rattle.wire.specs.Steps.{got, number}
 use Rattle.wire.specs.Values.{Span}
 use Rattle.wire.specs.Write.{string}
 use Rattle.wire.specs.Frames.{split_of, split_number, split_span, frame_payload, payload_from}
@@ -80,8 +79,8 @@ else_none (Frame from to) never = absurd (never refl)
 
 -- a length and what stands behind it
 module _ (n : ℕ) (rest : List ℕ) (small : n < 2 ^ 32) where
-  length-read : number_at (be32 n ++ rest) 0 ≡ Number.Value n (record { at = 4 })
-  length-read = sym (number_there (be32 n ++ rest) 0 (omega arith)) ∙ ap (λ (i : ℕ). Number.Value i (record { at = 4 })) (be-written (be32 n ++ rest) 0 n rest small refl)
+  length-read : number_at (be32 n ++ rest) 0 ≡ got n (record { at = 4 })
+  length-read = sym (number_there (be32 n ++ rest) 0 (omega arith)) ∙ ap (λ (i : ℕ). got i (record { at = 4 })) (be-written (be32 n ++ rest) 0 n rest small refl)
 
   split_long : payload_limit < n → split_number (split_of (be32 n ++ rest)) ≡ 1
   unfolding split_of number

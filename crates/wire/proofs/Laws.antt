@@ -1,6 +1,6 @@
 -- The promises, in 01's values: each follows from the law of its reader, since an answer's values tell it from every other answer.
 use Prim.Native.Nat.{ℕ, suc, ◌+◌, ◌-◌, ◌≤◌, ◌<◌}
-use mathlib.Core.Path.{◌≡◌, refl, sym, ap, ◌∙◌}
+use mathlib.Core.Path.{◌≡◌, refl, sym, ap, ap₂, ◌∙◌}
 use mathlib.Core.List.{List, ◌∷◌}
 use mathlib.Core.Bool.{Bool, true, false, cond}
 use mathlib.Core.Logic.{⊎_elim, ◌↔◌}
@@ -10,19 +10,18 @@ use borrow.Author.Tests.{eqb-true, eq-eqb, ne_eqb}
 use lib.Dec.{eqb}
 use lib.ListN.{length, get_or, drop, length-drop, drop_of_length-le}
 use lib.Seq.{drop-cons}
+use Rattle.std.proofs.Common.{Result, Ok, Err}
 use Rattle.wire.specs.declared.read.Cursor.{Cursor}
-use Rattle.wire.specs.declared.read.Octet.{Octet}
-use Rattle.wire.specs.declared.read.Number.{Number}
+use Rattle.wire.specs.declared.read.Fault.{Fault}
 use Rattle.wire.specs.declared.read.Part.{Part}
-use Rattle.wire.specs.declared.read.Part.TheVariants.{Whole}
-use Rattle.wire.specs.Values.{Reading, read, fault, Span, octet_reads, number_reads, part_reads}
+use Rattle.wire.specs.Values.{Reading, read, fault, Span, number_reads, part_reads}
 use Rattle.wire.specs.Utf8.{utf8_end}
 use Rattle.wire.specs.Abnf.{Octets}
 use Rattle.wire.specs.Mpint.{mpint}
-use Rattle.wire.specs.Steps.{part}
+use Rattle.wire.specs.Steps.{got, part_of, faulted, part}
 use Rattle.wire.specs.Read.{cut_of, number_at, string_at, text_at, mpint_at}
 use Rattle.wire.specs.Promises.{AnswersApart, ByteRule, ByteCut, NumberRule, NumberCut, StringRule, StringCut, CutRule, TextRule, TextFault, MpintAtRule, MpintFault, WriteRule}
-use Rattle.wire.proofs.Reading.{le_or_lt, byte_there, byte_cut, string-read, string-short, string-cut, cut_there, cut_past, cut_back, from_there, from_past, from_back}
+use Rattle.wire.proofs.Reading.{le_or_lt, part_one, fault_one, byte_there, byte_cut, string-read, string-short, string-cut, cut_there, cut_past, cut_back, from_there, from_past, from_back}
 use Rattle.wire.proofs.Format.{number_form, number_none, string-form, string-none, part_length}
 use Rattle.wire.proofs.Abnf.{utf8-rule}
 use Rattle.wire.proofs.Longest.{utf8-end, utf8_end-whole}
@@ -33,38 +32,35 @@ use Rattle.wire.proofs.Writing.{length-write, write-in, write-out}
 cursor_one : (k l : Cursor) → k.at ≡ l.at → k ≡ l
 cursor_one k l e = ap {B = Cursor} (λ (n : ℕ). record { at = n }) e
 
-octets_apart : (a b : Octet) → octet_reads a ≡ octet_reads b → a ≡ b
-octets_apart (Octet.Value x k) (Octet.Value y l) e = let p : x ≡ y = cc in let q : k ≡ l = cursor_one k l (cc) in cc
-octets_apart (Octet.Value x k) (Octet.Fault y) e = let z : ◌≡◌ {A = ℕ} 0 1 = cc in absurd (omega arith)
-octets_apart (Octet.Fault x) (Octet.Value y l) e = let z : ◌≡◌ {A = ℕ} 0 1 = cc in absurd (omega arith)
-octets_apart (Octet.Fault x) (Octet.Fault y) e = let p : x ≡ y = cc in cc
+numbers_apart : (a b : Result (ℕ × Cursor) Fault) → number_reads a ≡ number_reads b → a ≡ b
+numbers_apart (Ok x) (Ok y) e =
+    let p : x.0 ≡ y.0 = cc in
+    let q : x.1 ≡ y.1 = cursor_one x.1 y.1 (cc) in
+    ap₂ got p q
+numbers_apart (Ok x) (Err d) e = let z : ◌≡◌ {A = ℕ} 0 1 = cc in absurd (omega arith)
+numbers_apart (Err d) (Ok y) e = let z : ◌≡◌ {A = ℕ} 0 1 = cc in absurd (omega arith)
+numbers_apart (Err c) (Err d) e = let p : c.at ≡ d.at = cc in ap faulted p
 
-numbers_apart : (a b : Number) → number_reads a ≡ number_reads b → a ≡ b
-numbers_apart (Number.Value x k) (Number.Value y l) e = let p : x ≡ y = cc in let q : k ≡ l = cursor_one k l (cc) in cc
-numbers_apart (Number.Value x k) (Number.Fault y) e = let z : ◌≡◌ {A = ℕ} 0 1 = cc in absurd (omega arith)
-numbers_apart (Number.Fault x) (Number.Value y l) e = let z : ◌≡◌ {A = ℕ} 0 1 = cc in absurd (omega arith)
-numbers_apart (Number.Fault x) (Number.Fault y) e = let p : x ≡ y = cc in cc
-
-parts_apart : (a b : Part) → part_reads a ≡ part_reads b → a ≡ b
-parts_apart (Whole f t k) (Whole g u l) e =
-    let v : ◌≡◌ {A = Span} (record { from = f; to = t }) (record { from = g; to = u }) = cc in
-    let p : f ≡ g = ap (λ (x : Span). x.from) v in
-    let q : t ≡ u = ap (λ (x : Span). x.to) v in
-    let r : k ≡ l = cursor_one k l (cc) in
-    cc
-parts_apart (Whole f t k) (Part.Fault y) e = let z : ◌≡◌ {A = ℕ} 0 1 = cc in absurd (omega arith)
-parts_apart (Part.Fault x) (Whole g u l) e = let z : ◌≡◌ {A = ℕ} 0 1 = cc in absurd (omega arith)
-parts_apart (Part.Fault x) (Part.Fault y) e = let p : x ≡ y = cc in cc
+parts_apart : (a b : Result Part Fault) → part_reads a ≡ part_reads b → a ≡ b
+parts_apart (Ok p) (Ok q) e =
+    let v : ◌≡◌ {A = Span} (record { from = p.from; to = p.to }) (record { from = q.from; to = q.to }) = cc in
+    let f : p.from ≡ q.from = ap (λ (x : Span). x.from) v in
+    let t : p.to ≡ q.to = ap (λ (x : Span). x.to) v in
+    let k : p.next ≡ q.next = cursor_one p.next q.next (cc) in
+    λ i. part_of (f i) (t i) (k i)
+parts_apart (Ok p) (Err d) e = let z : ◌≡◌ {A = ℕ} 0 1 = cc in absurd (omega arith)
+parts_apart (Err d) (Ok q) e = let z : ◌≡◌ {A = ℕ} 0 1 = cc in absurd (omega arith)
+parts_apart (Err c) (Err d) e = let p : c.at ≡ d.at = cc in ap faulted p
 
 pub answers_apart : AnswersApart
-answers_apart = record { octets = octets_apart; numbers = numbers_apart; parts = parts_apart }
+answers_apart = record { numbers = numbers_apart; parts = parts_apart }
 
 -- an answer that reads so is this one
-pub whole_of : (p : Part) (v : Span) (next : ℕ) → part_reads p ≡ read v next → p ≡ Whole v.from v.to (record { at = next })
-whole_of p v next e = parts_apart p (Whole v.from v.to (record { at = next })) e
+pub whole_of : (p : Result Part Fault) (v : Span) (next : ℕ) → part_reads p ≡ read v next → p ≡ part_of v.from v.to (record { at = next })
+whole_of p v next e = parts_apart p (part_of v.from v.to (record { at = next })) e
 
-fault_of_lem : (p : Part) (at : ℕ) → part_reads p ≡ fault at → p ≡ Part.Fault at
-fault_of_lem p at e = parts_apart p (Part.Fault at) e
+fault_of_lem : (p : Result Part Fault) (at : ℕ) → part_reads p ≡ fault at → p ≡ faulted at
+fault_of_lem p at e = parts_apart p (faulted at) e
 
 -- ## Bytes, numbers, strings
 
@@ -76,15 +72,15 @@ byte_rule s at b rest = (
       let c : get_or s at 0 ∷ drop (at + 1) s ≡ b ∷ rest = rw add-one (sym (drop-cons s at 0 h) ∙ e) in
       let x : get_or s at 0 ≡ b = cc in
       let y : drop (at + 1) s ≡ rest = cc in
-      (ap octet_reads (sym (byte_there s at h)) ∙ ap (λ (n : ℕ). read n (at + 1)) x, y)),
+      (ap number_reads (sym (byte_there s at h)) ∙ ap (λ (n : ℕ). read n (at + 1)) x, y)),
   (λ r.
       ⊎_elim
       (λ (h : suc at ≤ length s).
-      let x : read (get_or s at 0) (at + 1) ≡ read b (at + 1) = ap octet_reads (byte_there s at h) ∙ r.0 in
+      let x : read (get_or s at 0) (at + 1) ≡ read b (at + 1) = ap number_reads (byte_there s at h) ∙ r.0 in
       let y : get_or s at 0 ≡ b = cc in
       drop-cons s at 0 h ∙ ap (λ (n : ℕ). n ∷ drop (suc at) s) y ∙ ap (λ (l : List ℕ). b ∷ l) (ap (λ (n : ℕ). drop n s) (sym (add-one at)) ∙ r.1))
       (λ (h : length s < suc at).
-      let x : ◌≡◌ {A = Reading ℕ} (fault at) (read b (at + 1)) = ap octet_reads (byte_cut s at (omega arith)) ∙ r.0 in
+      let x : ◌≡◌ {A = Reading ℕ} (fault at) (read b (at + 1)) = ap number_reads (byte_cut s at (omega arith)) ∙ r.0 in
       let z : ◌≡◌ {A = ℕ} 0 1 = cc in
       absurd (omega arith))
       (le_or_lt (suc at) (length s))),
@@ -95,25 +91,25 @@ byte_cut_rule s at = (
   (λ e.
       ⊎_elim
       (λ (h : suc at ≤ length s).
-      let x : ◌≡◌ {A = Reading ℕ} (read (get_or s at 0) (at + 1)) (fault at) = ap octet_reads (byte_there s at h) ∙ e in
+      let x : ◌≡◌ {A = Reading ℕ} (read (get_or s at 0) (at + 1)) (fault at) = ap number_reads (byte_there s at h) ∙ e in
       let z : ◌≡◌ {A = ℕ} 0 1 = cc in
       absurd (omega arith))
       (λ (h : length s < suc at). let g : length s ≤ at = omega arith in drop_of_length-le s g)
       (le_or_lt (suc at) (length s))),
-  (λ e. let l = simp length-drop at (ap length e) in ap octet_reads (sym (byte_cut s at (omega arith)))),
+  (λ e. let l = simp length-drop at (ap length e) in ap number_reads (sym (byte_cut s at (omega arith)))),
 )
 
 pub number_rule : NumberRule
 number_rule s at n rest bytes h =
     let r = number_form s at n rest bytes h in (
       (λ e. let x = r.0 e in (ap number_reads x.0, x.1)),
-      (λ x. r.1 (numbers_apart (number_at s at) (Number.Value n (record { at = at + 4 })) x.0, x.1)),
+      (λ x. r.1 (numbers_apart (number_at s at) (got n (record { at = at + 4 })) x.0, x.1)),
     )
 
 pub number_cut_rule : NumberCut
 number_cut_rule s at bytes =
     let r = number_none s at bytes in
-    ((λ e. r.0 (numbers_apart (number_at s at) (Number.Fault at) e)), (λ x. ap number_reads (r.1 x)))
+    ((λ e. r.0 (numbers_apart (number_at s at) (faulted at) e)), (λ x. ap number_reads (r.1 x)))
 
 pub string-rule : StringRule
 string-rule s at v rest bytes h =
@@ -140,31 +136,43 @@ cut_rule s f t = record {
 -- ## Strings that pass a test
 
 -- a string that passed a test was there; one that did not is a fault at the place that is given for it
-pub tested : (p : Part) (test : ℕ → ℕ → Bool) (z : ℕ → ℕ → ℕ) (f t : ℕ) (k : Cursor)
-    → (part Part.Fault p (λ f t k. cond (test f t) (Whole f t k) (Part.Fault (z f t))) ≡ Whole f t k) ↔ ((p ≡ Whole f t k) × (test f t ≡ true))
+pub tested : (p : Result Part Fault) (test : ℕ → ℕ → Bool) (z : ℕ → ℕ → ℕ) (f t : ℕ) (k : Cursor)
+    → (part faulted p (λ f t k. cond (test f t) (part_of f t k) (faulted (z f t))) ≡ part_of f t k) ↔ ((p ≡ part_of f t k) × (test f t ≡ true))
 unfolding part
-tested (Part.Fault at) test z f t k = ((λ e. let x : ◌≡◌ {A = ℕ} 0 1 = cc in absurd (omega arith)), (λ e. let h = e.0 in let x : ◌≡◌ {A = ℕ} 0 1 = cc in absurd (omega arith)))
-tested (Whole f' t' k') test z f t k = ((λ e. there (test f' t') refl e), (λ e. let h = e.0 in let x : f' ≡ f = cc in let y : t' ≡ t = cc in rw (x, y, e.1) (rw (x, y) at h)))
+tested (Err d) test z f t k = ((λ e. let x : ◌≡◌ {A = ℕ} 0 1 = cc in absurd (omega arith)), (λ e. let h = e.0 in let x : ◌≡◌ {A = ℕ} 0 1 = cc in absurd (omega arith)))
+tested (Ok p) test z f t k = ((λ e. there (test p.from p.to) refl e), (λ e. let h = part_one {f = p.from} {t = p.to} {k = p.next} e.0 in rw (h.from, h.to, e.1) (rw (h.from, h.to) at e.0)))
   where
-    there : (b : Bool) → test f' t' ≡ b → cond b (Whole f' t' k') (Part.Fault (z f' t')) ≡ Whole f t k → (Whole f' t' k' ≡ Whole f t k) × (test f t ≡ true)
-    there true q e = (e, (let x : f ≡ f' = cc in let y : t ≡ t' = cc in rw (x, y) q))
+    there : (b : Bool) → test p.from p.to ≡ b → cond b (Ok p) (faulted (z p.from p.to)) ≡ part_of f t k → (Ok p ≡ part_of f t k) × (test f t ≡ true)
+    there true q e = (e, (let h = part_one {f = p.from} {t = p.to} {k = p.next} e in rw (h.from, h.to) at q))
     there false q e = let x : ◌≡◌ {A = ℕ} 0 1 = cc in absurd (omega arith)
 
 -- a string that is not there is a fault at its own place
-string-fault_place : (s : List ℕ) (at place : ℕ) → string_at s at ≡ Part.Fault place → place ≡ at
-string-fault_place s at place e = let h = string-cut s at (string-short s at place e) in cc
+pub string-fault_place : (s : List ℕ) (at place : ℕ) → string_at s at ≡ faulted place → place ≡ at
+string-fault_place s at place e = fault_one (sym e ∙ sym (string-cut s at (string-short s at place e)))
+
+module _ (s : List ℕ) (at : ℕ) (test : ℕ → ℕ → Bool) where
+  -- a string that is tested, and whose fault is at its start
+  abbrev pub Tested : Result Part Fault
+  Tested = part faulted (string_at s at) λ f t k. cond (test f t) (part_of f t k) (faulted at)
+
+  pub tested_fault : (place : ℕ) → Tested ≡ faulted place → place ≡ at
+  unfolding part
+  tested_fault place e = go (string_at s at) refl e
+    where
+      by_test : (p : Part) (b : Bool) → cond b (Ok p) (faulted at) ≡ faulted place → place ≡ at
+      by_test p true h = let x : ◌≡◌ {A = ℕ} 0 1 = cc in absurd (omega arith)
+      by_test p false h = sym (fault_one h)
+
+      go : (p : Result Part Fault) → string_at s at ≡ p → part faulted p (λ f t k. cond (test f t) (part_of f t k) (faulted at)) ≡ faulted place → place ≡ at
+      go (Ok p) q h = by_test p (test p.from p.to) h
+      go (Err d) q h = sym (fault_one h) ∙ string-fault_place s at d.at q
+
+  pub tested-end : (p : Part) → Tested ≡ Ok p → p.next.at ≡ p.to
+  tested-end p e = (string-read s at p.from p.to p.next ((tested (string_at s at) test (λ f t. at) p.from p.to p.next).0 e).0).place
 
 pub mpint-fault : MpintFault
-unfolding mpint_at part
-mpint-fault s at place e = go (string_at s at) refl (fault_of_lem (mpint_at s at) place e)
-  where
-    test : (f t : ℕ) (k : Cursor) (b : Bool) → cond b (Whole f t k) (Part.Fault at) ≡ Part.Fault place → place ≡ at
-    test f t k true h = let x : ◌≡◌ {A = ℕ} 0 1 = cc in absurd (omega arith)
-    test f t k false h = cc
-
-    go : (p : Part) → string_at s at ≡ p → part Part.Fault p (λ f t k. cond (mpint (cut_of s f t)) (Whole f t k) (Part.Fault at)) ≡ Part.Fault place → place ≡ at
-    go (Whole f t k) q h = test f t k (mpint (cut_of s f t)) h
-    go (Part.Fault x) q h = let y = string-fault_place s at x q in let w : x ≡ place = cc in sym w ∙ y
+unfolding mpint_at
+mpint-fault s at place e = tested_fault s at (λ f t. mpint (cut_of s f t)) place (fault_of_lem (mpint_at s at) place e)
 
 pub mpint_at-rule : MpintAtRule
 unfolding mpint_at
@@ -177,7 +185,7 @@ mpint_at-rule s at v next =
 -- ## Texts
 
 -- a string is UTF-8 exactly where its longest part of UTF-8 is all of it
-text_test : (s : List ℕ) (at f t : ℕ) (k : Cursor) → string_at s at ≡ Whole f t k → (utf8_end (cut_of s f t) ≡ t - f) ↔ Octets (cut_of s f t)
+text_test : (s : List ℕ) (at f t : ℕ) (k : Cursor) → string_at s at ≡ part_of f t k → (utf8_end (cut_of s f t) ≡ t - f) ↔ Octets (cut_of s f t)
 text_test s at f t k e =
     let w = string-read s at f t k e in
     let l = part_length s f t (omega arith) w.within in (

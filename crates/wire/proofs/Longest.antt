@@ -11,9 +11,9 @@ use borrow.Author.Tests.{le-leb, lt-leb, leb-true}
 use lib.Dec.{leb}
 use lib.ListN.{length, get_or, take, drop, drop_of_length-le}
 use lib.Seq.{take-suc, take-length, drop-cons}
-use Rattle.wire.specs.declared.read.Cursor.{Cursor}
-use Rattle.wire.specs.declared.read.Part.TheVariants.{Whole}
-use Rattle.wire.specs.declared.utf8.Utf.{Utf}
+use Rattle.wire.specs.declared.read.Part.{Part}
+use Rattle.wire.specs.declared.utf8.Tails.{Tails}
+use Rattle.std.proofs.Common.{Option, Ok}
 use Rattle.wire.specs.Utf8.{lead_of, step_of, steps_of, ended, start, utf8, ascii_end, longest, utf8_end}
 use Rattle.wire.specs.Read.{cut_of, string_at}
 use Rattle.wire.specs.Promises.{Longest, Utf8End}
@@ -21,23 +21,23 @@ use Rattle.wire.proofs.Reading.{le_or_lt, string-read}
 use Rattle.wire.proofs.Format.{part_length}
 use Rattle.wire.proofs.Abnf.{utf8-rule}
 
-steps_snoc : (u : Utf) (s : List ℕ) (b : ℕ) → steps_of u (s ++ (b ∷ [])) ≡ step_of (steps_of u s) b
+steps_snoc : (u : Option Tails) (s : List ℕ) (b : ℕ) → steps_of u (s ++ (b ∷ [])) ≡ step_of (steps_of u s) b
 unfolding steps_of
 steps_snoc u [] b = refl
 steps_snoc u (a ∷ s) b = steps_snoc (step_of u a) s b
 
 -- the state and the end after i bytes
-pub record Passed (s : List ℕ) (u : Utf) (end i : ℕ) : Type 0 where
+pub record Passed (s : List ℕ) (u : Option Tails) (end i : ℕ) : Type 0 where
   pub within : i ≤ length s
   pub state : u ≡ steps_of start (take i s)
   pub found : end ≡ longest i s
 
-pub passed_none : (s : List ℕ) (u : Utf) → u ≡ start → Passed s u 0 0
+pub passed_none : (s : List ℕ) (u : Option Tails) → u ≡ start → Passed s u 0 0
 unfolding steps_of longest
 passed_none s u e = record { within = omega arith; state = e; found = refl }
 
 pub passed_one :
-    (s : List ℕ) (u : Utf) (end i : ℕ) (v : Utf) (r : ℕ) → Passed s u end i → i < length s
+    (s : List ℕ) (u : Option Tails) (end i : ℕ) (v : Option Tails) (r : ℕ) → Passed s u end i → i < length s
     → v ≡ step_of u (get_or s i 0) → r ≡ cond (ended v) (i + 1) end → Passed s v r (i + 1)
 unfolding longest utf8
 passed_one s u end i v r p h e f =
@@ -45,7 +45,7 @@ passed_one s u end i v r p h e f =
     let z : r ≡ longest (suc i) s = f ∙ rw (w, p.found, add-one) in
     record { within = omega arith; state = rw add-one w; found = rw add-one z }
 
-pub passed_all : (s : List ℕ) (u : Utf) (end i : ℕ) → Passed s u end i → length s ≤ i → end ≡ utf8_end s
+pub passed_all : (s : List ℕ) (u : Option Tails) (end i : ℕ) → Passed s u end i → length s ≤ i → end ≡ utf8_end s
 unfolding utf8_end
 passed_all s u end i p h =
     let e : i ≡ length s = omega arith in
@@ -86,15 +86,15 @@ stays : (b : ℕ) → b ≤ 0x7F → start ≡ step_of start b
 unfolding step_of lead_of
 stays b k = rw (le-leb 0 b (omega arith), le-leb b 0x7F k)
 
-ended-start : (u : Utf) → u ≡ start → ended u ≡ true
+ended-start : (u : Option Tails) → u ≡ start → ended u ≡ true
 unfolding ended
 ended-start u e = rw e
 
-pub ascii_passed : (s : List ℕ) (u : Utf) → u ≡ start → (i : ℕ) → i ≤ ascii_end s → Passed s u i i
+pub ascii_passed : (s : List ℕ) (u : Option Tails) → u ≡ start → (i : ℕ) → i ≤ ascii_end s → Passed s u i i
 ascii_passed s u e zero h = passed_none s u e
 ascii_passed s u e (suc i) h =
     let low = ascii_low s i (omega arith) in
-    let next : Passed s u (i + 1) (i + 1) = passed_one s u i i u (i + 1) (ascii_passed s u e i (omega arith)) low.0 (e ∙ stays (get_or s i 0) low.1 ∙ ap (λ (v : Utf). step_of v (get_or s i 0)) (sym e)) (rw (ended-start u e)) in
+    let next : Passed s u (i + 1) (i + 1) = passed_one s u i i u (i + 1) (ascii_passed s u e i (omega arith)) low.0 (e ∙ stays (get_or s i 0) low.1 ∙ ap (λ (v : Option Tails). step_of v (get_or s i 0)) (sym e)) (rw (ended-start u e)) in
     rw add-one at next
 
 -- r is the greatest number up to n of bytes from the start that are UTF-8
@@ -150,10 +150,10 @@ longest-one s m n x y =
     (le_or_lt m n)
 
 -- the end of a string's UTF-8 is a place in the slice
-pub text_room : (s : List ℕ) (at f t : ℕ) (k : Cursor) (v : List ℕ) (n : ℕ) → string_at s at ≡ Whole f t k → v ≡ cut_of s f t → n ≡ utf8_end v → f + n ≤ length s
-text_room s at f t k v n e p q =
-    let w = string-read s at f t k e in
-    let l = part_length s f t (omega arith) w.within in
-    let u = utf8_end-le (cut_of s f t) in
-    let m : n ≡ utf8_end (cut_of s f t) = q ∙ ap utf8_end p in
+pub text_room : (s : List ℕ) (at : ℕ) (p : Part) (v : List ℕ) (n : ℕ) → Ok p ≡ string_at s at → v ≡ cut_of s p.from p.to → n ≡ utf8_end v → p.from + n ≤ length s
+text_room s at p v n e i q =
+    let w = string-read s at p.from p.to p.next (sym e) in
+    let l = part_length s p.from p.to (omega arith) w.within in
+    let u = utf8_end-le (cut_of s p.from p.to) in
+    let m : n ≡ utf8_end (cut_of s p.from p.to) = q ∙ ap utf8_end i in
     omega arith

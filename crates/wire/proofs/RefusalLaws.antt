@@ -4,10 +4,9 @@ use mathlib.Core.Path.{◌≡◌, refl, sym, ap, ap₂, ◌∙◌}
 use mathlib.Core.Bool.{cond}
 use native.Mathlib.Omega.{arith}
 use lib.Dec.{eqb}
+use Rattle.std.proofs.Common.{Result, Ok, Err}
 use Rattle.wire.specs.declared.refusal.Refusal.{Refusal}
 use Rattle.wire.specs.declared.refusal.Refusal.TheVariants.{OutputTooShort, Malformed, UnfitType, AgentFailure, OtherReply, NoSuchItem, PayloadTooLong, TooManyConstraints}
-use Rattle.wire.specs.declared.refusal.Wrote.{Wrote}
-use Rattle.wire.specs.declared.refusal.Wrote.TheVariants.{Written, Refused}
 use Rattle.wire.specs.Refusals.{Where, no_place, at_place, refusal_number, refusal_place, Says, grants, refuses, wrote_says}
 use Rattle.wire.specs.Promises.{RefusalsApart, WroteApart}
 
@@ -54,16 +53,16 @@ pub record Why (n : ℕ) (w : Where) (r : Refusal) : Type 0 where
 pub why : {A : Type 0} {n : ℕ} {w : Where} (r : Refusal) → ◌≡◌ {A = Says A} (refuses (refusal_number r) (refusal_place r)) (refuses n w) → Why n w r
 why r e = record { number = cc; place = cc }
 
-pub wrote_written : (a : Wrote) (n : ℕ) → wrote_says a ≡ grants n → a ≡ Written n
-wrote_written (Written m) n e = let q : m ≡ n = cc in rw q
-wrote_written (Refused r) n e = not_granted e
+pub wrote_written : (a : Result ℕ Refusal) (n : ℕ) → wrote_says a ≡ grants n → a ≡ Ok n
+wrote_written (Ok m) n e = let q : m ≡ n = cc in rw q
+wrote_written (Err r) n e = not_granted e
 
-pub wrote_refused : (a : Wrote) (n : ℕ) (w : Where) → wrote_says a ≡ refuses n w → (r : Refusal) × (a ≡ Refused r) × Why n w r
-wrote_refused (Written m) n w e = granted e
-wrote_refused (Refused r) n w e = (r, refl, why r e)
+pub wrote_refused : (a : Result ℕ Refusal) (n : ℕ) (w : Where) → wrote_says a ≡ refuses n w → (r : Refusal) × (a ≡ Err r) × Why n w r
+wrote_refused (Ok m) n w e = granted e
+wrote_refused (Err r) n w e = (r, refl, why r e)
 
 pub wrote_apart : WroteApart
-wrote_apart (Written m) b e = sym (wrote_written b m (sym e))
-wrote_apart (Refused r) b e =
+wrote_apart (Ok m) b e = sym (wrote_written b m (sym e))
+wrote_apart (Err r) b e =
     let (q, is, y) = wrote_refused b (refusal_number r) (refusal_place r) (sym e) in
-    ap Refused (refusals_apart r q (sym y.number) (sym y.place)) ∙ sym is
+    ap Err (refusals_apart r q (sym y.number) (sym y.place)) ∙ sym is

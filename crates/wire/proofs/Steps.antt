@@ -8,14 +8,13 @@ use borrow.Author.Tests.{le-leb, lt-leb, lt-ltb, le-ltb, eq-eqb, ne_eqb}
 use native.Mathlib.Omega.{arith}
 use native.Mathlib.Nat.{pos_of_ne-zero}
 use lib.Dec.{leb, ltb, eqb}
+use Rattle.std.proofs.Common.{Result, Ok, Err}
 use Rattle.wire.specs.declared.read.Cursor.{Cursor}
-use Rattle.wire.specs.declared.read.Octet.{Octet}
-use Rattle.wire.specs.declared.read.Number.{Number}
+use Rattle.wire.specs.declared.read.Fault.{Fault}
 use Rattle.wire.specs.declared.read.Part.{Part}
-use Rattle.wire.specs.declared.read.Part.TheVariants.{Whole}
 use Rattle.wire.specs.Mpint.{mpint}
 use Rattle.wire.specs.Read.{same, string_at}
-use Rattle.wire.specs.Steps.{byte, number, part}
+use Rattle.wire.specs.Steps.{number, part}
 use Rattle.wire.proofs.Reading.{cut_there, cut_past, cut_back, string-read}
 
 module _ {A : Type 0} where
@@ -25,29 +24,21 @@ module _ {A : Type 0} where
   pub cond_no : (z : A) (b : Bool) (x a : A) → false ≡ b → x ≡ z → x ≡ cond b a z
   cond_no z b x a e g = rw (← e) g
 
-  pub byte_fault : (z : ℕ → A) (p r : Octet) (F : ℕ → Cursor → A) (x : A) (at : ℕ) → r ≡ Octet.Fault at → r ≡ p → x ≡ z at → x ≡ byte z p F
-  unfolding byte
-  byte_fault z p r F x at q e g = rw (← e, q) g
-
-  pub byte_value : (z : ℕ → A) (p r : Octet) (F : ℕ → Cursor → A) (x : A) (b : ℕ) (k : Cursor) → r ≡ Octet.Value b k → r ≡ p → x ≡ F b k → x ≡ byte z p F
-  unfolding byte
-  byte_value z p r F x b k q e g = rw (← e, q) g
-
-  pub number_fault : (z : ℕ → A) (p r : Number) (F : ℕ → Cursor → A) (x : A) (at : ℕ) → r ≡ Number.Fault at → r ≡ p → x ≡ z at → x ≡ number z p F
+  pub number_fault : (z : ℕ → A) (p r : Result (ℕ × Cursor) Fault) (F : ℕ → Cursor → A) (x : A) (e : Fault) → r ≡ Err e → r ≡ p → x ≡ z e.at → x ≡ number z p F
   unfolding number
-  number_fault z p r F x at q e g = rw (← e, q) g
+  number_fault z p r F x e q h g = rw (← h, q) g
 
-  pub number_value : (z : ℕ → A) (p r : Number) (F : ℕ → Cursor → A) (x : A) (n : ℕ) (k : Cursor) → r ≡ Number.Value n k → r ≡ p → x ≡ F n k → x ≡ number z p F
+  pub number_value : (z : ℕ → A) (p r : Result (ℕ × Cursor) Fault) (F : ℕ → Cursor → A) (x : A) (v : ℕ × Cursor) → r ≡ Ok v → r ≡ p → x ≡ F v.0 v.1 → x ≡ number z p F
   unfolding number
-  number_value z p r F x n k q e g = rw (← e, q) g
+  number_value z p r F x v q h g = rw (← h, q) g
 
-  pub part-fault : (z : ℕ → A) (p r : Part) (F : ℕ → ℕ → Cursor → A) (x : A) (at : ℕ) → r ≡ Part.Fault at → r ≡ p → x ≡ z at → x ≡ part z p F
+  pub part-fault : (z : ℕ → A) (p r : Result Part Fault) (F : ℕ → ℕ → Cursor → A) (x : A) (e : Fault) → r ≡ Err e → r ≡ p → x ≡ z e.at → x ≡ part z p F
   unfolding part
-  part-fault z p r F x at q e g = rw (← e, q) g
+  part-fault z p r F x e q h g = rw (← h, q) g
 
-  pub part-whole : (z : ℕ → A) (p r : Part) (F : ℕ → ℕ → Cursor → A) (x : A) (f t : ℕ) (k : Cursor) → r ≡ Whole f t k → r ≡ p → x ≡ F f t k → x ≡ part z p F
+  pub part-whole : (z : ℕ → A) (p r : Result Part Fault) (F : ℕ → ℕ → Cursor → A) (x : A) (v : Part) → r ≡ Ok v → r ≡ p → x ≡ F v.from v.to v.next → x ≡ part z p F
   unfolding part
-  part-whole z p r F x f t k q e g = rw (← e, q) g
+  part-whole z p r F x v q h g = rw (← h, q) g
 
   pub plain : (x : A) → x ≡ x
   plain x = refl
@@ -83,9 +74,9 @@ same_of v b x y X Y q e f g = cc
 pub mpint-of : (v b : Bool) (x X : List ℕ) → b ≡ v → b ≡ mpint x → x ≡ X → v ≡ mpint X
 mpint-of v b x X q e f = cc
 
-pub string-order : (s : List ℕ) (at f t : ℕ) (k : Cursor) (r : Part) → r ≡ Whole f t k → r ≡ string_at s at → f ≤ t
-string-order s at f t k r e g = let h = string-read s at f t k (sym g ∙ e) in omega arith
+pub string-order : (s : List ℕ) (at : ℕ) (v : Part) (r : Result Part Fault) → r ≡ Ok v → r ≡ string_at s at → v.from ≤ v.to
+string-order s at v r e g = let h = string-read s at v.from v.to v.next (sym g ∙ e) in omega arith
 
-pub ruleset steps = (cond_yes, cond_no, byte_fault, byte_value, number_fault, number_value, part-fault, part-whole, plain, leb_yes, leb_no, ltb_yes, ltb_no, some_yes, some_no, eqb_yes, eqb_no, same_of, mpint-of)
+pub ruleset steps = (cond_yes, cond_no, number_fault, number_value, part-fault, part-whole, plain, leb_yes, leb_no, ltb_yes, ltb_no, some_yes, some_no, eqb_yes, eqb_no, same_of, mpint-of)
 
 pub ruleset all = (steps, cut_there, cut_past, cut_back, string-order, rules)

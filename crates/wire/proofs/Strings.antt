@@ -1,24 +1,25 @@
 -- What lies where in a list of bytes: a reader finds a part exactly where a string lies whose bytes are what it asks for, and else a fault at its place.
 use Prim.Native.Nat.{ℕ, ◌+◌, ◌-◌, ◌^◌, ◌≤◌, ◌<◌}
-use mathlib.Core.Path.{◌≡◌, refl, sym, ap, ◌∙◌}
+use mathlib.Core.Path.{◌≡◌, refl, sym, ap, ap₂, ◌∙◌}
 use mathlib.Core.List.{List, [], ◌++◌, append_assoc}
 use mathlib.Core.Bool.{Bool, true, cond}
 use mathlib.Core.Logic.{◌↔◌, ⊎_elim}
 use native.Mathlib.Omega.{arith}
 use lib.ListN.{length, get_or, drop, length-append, length-drop, get_or-append, get_or-eq_default}
 use lib.Seq.{get_or-drop, drop-drop, take_at, drop_at}
+use Rattle.std.proofs.Common.{Result}
 use Rattle.wire.specs.declared.read.Cursor.{Cursor}
+use Rattle.wire.specs.declared.read.Fault.{Fault}
 use Rattle.wire.specs.declared.read.Part.{Part}
-use Rattle.wire.specs.declared.read.Part.TheVariants.{Whole}
 use Rattle.wire.specs.Numbers.{Bytes, be32}
 use Rattle.wire.specs.Abnf.{Octets}
 use Rattle.wire.specs.Mpint.{mpint, Positive}
 use Rattle.wire.specs.Read.{cut_of, string_at, text_at, mpint_at}
-use Rattle.wire.specs.Steps.{part}
+use Rattle.wire.specs.Steps.{part_of, faulted, part}
 use Rattle.wire.specs.Values.{fault, part_reads}
 use Rattle.wire.specs.Write.{string}
 use Rattle.wire.specs.Promises.{NoString, Longest}
-use Rattle.wire.proofs.Reading.{le_or_lt, cut_there, string-read}
+use Rattle.wire.proofs.Reading.{le_or_lt, part_one, cut_there, string-read}
 use Rattle.wire.proofs.Format.{part_length, string-shape, string-form, be-small}
 use Rattle.wire.proofs.Mpint.{mpint-rule}
 use Rattle.wire.proofs.Longest.{longest-one}
@@ -82,8 +83,8 @@ abbrev pub behind : ℕ → List ℕ → ℕ
 behind at v = at + length (string v)
 
 -- the part that is read where a string lies
-abbrev pub found : ℕ → List ℕ → Part
-found at v = Whole (at + 4) (behind at v) (record { at = behind at v })
+abbrev pub found : ℕ → List ℕ → Result Part Fault
+found at v = part_of (at + 4) (behind at v) (record { at = behind at v })
 
 -- a string lies at a place and is read there
 pub record At (s : List ℕ) (at : ℕ) (v : List ℕ) : Type 0 where
@@ -94,8 +95,8 @@ pub inside : {s : List ℕ} {at : ℕ} {v : List ℕ} → At s at v → Lies s (
 inside {v = v} a = (lies_split (be32 (length v)) v a.lies).1
 
 -- p, read at a place, is a part exactly where a string lies for which T holds
-pub record Reads (T : List ℕ → Type 0) (s : List ℕ) (at : ℕ) (p : Part) : Type 0 where
-  pub taken : (f t : ℕ) (k : Cursor) → p ≡ Whole f t k → (v : List ℕ) × At s at v × T v
+pub record Reads (T : List ℕ → Type 0) (s : List ℕ) (at : ℕ) (p : Result Part Fault) : Type 0 where
+  pub taken : (f t : ℕ) (k : Cursor) → p ≡ part_of f t k → (v : List ℕ) × At s at v × T v
   pub takes : {v : List ℕ} → At s at v → T v → p ≡ found at v
 
 module _ {s : List ℕ} (bytes : Bytes s) {at : ℕ} where
@@ -118,21 +119,19 @@ module _ {s : List ℕ} (bytes : Bytes s) {at : ℕ} where
   }
 
   pub tested_reads : (T : List ℕ → Type 0) (test : ℕ → ℕ → Bool) → ((v : List ℕ) → At s at v → (test (at + 4) (behind at v) ≡ true) ↔ T v)
-      → Reads T s at (part Part.Fault (string_at s at) (λ f t k. cond (test f t) (Whole f t k) (Part.Fault at)))
+      → Reads T s at (part faulted (string_at s at) (λ f t k. cond (test f t) (part_of f t k) (faulted at)))
   tested_reads T test means = record {
     taken = λ f t k e.
         let q = (tested (string_at s at) test (λ f t. at) f t k).0 e in
         let (v, a, h) = string-reads.taken f t k q.0 in
-        let z : Whole f t k ≡ found at v = sym q.0 ∙ a.read in
-        let d : f ≡ at + 4 = cc in
-        let g : t ≡ behind at v = cc in
-        (v, a, (means v a).0 (rw (d, g) at q.1));
+        let z = part_one (sym q.0 ∙ a.read) in
+        (v, a, (means v a).0 (rw (z.from, z.to) at q.1));
     takes = λ {v} a h. (tested (string_at s at) test (λ f t. at) (at + 4) (behind at v) (record { at = behind at v })).1 (a.read, (means v a).1 h);
   }
 
   -- a test of the bytes of a string
   pub bytes-reads : (T : List ℕ → Type 0) (test : List ℕ → Bool) → ((v : List ℕ) → Bytes v → (test v ≡ true) ↔ T v)
-      → Reads T s at (part Part.Fault (string_at s at) (λ f t k. cond (test (cut_of s f t)) (Whole f t k) (Part.Fault at)))
+      → Reads T s at (part faulted (string_at s at) (λ f t k. cond (test (cut_of s f t)) (part_of f t k) (faulted at)))
   bytes-reads T test means = tested_reads T (λ f t. test (cut_of s f t)) λ v a. rw (lies_cut (inside a)) (means v (lies_bytes (inside a) bytes))
 
   pub mpint-reads : Reads Positive s at (mpint_at s at)
@@ -156,44 +155,39 @@ module _ {s : List ℕ} (small : Bytes s) {at : ℕ} where
         let r = (text_rule s at (record { from = f; to = t }) k.at).0 (ap part_reads e) in
         let q = whole_of (string_at s at) (record { from = f; to = t }) k.at r.0 in
         let (v, a, h) = (string-reads small).taken f t (record { at = k.at }) q in
-        let z : Whole f t (record { at = k.at }) ≡ found at v = sym q ∙ a.read in
-        let d : f ≡ at + 4 = cc in
-        let g : t ≡ behind at v = cc in
-        (v, a, rw (d, g, lies_cut (inside a)) at r.1);
+        let z = part_one (sym q ∙ a.read) in
+        (v, a, rw (z.from, z.to, lies_cut (inside a)) at r.1);
     takes = λ {v} a o.
         whole_of (text_at s at) (record { from = at + 4; to = behind at v }) (behind at v)
         ((text_rule s at (record { from = at + 4; to = behind at v }) (behind at v)).1 (ap part_reads a.read, rw (lies_cut (inside a)) o));
   }
 
-  pub took : {T : List ℕ → Type 0} {p : Part} → Reads T s at p → (f t : ℕ) (k : Cursor) → p ≡ Whole f t k → Took T s at f t k
+  pub took : {T : List ℕ → Type 0} {p : Result Part Fault} → Reads T s at p → (f t : ℕ) (k : Cursor) → p ≡ part_of f t k → Took T s at f t k
   took reads f t k e =
       let (v, a, h) = reads.taken f t k e in
-      let z : Whole f t k ≡ found at v = sym e ∙ reads.takes a h in
-      let d : f ≡ at + 4 = cc in
-      let g : t ≡ behind at v = cc in
-      let c : k ≡ record { at = behind at v } = cc in
+      let z = part_one (sym e ∙ reads.takes a h) in
       let w = string-read s at (at + 4) (behind at v) (record { at = behind at v }) a.read in
       record {
         v = v;
         holds = h;
         small = omega (arith, w.end, be-small s at small);
-        from = d;
-        part = cc (lies_cut (inside a));
-        lies = lies_to a.lies g;
-        place = ap (λ (x : Cursor). x.at) c ∙ sym g;
+        from = z.from;
+        part = ap₂ (cut_of s) z.from z.to ∙ lies_cut (inside a);
+        lies = lies_to a.lies z.to;
+        place = ap (λ (x : Cursor). x.at) z.next ∙ sym z.to;
       }
 
 -- ## What does not stand at a place
 
 module _ (s : List ℕ) (small : Bytes s) (at : ℕ) where
-  pub string-missing : NoString (drop at s) → string_at s at ≡ Part.Fault at
-  string-missing never = answers_apart.parts (string_at s at) (Part.Fault at) ((string-cut_rule s at small).1 never)
+  pub string-missing : NoString (drop at s) → string_at s at ≡ faulted at
+  string-missing never = answers_apart.parts (string_at s at) (faulted at) ((string-cut_rule s at small).1 never)
 
-  pub text_missing : NoString (drop at s) → text_at s at ≡ Part.Fault at
-  text_missing never = answers_apart.parts (text_at s at) (Part.Fault at) ((text_fault s at).cut ((string-cut_rule s at small).1 never))
+  pub text_missing : NoString (drop at s) → text_at s at ≡ faulted at
+  text_missing never = answers_apart.parts (text_at s at) (faulted at) ((text_fault s at).cut ((string-cut_rule s at small).1 never))
 
-pub no_text : {s v : List ℕ} {at n : ℕ} → At s at v → (Octets v → ⊥) → Longest v n → text_at s at ≡ Part.Fault (at + 4 + n)
+pub no_text : {s v : List ℕ} {at n : ℕ} → At s at v → (Octets v → ⊥) → Longest v n → text_at s at ≡ faulted (at + 4 + n)
 no_text {s} {v} {at} {n} a never l =
     let (m, k, e) = (text_fault s at).other (record { from = at + 4; to = behind at v }) (behind at v) (ap part_reads a.read) (rw (lies_cut (inside a)) never) in
     let z : m ≡ n = longest-one v m n (rw (lies_cut (inside a)) at k) l in
-    answers_apart.parts (text_at s at) (Part.Fault (at + 4 + n)) (e ∙ ap (λ (i : ℕ). fault (at + 4 + i)) z)
+    answers_apart.parts (text_at s at) (faulted (at + 4 + n)) (e ∙ ap (λ (i : ℕ). fault (at + 4 + i)) z)

@@ -6,8 +6,10 @@ use mathlib.Core.List.{List, [], ◌∷◌, ◌++◌}
 use native.Mathlib.Nat.{add-zero, add-suc, suc-add}
 use native.Mathlib.Numerals.{add-one}
 use native.Mathlib.Omega.{arith}
-use lib.ListN.{length, get_or, take, drop, set, replicate, length-append, length-take, length-drop, take-append-drop, get_or-append}
-use lib.Seq.{sets, sets-eq, length-sets, paste, paste-suc, paste-zero, take-length, take_all, take-suc, take-suc-set, length-take-le, take-take, take-add, drop-drop, take-append-le, take-append_seam, take-append-add, drop-append-add, get_or-append-add, get_or-take, get_or-drop}
+use lib.ListN.{length, get_or, take, drop, set, length-append, length-take, length-drop, take-append-drop, get_or-append}
+use lib.Seq.{sets, sets-eq, length-sets, paste, paste-suc, paste-zero, take-length, take_all, length-take-le, take-take, take-add, drop-drop, take-append-le, take-append-add, drop-append-add, get_or-append-add, get_or-take, get_or-drop}
+use borrow.Rule.Slice.PartMut.{put_mid}
+use Rattle.std.proofs.lemmas.Slice.{put_mid-paste}
 use Rattle.wire.specs.Write.{write}
 
 module _ (l : List ℕ) (at : ℕ) (v : List ℕ) (h : at + length v ≤ length l) where
@@ -52,15 +54,6 @@ module _ (l : List ℕ) (at : ℕ) (v : List ℕ) where
   pub copied_all : (i : ℕ) (o : List ℕ) → o ≡ copied l at v i → i ≡ length v → o ≡ write l at v
   unfolding write copied
   copied_all i o e q = rw (e, q, take-length v)
-
--- four stores in a row
-pub write-four : (l : List ℕ) (at a b c d : ℕ) → at + 4 ≤ length l
-    → set (set (set (set l at a) (at + 1) b) (at + 2) c) (at + 3) d ≡ write l at (a ∷ b ∷ c ∷ d ∷ [])
-write-four l at a b c d h =
-    let e₁ : at + 1 ≡ suc at = add-one at in
-    let e₂ : at + 2 ≡ suc (suc at) = omega arith in
-    let e₃ : at + 3 ≡ suc (suc (suc at)) = omega arith in
-    rw (e₁, e₂, e₃) (write-sets l at (a ∷ b ∷ c ∷ d ∷ []) h)
 
 -- what a second writer leaves behind the first
 pub write-behind : (l : List ℕ) (at : ℕ) (v m : List ℕ) (n : ℕ) (w o : List ℕ) → m ≡ write l at v → o ≡ write m n w
@@ -146,38 +139,36 @@ windows_written l at v m o last h from inside fits room is_last em eo =
 
 -- ## Block by block
 
-module _ (v : List ℕ) (at : ℕ) (b : List ℕ) (i : ℕ) (front : take i b ≡ take i (drop at v)) where
-  -- a loop that fetches a block: one more byte of it is there
-  pub block_more : i < length b → at + i < length v → take (i + 1) (set b i (get_or v (at + i) 0)) ≡ take (i + 1) (drop at v)
-  block_more inside fits =
-      let size : length (drop at v) ≡ length v - at = length-drop at v in
-      rw (add-one i, take-suc-set b i (get_or v (at + i) 0) inside, take-suc (drop at v) i 0 (omega arith), get_or-drop at v i 0, front) refl
-
-  pub block_whole : length b ≡ i → b ≡ take i (drop at v)
-  block_whole all = sym (take_all i b (omega arith)) ∙ front
-
--- what was written to the front of zeros
-module _ (n : ℕ) (v b : List ℕ) (fills : b ≡ write (replicate n 0) 0 v) (fits : length v ≤ n) where
-  pub front_back : take (length v) b ≡ v
-  unfolding write
-  front_back = rw fills (take-append_seam v _)
-
-  pub front_length : length (take (length v) b) ≡ length v
-  front_length = ap length front_back
-
 pub write-none : (l : List ℕ) (at : ℕ) → l ≡ write l at []
 unfolding write
 write-none l at = paste-zero l at []
 
-module _ (w : ℕ) (l : List ℕ) (at : ℕ) (v m b o : List ℕ) (i : ℕ) (before : m ≡ write l at (take i v)) (size : length b ≡ w) (room : at + length v ≤ length l) where
-  -- the bytes before i are written, and a block behind them
-  pub blocks_more : b ≡ take w (drop i v) → o ≡ write m (at + i) b → i + w ≤ length v → o ≡ write l at (take (i + w) v)
-  blocks_more block written fits =
+-- a part that holds v now
+pub write-part : (l : List ℕ) (at n : ℕ) (part v : List ℕ) → part ≡ v → n ≡ length v → put_mid at n l part ≡ write l at v
+unfolding write
+write-part l at n part v e q = put_mid-paste at n l part v (length v) e (sym q) refl ∙ rw (take-length v)
+
+-- o has the first bytes of v, and at most w are left
+pub record Front (w : ℕ) (l : List ℕ) (at : ℕ) (v o : List ℕ) : Type 0 where
+  pub count : ℕ
+  pub is : o ≡ write l at (take count v)
+  pub near : length v ≤ count + w
+  pub inside : count ≤ length v
+
+module _ (w : ℕ) (l : List ℕ) (at : ℕ) (v m : List ℕ) (i : ℕ) (before : m ≡ write l at (take i v)) (room : at + length v ≤ length l) where
+  -- the bytes before i are written, and a block of w behind them
+  pub blocks_more : (k : ℕ) (part : List ℕ) → k ≡ w → part ≡ take w (drop i v) → i + w ≤ length v → put_mid (at + i) k m part ≡ write l at (take (i + w) v)
+  blocks_more k part is block fits =
       let front : length (take i v) ≡ i = length-take-le i v (omega arith) in
-      write-behind l at (take i v) m (at + i) b o before written (omega arith) (omega arith) ∙ ap (λ (b : List ℕ). write l at (take i v ++ b)) block ∙ ap (write l at) (sym (take-add i w v))
+      let rest : length (drop i v) ≡ length v - i = length-drop i v in
+      let size : length (take w (drop i v)) ≡ w = length-take-le w (drop i v) (omega arith) in
+      let written = write-part m (at + i) k part (take w (drop i v)) block (omega arith) in
+      write-behind l at (take i v) m (at + i) (take w (drop i v)) (put_mid (at + i) k m part) before written (omega arith) (omega arith) ∙ ap (write l at) (sym (take-add i w v))
 
   -- the last block overlaps the one before
-  pub blocks_all : (last n : ℕ) → b ≡ take w (drop last v) → o ≡ write m n b → n ≡ at + last → last + w ≡ length v → last ≤ i → i ≤ length v → o ≡ write l at v
-  blocks_all last n block written place ends near inside =
+  pub blocks_all : (last from k : ℕ) (part : List ℕ) → from ≡ at + last → k ≡ w → part ≡ take w (drop last v) → last + w ≡ length v → last ≤ i → i ≤ length v → put_mid from k m part ≡ write l at v
+  blocks_all last from k part place is block ends near inside =
       let rest : length (drop last v) ≡ length v - last = length-drop last v in
-      windows_written l at v m o b i last near inside room (block ∙ take_all w (drop last v) (omega arith)) before (written ∙ ap (λ (n : ℕ). write m n b) place)
+      let all : part ≡ drop last v = block ∙ take_all w (drop last v) (omega arith) in
+      let written = write-part m from k part (drop last v) all (omega arith) in
+      windows_written l at v m (put_mid from k m part) (drop last v) i last near inside room refl before (written ∙ ap (λ (j : ℕ). write m j (drop last v)) place)

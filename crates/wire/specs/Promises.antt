@@ -1,13 +1,12 @@
 -- What the wire promises, as statements; the proofs are in proofs/.
-use Rattle.std.specs.Prelude.{ℕ, ◌+◌, ◌-◌, ◌^◌, ◌≤◌, ◌<◌, ◌≡◌, List, [], ◌∷◌, ◌++◌, true, ◌↔◌, ◌⊎◌, length, get_or, take, drop}
+use Rattle.std.specs.Prelude.{ℕ, ◌+◌, ◌-◌, ◌^◌, ◌≤◌, ◌<◌, ◌≡◌, List, [], ◌∷◌, ◌++◌, true, ◌↔◌, ◌⊎◌, Result, length, get_or, take, drop}
 use Rattle.wire.specs.Limits.{payload_limit}
 use Rattle.wire.specs.declared.frame.Split.{Split}
 use Rattle.wire.specs.declared.refusal.Refusal.{Refusal}
-use Rattle.wire.specs.declared.refusal.Wrote.{Wrote}
-use Rattle.wire.specs.declared.read.Octet.{Octet}
-use Rattle.wire.specs.declared.read.Number.{Number}
+use Rattle.wire.specs.declared.read.Cursor.{Cursor}
+use Rattle.wire.specs.declared.read.Fault.{Fault}
 use Rattle.wire.specs.declared.read.Part.{Part}
-use Rattle.wire.specs.Values.{Reading, read, fault, Span, octet_reads, number_reads, part_reads}
+use Rattle.wire.specs.Values.{Reading, read, fault, Span, number_reads, part_reads}
 use Rattle.wire.specs.Numbers.{Bytes, be32}
 use Rattle.wire.specs.Utf8.{utf8, utf8_end}
 use Rattle.wire.specs.Abnf.{Octets}
@@ -24,9 +23,8 @@ abbrev pub OneToOne : (A B : Type 0) → (A → B) → Type 0
 OneToOne A B values = (a b : A) → values a ≡ values b → a ≡ b
 
 pub record AnswersApart : Type 0 where
-  pub octets : OneToOne Octet (Reading ℕ) octet_reads
-  pub numbers : OneToOne Number (Reading ℕ) number_reads
-  pub parts : OneToOne Part (Reading Span) part_reads
+  pub numbers : OneToOne (Result (ℕ × Cursor) Fault) (Reading ℕ) number_reads  -- bytes too
+  pub parts : OneToOne (Result Part Fault) (Reading Span) part_reads
 
 -- ## Bytes, numbers and strings: what is accepted is exactly what the format writes
 
@@ -34,11 +32,11 @@ pub record AnswersApart : Type 0 where
 abbrev pub ByteRule : Type 0
 ByteRule =
     (s : List ℕ) (at b : ℕ) (rest : List ℕ)
-    → (drop at s ≡ b ∷ rest) ↔ ((octet_reads (byte_at s at) ≡ read b (at + 1)) × (drop (at + 1) s ≡ rest))
+    → (drop at s ≡ b ∷ rest) ↔ ((number_reads (byte_at s at) ≡ read b (at + 1)) × (drop (at + 1) s ≡ rest))
 
 -- where no byte stands, the fault is there
 abbrev pub ByteCut : Type 0
-ByteCut = (s : List ℕ) (at : ℕ) → (octet_reads (byte_at s at) ≡ fault at) ↔ (drop at s ≡ [])
+ByteCut = (s : List ℕ) (at : ℕ) → (number_reads (byte_at s at) ≡ fault at) ↔ (drop at s ≡ [])
 
 -- n and then rest stand at `at` exactly where the reader finds n there and rest behind it
 abbrev pub NumberRule : Type 0
@@ -191,4 +189,4 @@ abbrev pub RefusalsApart : Type 0
 RefusalsApart = (a b : Refusal) → refusal_number a ≡ refusal_number b → refusal_place a ≡ refusal_place b → a ≡ b
 
 abbrev pub WroteApart : Type 0
-WroteApart = OneToOne Wrote (Says ℕ) wrote_says
+WroteApart = OneToOne (Result ℕ Refusal) (Says ℕ) wrote_says

@@ -1,8 +1,7 @@
 -- 01's number for each refusal of a reader or writer ("When; output untouched"), its place, and what an answer then says.
-use Rattle.std.specs.Prelude.{ℕ}
+use Rattle.std.specs.Prelude.{ℕ, Result, Ok, Err}
 use Rattle.wire.specs.declared.refusal.Refusal.{Refusal}
 use Rattle.wire.specs.declared.refusal.Refusal.TheVariants.{OutputTooShort, Malformed, UnfitType, AgentFailure, OtherReply, NoSuchItem, PayloadTooLong, TooManyConstraints}
-use Rattle.wire.specs.declared.refusal.Wrote.{Wrote}
 
 abbrev pub refusal_number : Refusal → ℕ
 refusal_number OutputTooShort = 11
@@ -35,6 +34,6 @@ pub data Says (A : Type 0) : Type 0 where
   refuses : ℕ → Where → Says A  -- 01's number of the refusal, and the place of the fault
 
 -- the length of what was written
-abbrev pub wrote_says : Wrote → Says ℕ
-wrote_says (Wrote.Written n) = grants n
-wrote_says (Wrote.Refused r) = refuses (refusal_number r) (refusal_place r)
+abbrev pub wrote_says : Result ℕ Refusal → Says ℕ
+wrote_says (Ok n) = grants n
+wrote_says (Err r) = refuses (refusal_number r) (refusal_place r)

@@ -1,20 +1,26 @@
--- How a definition goes on by what was read. Where it does not go on, `z` is the answer, at a fault by its place.
-use Rattle.std.specs.Prelude.{ℕ}
+-- What a reader answers, and how a definition goes on by it. Where it does not go on, `z` is the answer, at a fault by its place.
+use Rattle.std.specs.Prelude.{ℕ, Result, Ok, Err}
 use Rattle.wire.specs.declared.read.Cursor.{Cursor}
-use Rattle.wire.specs.declared.read.Octet.{Octet}
-use Rattle.wire.specs.declared.read.Number.{Number}
+use Rattle.wire.specs.declared.read.Fault.{Fault}
 use Rattle.wire.specs.declared.read.Part.{Part}
-use Rattle.wire.specs.declared.read.Part.TheVariants.{Whole}
+
+-- a value and the place behind it
+abbrev pub got : {A : Type 0} → A → Cursor → Result (A × Cursor) Fault
+got a k = Ok (a, k)
+
+-- the part from f up to t, and the place behind it
+abbrev pub part_of : ℕ → ℕ → Cursor → Result Part Fault
+part_of f t k = Ok (record { from = f; to = t; next = k })
+
+abbrev pub faulted : {A : Type 0} → ℕ → Result A Fault
+faulted at = Err (record { at = at })
 
 module _ {A : Type 0} where
-  unfoldable pub byte : (ℕ → A) → Octet → (ℕ → Cursor → A) → A
-  byte z (Octet.Value b k) next = next b k
-  byte z (Octet.Fault at) next = z at
+  -- a byte is a number too
+  unfoldable pub number : (ℕ → A) → Result (ℕ × Cursor) Fault → (ℕ → Cursor → A) → A
+  number z (Ok r) next = next r.0 r.1
+  number z (Err e) next = z e.at
 
-  unfoldable pub number : (ℕ → A) → Number → (ℕ → Cursor → A) → A
-  number z (Number.Value n k) next = next n k
-  number z (Number.Fault at) next = z at
-
-  unfoldable pub part : (ℕ → A) → Part → (ℕ → ℕ → Cursor → A) → A
-  part z (Whole f t k) next = next f t k
-  part z (Part.Fault at) next = z at
+  unfoldable pub part : (ℕ → A) → Result Part Fault → (ℕ → ℕ → Cursor → A) → A
+  part z (Ok p) next = next p.from p.to p.next
+  part z (Err e) next = z e.at

@@ -1,37 +1,40 @@
 -- UTF-8 as RFC 3629, section 4, has it: a first byte says how many bytes follow and what the first of these may be; all others are 80 to BF.
-use Rattle.std.specs.Prelude.{ℕ, zero, suc, ◌-◌, List, [], ◌∷◌, Bool, false, cond, length, take, eqb, leb}
-use Rattle.wire.specs.declared.utf8.Utf.{Utf}
-use Rattle.wire.specs.declared.utf8.Utf.TheVariants.{Tails, Bad}
+use Rattle.std.specs.Prelude.{ℕ, zero, suc, ◌-◌, List, [], ◌∷◌, Bool, false, cond, Option, Some, None, length, take, eqb, leb}
+use Rattle.wire.specs.declared.utf8.Tails.{Tails}
 use Rattle.wire.specs.Numbers.{within}
 
-unfoldable pub lead_of : ℕ → Utf
+-- the state: what must follow, or no UTF-8 at all
+abbrev pub wants : ℕ → ℕ → ℕ → Option Tails
+wants left low high = Some (record { left = left; low = low; high = high })
+
+unfoldable pub lead_of : ℕ → Option Tails
 lead_of b =
-    cond (within 0x00 0x7F b) (Tails 0 0x80 0xBF)
-    (cond (within 0xC2 0xDF b) (Tails 1 0x80 0xBF)
-    (cond (within 0xE0 0xE0 b) (Tails 2 0xA0 0xBF)
-    (cond (within 0xE1 0xEC b) (Tails 2 0x80 0xBF)
-    (cond (within 0xED 0xED b) (Tails 2 0x80 0x9F)
-    (cond (within 0xEE 0xEF b) (Tails 2 0x80 0xBF)
-    (cond (within 0xF0 0xF0 b) (Tails 3 0x90 0xBF)
-    (cond (within 0xF1 0xF3 b) (Tails 3 0x80 0xBF)
-    (cond (within 0xF4 0xF4 b) (Tails 3 0x80 0x8F)
-    Bad))))))))
+    cond (within 0x00 0x7F b) (wants 0 0x80 0xBF)
+    (cond (within 0xC2 0xDF b) (wants 1 0x80 0xBF)
+    (cond (within 0xE0 0xE0 b) (wants 2 0xA0 0xBF)
+    (cond (within 0xE1 0xEC b) (wants 2 0x80 0xBF)
+    (cond (within 0xED 0xED b) (wants 2 0x80 0x9F)
+    (cond (within 0xEE 0xEF b) (wants 2 0x80 0xBF)
+    (cond (within 0xF0 0xF0 b) (wants 3 0x90 0xBF)
+    (cond (within 0xF1 0xF3 b) (wants 3 0x80 0xBF)
+    (cond (within 0xF4 0xF4 b) (wants 3 0x80 0x8F)
+    None))))))))
 
-unfoldable pub step_of : Utf → ℕ → Utf
-step_of Bad b = Bad
-step_of (Tails left low high) b = cond (eqb left 0) (lead_of b) (cond (within low high b) (Tails (left - 1) 0x80 0xBF) Bad)
+unfoldable pub step_of : Option Tails → ℕ → Option Tails
+step_of None b = None
+step_of (Some t) b = cond (eqb t.left 0) (lead_of b) (cond (within t.low t.high b) (wants (t.left - 1) 0x80 0xBF) None)
 
-unfoldable pub steps_of : Utf → List ℕ → Utf
+unfoldable pub steps_of : Option Tails → List ℕ → Option Tails
 steps_of u [] = u
 steps_of u (b ∷ s) = steps_of (step_of u b) s
 
 -- a character ends here
-unfoldable pub ended : Utf → Bool
-ended Bad = false
-ended (Tails left low high) = eqb left 0
+unfoldable pub ended : Option Tails → Bool
+ended None = false
+ended (Some t) = eqb t.left 0
 
-abbrev pub start : Utf
-start = Tails 0 0x80 0xBF
+abbrev pub start : Option Tails
+start = wants 0 0x80 0xBF
 
 unfoldable pub utf8 : List ℕ → Bool
 utf8 s = ended (steps_of start s)

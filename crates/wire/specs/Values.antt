@@ -1,9 +1,8 @@
 -- Answers in 01's words: "a reading place takes the next string and hands back the place behind it", or there is a fault at a place.
-use Rattle.std.specs.Prelude.{ℕ}
-use Rattle.wire.specs.declared.read.Octet.{Octet}
-use Rattle.wire.specs.declared.read.Number.{Number}
+use Rattle.std.specs.Prelude.{ℕ, Result, Ok, Err}
+use Rattle.wire.specs.declared.read.Cursor.{Cursor}
+use Rattle.wire.specs.declared.read.Fault.{Fault}
 use Rattle.wire.specs.declared.read.Part.{Part}
-use Rattle.wire.specs.declared.read.Part.TheVariants.{Whole}
 
 pub data Reading (A : Type 0) : Type 0 where
   read : A → ℕ → Reading A  -- what was read, and the place behind it
@@ -14,14 +13,11 @@ pub record Span : Type 0 where
   pub from : ℕ
   pub to : ℕ
 
-abbrev pub octet_reads : Octet → Reading ℕ
-octet_reads (Octet.Value b k) = read b k.at
-octet_reads (Octet.Fault at) = fault at
+-- of a byte or a number
+abbrev pub number_reads : Result (ℕ × Cursor) Fault → Reading ℕ
+number_reads (Ok r) = read r.0 r.1.at
+number_reads (Err e) = fault e.at
 
-abbrev pub number_reads : Number → Reading ℕ
-number_reads (Number.Value n k) = read n k.at
-number_reads (Number.Fault at) = fault at
-
-abbrev pub part_reads : Part → Reading Span
-part_reads (Whole f t k) = read (record { from = f; to = t }) k.at
-part_reads (Part.Fault at) = fault at
+abbrev pub part_reads : Result Part Fault → Reading Span
+part_reads (Ok p) = read (record { from = p.from; to = p.to }) p.next.at
+part_reads (Err e) = fault e.at

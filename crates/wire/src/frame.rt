@@ -5,7 +5,7 @@ ghost use Rattle.wire.specs.Parts.{PartOf};
 ghost use Rattle.wire.specs.Frames.{split_of, frame_payload, payload_from};
 
 use crate::limits;
-use crate::read::{Cursor, Number, cut};
+use crate::read::{Cursor, cut};
 
 // A whole frame's payload lies from `from` up to `to`.
 #[derive(Clone, Copy)]
@@ -22,7 +22,7 @@ pub fn read_frame(s: &[u8]) -> Split
     ensures { result ≡ split_of s.now }
 {
     let start = Cursor { at: 0 };
-    let Number::Value(n, next) = start.number(s) else {
+    let Ok((n, next)) = start.number(s) else {
         return Split::MoreNeeded;
     };
     if LIMIT < n {
@@ -40,10 +40,8 @@ pub fn read_frame(s: &[u8]) -> Split
 pub fn frame_payload(s: &[u8]) -> &[u8]
     ensures { PartOf s.entry (payload_from s.now) (frame_payload s.now) result }
 {
-    let split = read_frame(s);
-    match split {
+    match read_frame(s) {
         Split::Frame { from, to } => cut(s, from, to),
-        Split::MoreNeeded => cut(s, 0, 0),
-        Split::TooLong => cut(s, 0, 0),
+        Split::MoreNeeded | Split::TooLong => cut(s, 0, 0),
     }
 }

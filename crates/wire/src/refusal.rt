@@ -1,7 +1,11 @@
 // How readers and writers of messages answer where they refuse.
+ghost use Rattle.std.specs.Prelude.{◌≡◌};
+ghost use Rattle.wire.specs.declared.refusal.Refusal.TheVariants.{Malformed};
+
+use crate::read::Fault;
 
 // Why one refuses; its output is then untouched. 01's numbers are in specs/Refusals.antt.
-#[derive(Clone, Copy)]
+#[derive(Clone, Copy, PartialEq, Eq)]
 pub enum Refusal {
     OutputTooShort,
     Malformed(usize),
@@ -13,9 +17,10 @@ pub enum Refusal {
     TooManyConstraints,
 }
 
-// What a writer did: the length of what it wrote to the front of the output.
-#[derive(Clone, Copy)]
-pub enum Wrote {
-    Written(usize),
-    Refused(Refusal),
+impl From<Fault> for Refusal {
+    ghost from_gives = { λ f r. r ≡ Malformed f.at };
+
+    fn from(f: Fault) -> Refusal {
+        Refusal::Malformed(f.at)
+    }
 }

@@ -1,10 +1,9 @@
 -- What is due at the raised clock is gone, and that clock is kept. Assumes nothing.
-use Rattle.table.specs.Entries.{columns}
 use Rattle.changes.proofs.ChangeLaws.{advanced}
 use Rattle.changes.proofs.advance.Goals as goal
 
 pub returns : goal.returns
 returns c =
     let a = c.args in
-    let t = columns a.numbers.now a.readings.now a.blob_lens.now a.fields_lens.now a.comment_lens.now a.seconds.now a.limited.now a.confirm.now in
+    let t = a.t.now in
     advanced t a.store.now _ _ a.kept _ a.reading (λ j. record { clock = c.later-clock.ensures j; next = a.kept.next; locked = a.kept.locked }) (rw c.later-clock.ensures at c.expire.ensures)

@@ -1,7 +1,6 @@
 -- What is due is marked, and goes; where no mark is set all last, and without lifetimes none is. Assumes nothing.
 use borrow.Author.Rules.{rules}
 use mathlib.Core.Path.{sym, ◌∙◌}
-use Rattle.table.specs.Entries.{columns}
 use Rattle.changes.proofs.ChangeLaws.{shown_closable, due_gone, none_due, none_limited}
 use Rattle.changes.proofs.expire.Goals.{After-mark_due, Start}
 use Rattle.changes.proofs.expire.Goals as goal
@@ -13,24 +12,19 @@ begun c = search
 pub returns-then-is_zero : goal.returns-then-is_zero
 returns-then-is_zero c =
     let a = c.args in
-    let t = columns a.numbers.now a.readings.now a.blob_lens.now a.fields_lens.now a.comment_lens.now a.seconds.now a.limited.now a.confirm.now in
+    let t = a.t.now in
     none_limited a.clock t a.store.now (sym c.is_zero.ensures ∙ c.if-is_zero.true)
-
-pub mark_due-requires : goal.mark_due-requires
-mark_due-requires c =
-    let h = shown_closable _ _ c.requires in
-    (search rules, h.long.readings, h.long.seconds, h.long.limited)
 
 pub returns-then-is_zero-2 : goal.returns-then-is_zero-2
 returns-then-is_zero-2 c =
     let a = c.args in
-    let t = columns a.numbers.now a.readings.now a.blob_lens.now a.fields_lens.now a.comment_lens.now a.seconds.now a.limited.now a.confirm.now in
+    let t = a.t.now in
     none_due a.clock t a.store.now _ c.mark_due.ensures (sym c.is_zero-2.ensures ∙ c.if-is_zero-2.true)
 
 pub close-requires : goal.close-requires
 close-requires c =
     let h = shown_closable _ _ c.requires in
-    (h.long, search rules, h.store_sized, h.room, h.end)
+    (search rules, h.store_sized, h.room, h.end)
 
 pub returns : goal.returns
 unfolding begun
@@ -38,5 +32,5 @@ returns c =
     let start = begun (goal.at.returns c).After-mark_due in
     let a = start.args in
     let x = c.close in
-    let t = columns a.numbers.now a.readings.now a.blob_lens.now a.fields_lens.now a.comment_lens.now a.seconds.now a.limited.now a.confirm.now in
+    let t = a.t.now in
     due_gone a.clock t a.store.now _ _ _ c.mark_due.ensures x.ensures.0 x.ensures.1

@@ -4,7 +4,7 @@ use mathlib.Core.Path.{refl, ap, ◌∙◌}
 use mathlib.Core.List.{◌++◌}
 use Rattle.rule.specs.Rule.{brought}
 use Rattle.table.specs.declared.Figures.{Figures}
-use Rattle.table.specs.Entries.{columns, figures_set}
+use Rattle.table.specs.Entries.{figures_set}
 use Rattle.table.specs.Changes.{bytes_put}
 use Rattle.changes.proofs.ChangeLaws.{may_put_room, key-put}
 use Rattle.changes.proofs.put.Goals as goal
@@ -13,7 +13,7 @@ pub put_bytes-requires : goal.put_bytes-requires
 put_bytes-requires c = rw (c.cut.ensures.bytes, c.cut-2.ensures.bytes) (may_put_room _ _ _ _ c.requires.may)
 
 pub set_figures-requires : goal.set_figures-requires
-set_figures-requires c = ((may_put_room _ _ _ _ c.requires.may).inside, c.requires.may.sound.long)
+set_figures-requires c = (may_put_room _ _ _ _ c.requires.may).inside
 
 pub overflow_add-result : goal.overflow_add-result
 overflow_add-result c =
@@ -23,9 +23,9 @@ overflow_add-result c =
 pub returns : goal.returns
 returns c =
     let a = c.args in
-    let t = columns a.numbers.now a.readings.now a.blob_lens.now a.fields_lens.now a.comment_lens.now a.seconds.now a.limited.now a.confirm.now in
+    let t = a.t.now in
     let new = brought a.payload.now a.carried a.blob.now in
     key-put t a.store.now _ _ a.kept _ a.i new refl
     (c.set_figures.ensures ∙ ap (λ (f : Figures). figures_set a.i f t) c.held_figures.ensures)
     (c.put_bytes.ensures
-    ∙ (λ j. bytes_put a.blob_lens.now a.fields_lens.now a.comment_lens.now a.i (a.blob.now ++ (c.cut.ensures.bytes j ++ c.cut-2.ensures.bytes j)) a.store.now))
+    ∙ (λ j. bytes_put a.t.now.blob_lens a.t.now.fields_lens a.t.now.comment_lens a.i (a.blob.now ++ (c.cut.ensures.bytes j ++ c.cut-2.ensures.bytes j)) a.store.now))

@@ -14,4 +14,4 @@ pub returns : goal.returns
 returns c =
     met _ _ _ _ _
     (more (record { small = omega arith; fits = omega arith; place = c.put_number-at.ensures.0; holds = c.put_number-at.ensures.1 })
-    _ _ _ _ c.put_byte-next.ensures.1 c.put_byte-next.ensures.0 refl (omega arith))
+    _ _ _ _ c.put_byte.ensures.1 c.put_byte.ensures.0 refl (omega arith))

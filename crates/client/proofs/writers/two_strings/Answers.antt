@@ -11,25 +11,25 @@ returns-then-a-gt-PAYLOAD_LIMIT c = too_long _ _ _ (omega arith)
 pub returns-then-b-gt-PAYLOAD_LIMIT : goal.returns-then-b-gt-PAYLOAD_LIMIT
 returns-then-b-gt-PAYLOAD_LIMIT c = too_long _ _ _ (omega arith)
 
-pub returns-in_default : goal.returns-in_default
-returns-in_default c = refused _ _ _ _ _ c.begin-w.ensures _ c.in_default.is _ _ refl
+pub returns-in_err-at : goal.returns-in_err-at
+returns-in_err-at c = refused _ _ _ _ _ c.begin.ensures _ c.in_err-at.was _ _ refl _ c.from_residual.ensures.1
 
 pub put_string-second-requires : goal.put_string-second-requires
 put_string-second-requires c =
-    let s = stage _ _ _ _ _ c.begin-w.ensures _ c.in-Written.is in
+    let s = stage _ _ _ _ _ c.begin.ensures _ c.in_ok-at.was in
     let l = stage_size s (omega arith) in
     omega arith
 
-pub put_string-end-requires : goal.put_string-end-requires
-put_string-end-requires c =
-    let s = stage _ _ _ _ _ c.begin-w.ensures _ c.in-Written.is in
+pub put_string-requires : goal.put_string-requires
+put_string-requires c =
+    let s = stage _ _ _ _ _ c.begin.ensures _ c.in_ok-at.was in
     let t = string-more s c.args.a.now _ _ _ c.put_string-second.ensures.1 c.put_string-second.ensures.0 refl (omega arith) in
     let l = stage_size t (omega arith) in
     omega arith
 
 pub returns : goal.returns
 returns c =
-    let s = stage _ _ _ _ _ c.begin-w.ensures _ c.in-Written.is in
+    let s = stage _ _ _ _ _ c.begin.ensures _ c.in_ok-at.was in
     let t = string-more s c.args.a.now _ _ _ c.put_string-second.ensures.1 c.put_string-second.ensures.0 refl (omega arith) in
-    let u = string-more t c.args.b.now _ _ _ c.put_string-end.ensures.1 c.put_string-end.ensures.0 refl (simp length-append (omega arith)) in
+    let u = string-more t c.args.b.now _ _ _ c.put_string.ensures.1 c.put_string.ensures.0 refl (simp length-append (omega arith)) in
     met _ _ _ _ _ u

@@ -2,7 +2,6 @@
 -- inner call. Assumes nothing.
 use mathlib.Core.Path.{◌∙◌}
 use Rattle.table.specs.declared.State.{State}
-use Rattle.table.specs.Entries.{columns}
 use Rattle.table.specs.Meaning.{held}
 use Rattle.server.proofs.CallLaws.{refused_as, refuses_1, refuses_4, refuses_5, accepts, lent-short}
 use Rattle.server.proofs.InnerLaws.{inner_meets}
@@ -13,7 +12,7 @@ use Rattle.engine.proofs.call.inner_lent.Goals as goal
 abbrev lent-state : Start → State
 lent-state start =
     let a = start.args in
-    held (columns a.numbers.now a.readings.now a.blob_lens.now a.fields_lens.now a.comment_lens.now a.seconds.now a.limited.now a.confirm.now) a.passphrase.now a.kept
+    held a.t.now a.passphrase.now a.kept
 
 pub returns-then-reply-lt-REPLY_ROOM : goal.returns-then-reply-lt-REPLY_ROOM
 returns-then-reply-lt-REPLY_ROOM c =
@@ -21,17 +20,17 @@ returns-then-reply-lt-REPLY_ROOM c =
     inner_meets _ _ _ _ _ _ _ _ _ _ _ c.requires
     (refuses_1 _ _ _ _ _ _ _ _ c.if-reply-lt-REPLY_ROOM.true (refused_as (lent-state (goal.at.returns-then-reply-lt-REPLY_ROOM c).Start).columns a.passphrase.now _ _ _ c.refused.ensures))
 
-pub returns-then-payload-gt-PAYLOAD_LIMIT : goal.returns-then-payload-gt-PAYLOAD_LIMIT
-returns-then-payload-gt-PAYLOAD_LIMIT c =
+pub returns-then-asked-gt-PAYLOAD_LIMIT : goal.returns-then-asked-gt-PAYLOAD_LIMIT
+returns-then-asked-gt-PAYLOAD_LIMIT c =
     let a = c.args in
     inner_meets _ _ _ _ _ _ _ _ _ _ _ c.requires
-    (refuses_4 _ _ _ _ _ _ _ c.if-reply-lt-REPLY_ROOM.false c.requires _ c.if-payload-gt-PAYLOAD_LIMIT.true (refused_as (lent-state (goal.at.returns-then-payload-gt-PAYLOAD_LIMIT c).Start).columns a.passphrase.now _ _ _ c.refused-then-payload-gt-PAYLOAD_LIMIT.ensures))
+    (refuses_4 _ _ _ _ _ _ _ c.if-reply-lt-REPLY_ROOM.false c.requires _ c.if-asked-gt-PAYLOAD_LIMIT.true (refused_as (lent-state (goal.at.returns-then-asked-gt-PAYLOAD_LIMIT c).Start).columns a.passphrase.now _ _ _ c.refused-then-asked-gt-PAYLOAD_LIMIT.ensures))
 
 pub returns-then-lent_length-gt-SIGNATURE_LIMIT : goal.returns-then-lent_length-gt-SIGNATURE_LIMIT
 returns-then-lent_length-gt-SIGNATURE_LIMIT c =
     let a = c.args in
     inner_meets _ _ _ _ _ _ _ _ _ _ _ c.requires
-    (refuses_5 _ _ _ _ _ _ _ c.if-reply-lt-REPLY_ROOM.false c.requires _ c.if-payload-gt-PAYLOAD_LIMIT.false c.lent_length.ensures _ c.if-lent_length-gt-SIGNATURE_LIMIT.true
+    (refuses_5 _ _ _ _ _ _ _ c.if-reply-lt-REPLY_ROOM.false c.requires _ c.if-asked-gt-PAYLOAD_LIMIT.false c.lent_length.ensures _ c.if-lent_length-gt-SIGNATURE_LIMIT.true
     (refused_as (lent-state (goal.at.returns-then-lent_length-gt-SIGNATURE_LIMIT c).Start).columns a.passphrase.now _ _ _ c.refused-then-lent_length-gt-SIGNATURE_LIMIT.ensures))
 
 pub advance-raised-requires : goal.advance-raised-requires
@@ -40,7 +39,7 @@ advance-raised-requires c = record { bytes = c.args.passphrase.now; sound = c.re
 pub respond-requires : goal.respond-requires
 respond-requires c =
     let a = c.args in
-    (c.if-reply-lt-REPLY_ROOM.false, lent-short a.answers _ _ c.lent_length.ensures c.if-lent_length-gt-SIGNATURE_LIMIT.false, (c.advance-raised.ensures a.passphrase.now c.requires).sound)
+    (c.if-reply-lt-REPLY_ROOM.false, lent-short a.asked.answers _ _ c.lent_length.ensures c.if-lent_length-gt-SIGNATURE_LIMIT.false, (c.advance-raised.ensures a.passphrase.now c.requires).sound)
 
 pub shape_of-store : goal.shape_of-store
 shape_of-store c = c.respond.auto.store ∙ c.advance-raised.auto.store
@@ -48,5 +47,5 @@ shape_of-store c = c.respond.auto.store ∙ c.advance-raised.auto.store
 pub returns : goal.returns
 returns c =
     inner_meets _ _ _ _ _ _ _ _ _ _ _ c.requires
-    (accepts (lent-state (goal.at.returns c).Start) _ _ _ _ _ _ c.if-reply-lt-REPLY_ROOM.false c.requires _ c.if-payload-gt-PAYLOAD_LIMIT.false c.lent_length.ensures _ _ _ _ _ c.if-lent_length-gt-SIGNATURE_LIMIT.false
+    (accepts (lent-state (goal.at.returns c).Start) _ _ _ _ _ _ c.if-reply-lt-REPLY_ROOM.false c.requires _ c.if-asked-gt-PAYLOAD_LIMIT.false c.lent_length.ensures _ _ _ _ _ c.if-lent_length-gt-SIGNATURE_LIMIT.false
     (c.advance-raised.ensures c.args.passphrase.now c.requires) c.respond.ensures)

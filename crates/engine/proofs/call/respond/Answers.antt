@@ -2,7 +2,6 @@
 use native.Mathlib.Omega.{arith}
 use mathlib.Core.Path.{refl, ◌∙◌}
 use Rattle.table.specs.declared.State.{State}
-use Rattle.table.specs.Entries.{columns}
 use Rattle.table.specs.Meaning.{held}
 use Rattle.table.specs.Shown.{ShowsParts}
 use Rattle.table.proofs.ReadLaws.{state_locked}
@@ -15,7 +14,7 @@ use Rattle.engine.proofs.call.respond.Goals as goal
 abbrev lent-state : Start → State
 lent-state start =
     let a = start.args in
-    held (columns a.numbers.now a.readings.now a.blob_lens.now a.fields_lens.now a.comment_lens.now a.seconds.now a.limited.now a.confirm.now) a.passphrase.now a.kept
+    held a.t.now a.passphrase.now a.kept
 
 -- its columns are its own
 its_own : {s : State} → ShowsParts s.columns.numbers s.columns.blob_lens s.columns.fields_lens s.columns.comment_lens s
@@ -69,19 +68,19 @@ pub returns-in-Add : goal.returns-in-Add
 returns-in-Add c =
     let s = lent-state (goal.at.returns-in-Add c).Start in
     served-row s _ _ _ _ _ _ _ _ _ _ (c.is_locked-locked.ensures ∙ state_locked s _ c.requires.2) c.row_in.ensures _ c.in-Add.is
-    (c.add_key.ensures c.args.passphrase.now c.requires.2 _ (check_lent c.args.answers _))
+    (c.add_key.ensures c.args.passphrase.now c.requires.2 _ (check_lent c.args.asked.answers _))
 
 pub returns-in-Remove : goal.returns-in-Remove
 returns-in-Remove c =
     let s = lent-state (goal.at.returns-in-Remove c).Start in
     served-row s _ _ _ _ _ _ _ _ _ _ (c.is_locked-locked.ensures ∙ state_locked s _ c.requires.2) c.row_in.ensures _ c.in-Remove.is
-    (c.remove_identity.ensures s (refl) c.requires.2 _)
+    (c.remove_identity.ensures s refl c.requires.2 _)
 
 pub returns-in-RemoveAll : goal.returns-in-RemoveAll
 returns-in-RemoveAll c =
     let s = lent-state (goal.at.returns-in-RemoveAll c).Start in
     served-row s _ _ _ _ _ _ _ _ _ _ (c.is_locked-locked.ensures ∙ state_locked s _ c.requires.2) c.row_in.ensures _ c.in-RemoveAll.is
-    (c.remove_all_identities.ensures s (refl) c.requires.2 _)
+    (c.remove_all_identities.ensures s refl c.requires.2 _)
 
 pub returns-in-Sign : goal.returns-in-Sign
 returns-in-Sign c =

@@ -10,5 +10,5 @@ returns-in-TooLong c = too_long _ _ _ _ _ _ c.read_frame.ensures c.in-TooLong.is
 
 pub returns-in-Frame : goal.returns-in-Frame
 returns-in-Frame c =
-    begins _ _ _ _ _ _ c.read_frame.ensures _ _ _ _ _ _ _ _ _ _ c.in-Frame.is c.frame_payload-payload.ensures.bytes
-    c.nothing_lent.ensures c.cut-signature.ensures.bytes c.call_lent-landed.ensures c.first_in.ensures
+    begins _ _ _ _ _ _ c.read_frame.ensures _ _ _ _ _ _ _ _ _ _ c.in-Frame.is c.frame_payload.ensures.bytes
+    c.nothing_lent.ensures c.cut.ensures.bytes c.call_lent-landed.ensures c.first_in.ensures

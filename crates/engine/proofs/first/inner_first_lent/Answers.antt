@@ -12,5 +12,5 @@ returns-in-TooLong c = inner_first_meets _ _ _ _ _ _ _ _ _ c.requires (too_long 
 pub returns-in-Frame : goal.returns-in-Frame
 returns-in-Frame c =
     inner_first_meets _ _ _ _ _ _ _ _ _ c.requires
-    (begins _ _ _ _ _ _ c.read_frame.ensures _ _ _ _ _ _ _ _ _ _ c.in-Frame.is c.frame_payload-payload.ensures.bytes
-    c.nothing_lent.ensures c.cut-signature.ensures.bytes c.inner_lent-landed.ensures.meets c.first_in.ensures)
+    (begins _ _ _ _ _ _ c.read_frame.ensures _ _ _ _ _ _ _ _ _ _ c.in-Frame.is c.frame_payload.ensures.bytes
+    c.nothing_lent.ensures c.cut.ensures.bytes c.inner_lent-landed.ensures.meets c.first_in.ensures)

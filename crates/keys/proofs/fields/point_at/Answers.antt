@@ -1,16 +1,8 @@
--- The definition goes by the same steps. Assumes nothing.
-use Rattle.keys.specs.Fields.{point_at}
-use Rattle.keys.proofs.FieldSteps.{all}
+-- The closure tests what the definition does. Assumes nothing.
+use borrow.Author.Rules.{rules}
+use Rattle.keys.specs.Fields.{passing_at, point_at, uncompressed}
 use Rattle.keys.proofs.fields.point_at.Goals as goal
 
-pub returns-in_default : goal.returns-in_default
-unfolding point_at
-returns-in_default c = search all depth 16
-
-pub returns-then-is_uncompressed : goal.returns-then-is_uncompressed
-unfolding point_at
-returns-then-is_uncompressed c = search all depth 16
-
 pub returns : goal.returns
-unfolding point_at
-returns c = search all depth 16
+unfolding point_at passing_at
+returns c = c.passing.ensures (λ v. uncompressed v c.args.n) (λ x r q. rw (← q.shows) (search rules))

@@ -9,4 +9,4 @@ use Rattle.lookups.proofs.held.told.Goals as goal
 pub returns : goal.returns
 returns c s i k same-clock figures comment begins =
     let f = c.args.f in
-    told_is s i _ c.args.from f c.args.comment k figures comment (c.left_at-left.ensures ∙ ap (λ (t : Millis). left_at t f.reading (lifetime_of f)) (sym same-clock)) begins
+    told_is s i _ c.args.from f c.args.comment k figures comment (c.left_at.ensures ∙ ap (λ (t : Millis). left_at t f.reading (lifetime_of f)) (sym same-clock)) begins

@@ -1,33 +1,41 @@
 -- The definition goes by the same tests and readers. Assumes nothing.
-use borrow.Author.Rules.{rules}
+use mathlib.Core.Path.{◌≡◌, ap}
+use native.Mathlib.Omega.{arith}
+use borrow.Author.Tests.{le-ltb, lt-ltb, ne_eqb}
+use lib.ListN.{length, get_or}
+use Rattle.std.specs.Prelude.{Err}
+use Rattle.std.proofs.lemmas.Result.{err_from_is_err_and}
+use Rattle.wire.specs.declared.refusal.Refusal.TheVariants.{Malformed}
+use Rattle.wire.specs.Steps.{number}
+use Rattle.readers.specs.Reaches.{reach}
 use Rattle.readers.specs.Identities.{count_of}
-use Rattle.readers.proofs.ReadSteps.{reaches}
+use Rattle.readers.proofs.ReadSteps.{number_place}
 use Rattle.readers.proofs.identities.identities.Goals as goal
-
-pub returns-then-payload-eq0 : goal.returns-then-payload-eq0
-unfolding count_of
-returns-then-payload-eq0 c = search reaches depth 16
-
-pub bounds-payload-0 : goal.bounds-payload-0
-unfolding count_of
-bounds-payload-0 c = search rules
-
-pub returns-then-payload-ne-IDENTITIES_ANSWER : goal.returns-then-payload-ne-IDENTITIES_ANSWER
-unfolding count_of
-returns-then-payload-ne-IDENTITIES_ANSWER c = search reaches depth 16
 
 pub returns-in_default : goal.returns-in_default
 unfolding count_of
-returns-in_default c = search reaches depth 16
+returns-in_default c = rw (le-ltb 0 (length c.args.payload.now) (omega arith))
 
-pub overflow_cast-count : goal.overflow_cast-count
+pub returns-in_default-2 : goal.returns-in_default-2
 unfolding count_of
-overflow_cast-count c = search rules
+returns-in_default-2 c = rw (lt-ltb 0 (length c.args.payload.now) (omega arith), ne_eqb (get_or c.args.payload.now 0 0) 12 (λ e. omega arith))
 
-pub returns-in-End : goal.returns-in-End
-unfolding count_of
-returns-in-End c = search reaches depth 16
+pub returns-in_err-n : goal.returns-in_err-n
+unfolding count_of number
+returns-in_err-n c =
+    let p = err_from_is_err_and c.from_residual.result c.from_residual.ensures.1 in
+    let kind : get_or c.args.payload.now 0 0 ≡ 12 = omega arith in
+    rw (p.1, p.2, lt-ltb 0 (length c.args.payload.now) (omega arith), kind, ← c.in_err-n.ensures) (ap (λ at. Err (Malformed at)) (number_place _ _ _ c.in_err-n.ensures))
 
-pub returns-in-Fault : goal.returns-in-Fault
-unfolding count_of
-returns-in-Fault c = search reaches depth 16
+pub returns-in_err-items_end : goal.returns-in_err-items_end
+unfolding count_of number reach
+returns-in_err-items_end c =
+    let p = err_from_is_err_and c.from_residual-in_err-items_end.result c.from_residual-in_err-items_end.ensures.1 in
+    let kind : get_or c.args.payload.now 0 0 ≡ 12 = omega arith in
+    rw (p.1, p.2, lt-ltb 0 (length c.args.payload.now) (omega arith), kind, ← c.in_ok-n.ensures, ← c.in_err-items_end.ensures)
+
+pub returns : goal.returns
+unfolding count_of number reach
+returns c =
+    let kind : get_or c.args.payload.now 0 0 ≡ 12 = omega arith in
+    rw (lt-ltb 0 (length c.args.payload.now) (omega arith), kind, ← c.in_ok-n.ensures, ← c.in_ok-items_end.ensures)

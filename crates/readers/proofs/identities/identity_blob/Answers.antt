@@ -4,12 +4,10 @@ use Rattle.wire.proofs.Reading.{cut_none, from_none, part-as}
 use Rattle.readers.specs.Identities.{blob_of_item, blob_from}
 use Rattle.readers.proofs.identities.identity_blob.Goals as goal
 
-pub returns-in-Blob : goal.returns-in-Blob
+pub returns-in-Ok : goal.returns-in-Ok
 unfolding blob_of_item blob_from
-returns-in-Blob c = rw (← c.identity-item.ensures, c.in-Blob.is) c.cut.ensures
+returns-in-Ok c = rw (← c.in-Ok.ensures) c.cut.ensures
 
-pub returns-in-Refused : goal.returns-in-Refused
+pub returns-in-Err : goal.returns-in-Err
 unfolding blob_of_item blob_from
-returns-in-Refused c =
-    rw (← c.identity-item.ensures, c.in-Refused.is)
-    (part-as _ _ _ _ _ _ c.cut-in-Refused.ensures (from_none _) (sym (cut_none _)))
+returns-in-Err c = rw (← c.in-Err.ensures) (part-as _ _ _ _ _ _ c.cut-in-Err.ensures (from_none _) (sym (cut_none _)))

@@ -1,16 +1,23 @@
 -- The definition goes by the same string and text. Assumes nothing.
+use mathlib.Core.Path.{ap}
+use Rattle.std.proofs.lemmas.Result.{err_from_is_err_and}
+use Rattle.wire.specs.Steps.{faulted, part}
 use Rattle.readers.specs.Identities.{items_at}
-use Rattle.readers.proofs.ReadSteps.{all}
+use Rattle.readers.proofs.ReadSteps.{string_place}
 use Rattle.readers.proofs.identities.item_end.Goals as goal
 
-pub returns-in_default : goal.returns-in_default
-unfolding items_at
-returns-in_default c = search all depth 16
+pub returns-in_err-blob : goal.returns-in_err-blob
+unfolding items_at part
+returns-in_err-blob c =
+    let p = err_from_is_err_and c.from_residual.result c.from_residual.ensures.1 in
+    rw (p.1, p.2, ← c.in_err-blob.ensures) (ap faulted (string_place _ _ _ c.in_err-blob.ensures))
 
-pub returns-in-Whole-comment : goal.returns-in-Whole-comment
-unfolding items_at
-returns-in-Whole-comment c = search all depth 16
+pub returns-in_err-comment : goal.returns-in_err-comment
+unfolding items_at part
+returns-in_err-comment c =
+    let p = err_from_is_err_and c.from_residual-in_err-comment.result c.from_residual-in_err-comment.ensures.1 in
+    rw (p.1, p.2, ← c.in_ok-blob.ensures, ← c.in_err-comment.ensures)
 
-pub returns-in-Fault : goal.returns-in-Fault
-unfolding items_at
-returns-in-Fault c = search all depth 16
+pub returns : goal.returns
+unfolding items_at part
+returns c = rw (← c.in_ok-blob.ensures, ← c.in_ok-comment.ensures)

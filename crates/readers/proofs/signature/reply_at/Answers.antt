@@ -1,29 +1,39 @@
--- The definition goes by the same tests and string. Assumes nothing.
-use borrow.Author.Rules.{rules}
+-- The definition goes by the same first byte and string. Assumes nothing.
+use mathlib.Core.Path.{◌≡◌, ap}
+use native.Mathlib.Omega.{arith}
+use borrow.Author.Tests.{le-ltb, lt-ltb, ne_eqb}
+use lib.ListN.{length, get_or}
+use Rattle.std.specs.Prelude.{Err}
+use Rattle.std.proofs.lemmas.Result.{err_from_is_err_and}
+use Rattle.wire.specs.declared.refusal.Refusal.TheVariants.{Malformed}
+use Rattle.wire.specs.Steps.{part}
 use Rattle.readers.specs.Signatures.{reply_at}
-use Rattle.readers.proofs.ReadSteps.{reaches}
+use Rattle.readers.proofs.ReadSteps.{string_place}
 use Rattle.readers.proofs.signature.reply_at.Goals as goal
 
-pub returns-then-payload-eq0 : goal.returns-then-payload-eq0
-unfolding reply_at
-returns-then-payload-eq0 c = search reaches depth 16
+pub returns-in_err-whole-in-14 : goal.returns-in_err-whole-in-14
+unfolding reply_at part
+returns-in_err-whole-in-14 c =
+    let p = err_from_is_err_and c.from_residual.result c.from_residual.ensures.1 in
+    let kind : get_or c.args.payload.now 0 0 ≡ 14 = omega arith in
+    rw (p.1, p.2, lt-ltb 0 (length c.args.payload.now) (omega arith), kind, ← c.in_err-whole-in-14.ensures) (ap (λ at. Err (Malformed at)) (string_place _ _ _ c.in_err-whole-in-14.ensures))
 
-pub bounds-payload-0 : goal.bounds-payload-0
-unfolding reply_at
-bounds-payload-0 c = search rules
+pub returns-in_ok-whole-in-14 : goal.returns-in_ok-whole-in-14
+unfolding reply_at part
+returns-in_ok-whole-in-14 c =
+    let kind : get_or c.args.payload.now 0 0 ≡ 14 = omega arith in
+    rw (lt-ltb 0 (length c.args.payload.now) (omega arith), kind, ← c.in_ok-whole-in-14.ensures, ← c.cut.ensures.bytes) c.signature_at.ensures
 
-pub returns-then-kind-eq-FAILURE : goal.returns-then-kind-eq-FAILURE
+pub returns-in-5 : goal.returns-in-5
 unfolding reply_at
-returns-then-kind-eq-FAILURE c = search reaches depth 16
-
-pub returns-then-kind-ne-SIGN_RESPONSE : goal.returns-then-kind-ne-SIGN_RESPONSE
-unfolding reply_at
-returns-then-kind-ne-SIGN_RESPONSE c = search reaches depth 16
+returns-in-5 c = let kind : get_or c.args.payload.now 0 0 ≡ 5 = omega arith in rw (lt-ltb 0 (length c.args.payload.now) (omega arith), kind)
 
 pub returns-in_default : goal.returns-in_default
 unfolding reply_at
-returns-in_default c = search reaches depth 16
+returns-in_default c = rw (le-ltb 0 (length c.args.payload.now) (omega arith))
 
-pub returns : goal.returns
+pub returns-in_default-2 : goal.returns-in_default-2
 unfolding reply_at
-returns c = search reaches depth 16
+returns-in_default-2 c =
+    let kind = get_or c.args.payload.now 0 0 in
+    rw (lt-ltb 0 (length c.args.payload.now) (omega arith), ne_eqb kind 5 (λ e. omega arith), ne_eqb kind 14 (λ e. omega arith))

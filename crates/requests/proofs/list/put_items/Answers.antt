@@ -4,7 +4,7 @@ use mathlib.Core.Path.{sym}
 use Rattle.table.specs.declared.State.{State}
 use Rattle.table.specs.Soundness.{Sound}
 use Rattle.table.specs.Shown.{ShowsParts}
-use Rattle.table.proofs.EntryLaws.{start_none}
+use Rattle.table.proofs.EntryLaws.{count_within, start_none}
 use Rattle.table.proofs.ReadLaws.{Entered, entered, index_within}
 use Rattle.table.proofs.WritingLaws.{sound-meaning}
 use Rattle.requests.proofs.ListSteps.{list_fits, shown_count, item-shown, item-there, none_written, one_written, all-written}
@@ -13,32 +13,18 @@ use Rattle.requests.proofs.list.put_items.Goals as goal
 
 -- a turn is on an entry whose bytes lie in the store
 here : (c : In-loop-i)
-    → Entered c.args.numbers.now c.args.blob_lens.now c.args.fields_lens.now c.args.comment_lens.now c.args.store.now c.loop-i.i c.loop-i.from
+    → Entered c.args.t.now.numbers c.args.t.now.blob_lens c.args.t.now.fields_lens c.args.t.now.comment_lens c.args.store.now c.loop-i.i c.loop-i.from
 here c =
     let n = c.count-count.ensures in
     let more = c.loop-i-test.true in
     entered _ _ _ _ _ (list_fits c.requires.0).housed c.loop-i.i (omega arith) c.loop-i.from c.loop-i.invariant.1
 
 pub loop-i-init : goal.loop-i-init
-loop-i-init c = (omega arith, sym (start_none _ _ _), λ s shows S. none_written _ _ _)
-
-pub offset_bounds-blob_lens-i : goal.offset_bounds-blob_lens-i
-offset_bounds-blob_lens-i c = let e = here (goal.at.offset_bounds-blob_lens-i c).In-loop-i in search rules
-
-pub bounds-blob_lens-i : goal.bounds-blob_lens-i
-bounds-blob_lens-i c = let e = here (goal.at.bounds-blob_lens-i c).In-loop-i in search rules
-
-pub offset_bounds-fields_lens-i : goal.offset_bounds-fields_lens-i
-offset_bounds-fields_lens-i c = let e = here (goal.at.offset_bounds-fields_lens-i c).In-loop-i in search rules
-
-pub bounds-fields_lens-i : goal.bounds-fields_lens-i
-bounds-fields_lens-i c = let e = here (goal.at.bounds-fields_lens-i c).In-loop-i in search rules
-
-pub offset_bounds-comment_lens-i : goal.offset_bounds-comment_lens-i
-offset_bounds-comment_lens-i c = let e = here (goal.at.offset_bounds-comment_lens-i c).In-loop-i in search rules
-
-pub bounds-comment_lens-i : goal.bounds-comment_lens-i
-bounds-comment_lens-i c = let e = here (goal.at.bounds-comment_lens-i c).In-loop-i in search rules
+loop-i-init c =
+    let n = c.count-count.ensures in
+    let within = count_within c.args.t.now.numbers in
+    let long = (list_fits c.requires.0).housed.long_numbers in
+    ((omega arith, omega arith), sym (start_none _ _ _), λ s shows S. none_written _ _ _)
 
 pub put_item-place-requires : goal.put_item-place-requires
 put_item-place-requires c =
@@ -49,24 +35,6 @@ put_item-place-requires c =
     let index = index_within _ _ _ _ _ fits.housed _ entry_here.held in
     let room = c.requires.1 in
     (entry_here.within, fits.blobs_fit _ entry_here.held, fits.comments_fit _ entry_here.held, omega arith)
-
-pub offset_bounds-blob_lens-i-in-loop-i : goal.offset_bounds-blob_lens-i-in-loop-i
-offset_bounds-blob_lens-i-in-loop-i c = let e = here (goal.at.offset_bounds-blob_lens-i-in-loop-i c).In-loop-i in search rules
-
-pub bounds-blob_lens-i-in-loop-i : goal.bounds-blob_lens-i-in-loop-i
-bounds-blob_lens-i-in-loop-i c = let e = here (goal.at.bounds-blob_lens-i-in-loop-i c).In-loop-i in search rules
-
-pub offset_bounds-fields_lens-i-in-loop-i : goal.offset_bounds-fields_lens-i-in-loop-i
-offset_bounds-fields_lens-i-in-loop-i c = let e = here (goal.at.offset_bounds-fields_lens-i-in-loop-i c).In-loop-i in search rules
-
-pub bounds-fields_lens-i-in-loop-i : goal.bounds-fields_lens-i-in-loop-i
-bounds-fields_lens-i-in-loop-i c = let e = here (goal.at.bounds-fields_lens-i-in-loop-i c).In-loop-i in search rules
-
-pub offset_bounds-comment_lens-i-in-loop-i : goal.offset_bounds-comment_lens-i-in-loop-i
-offset_bounds-comment_lens-i-in-loop-i c = let e = here (goal.at.offset_bounds-comment_lens-i-in-loop-i c).In-loop-i in search rules
-
-pub bounds-comment_lens-i-in-loop-i : goal.bounds-comment_lens-i-in-loop-i
-bounds-comment_lens-i-in-loop-i c = let e = here (goal.at.bounds-comment_lens-i-in-loop-i c).In-loop-i in search rules
 
 pub overflow_add-from : goal.overflow_add-from
 overflow_add-from c = let e = here (goal.at.overflow_add-from c).In-loop-i in search rules
@@ -83,7 +51,7 @@ loop-i-preserved c =
     let next = entry_here.next in
     let more = c.loop-i-test.true in
     let put = c.put_item-place.ensures in (
-      omega arith,
+      (omega arith, c.loop-i.invariant.0.1),
       omega arith,
       λ s shows S.
           let shown = item-shown s _ shows c.loop-i.i entry_here.held c.loop-i.from entry_here.starts in
@@ -101,8 +69,8 @@ returns c =
     let w = c.requires.0 in
     let n = c.count-count.ensures in
     let ended = c.loop-i-test.false in
-    let below = c.loop-i.invariant.0 in
+    let below = c.loop-i.invariant.0.0 in
     let inv = c.loop-i.invariant.2 in
-    let all : (s : State) → ShowsParts c.args.numbers.now c.args.blob_lens.now c.args.fields_lens.now c.args.comment_lens.now s → Sound s c.args.store.now → _
+    let all : (s : State) → ShowsParts c.args.t.now.numbers c.args.t.now.blob_lens c.args.t.now.fields_lens c.args.t.now.comment_lens s → Sound s c.args.store.now → _
     = λ s shows S. let many = shown_count s c.args.store.now shows in all-written _ (sound-meaning _ _ S) _ _ _ _ _ (inv s shows S) c.requires.1 (omega arith) (omega arith) in
     ((all w.state w.shows w.sound).2, λ s shows S. ((all s shows S).0, (all s shows S).1))

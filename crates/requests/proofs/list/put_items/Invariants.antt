@@ -1,6 +1,7 @@
 -- The items of the first i entries stand in the reply, whichever sound state shows the columns. Assumes nothing.
-use Prim.Native.Nat.{◌≤◌, ◌-◌}
+use Prim.Native.Nat.{◌≤◌}
 use mathlib.Core.Path.{◌≡◌}
+use Rattle.wire.specs.Limits.{entries_limit}
 use Rattle.table.specs.declared.State.{State}
 use Rattle.table.specs.Entries.{start_in}
 use Rattle.table.specs.Meaning.{gateway_of}
@@ -10,8 +11,5 @@ use Rattle.requests.proofs.ListSteps.{ItemsWritten}
 use Rattle.requests.proofs.list.put_items.Given as goal
 
 abbrev pub invariant-loop-i : goal.invariant-loop-i
-invariant-loop-i l = (l.i ≤ l.count) × (l.from ≡ start_in l.blob_lens l.fields_lens l.comment_lens l.i)
-    × ((s : State) → ShowsParts l.numbers l.blob_lens l.fields_lens l.comment_lens s → Sound s l.store → ItemsWritten (gateway_of s l.store).entries l.at l.initial.reply l.i l.place l.reply)
-
-abbrev pub decreases-loop-i : goal.decreases-loop-i
-decreases-loop-i l = l.count - l.i
+invariant-loop-i l = ((l.i ≤ l.count) × (l.count ≤ entries_limit)) × (l.from ≡ start_in l.t.blob_lens l.t.fields_lens l.t.comment_lens l.i)
+    × ((s : State) → ShowsParts l.t.numbers l.t.blob_lens l.t.fields_lens l.t.comment_lens s → Sound s l.store → ItemsWritten (gateway_of s l.store).entries l.at l.initial.reply l.i l.place l.reply)

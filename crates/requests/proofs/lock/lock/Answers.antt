@@ -22,4 +22,4 @@ unfolding locking
 returns c =
     λ t x S a.
     let means = lock_means _ _ _ _ _ _ _ c.cut.ensures.bytes (c.set_lock.ensures.1 t x S) in
-    search (ends, answering c.set_lock.ensures.0 _ _ _ means, c.if-to-from-gt-PASSPHRASE_LIMIT.false, c.in-Whole.is, c.string.ensures) depth 16
+    search (ends, answering c.set_lock.ensures.0 _ _ _ means, c.if-to-from-gt-PASSPHRASE_LIMIT.false, c.in-Ok.is, c.string.ensures) depth 16

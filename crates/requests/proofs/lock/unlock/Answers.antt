@@ -21,7 +21,7 @@ returns-then-is_passphrase c =
       c.if-is_passphrase.true,
       c.is_passphrase.ensures,
       c.cut.ensures.bytes,
-      c.in-Whole.is,
+      c.in-Ok.is,
       c.string.ensures,
     ) depth 16
 

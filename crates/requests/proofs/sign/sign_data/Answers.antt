@@ -13,7 +13,7 @@ unfolding signing_data
 returns-in_default-number c = λ s x S. search (signs, closing) depth 16
 
 pub put_reply-len-requires : goal.put_reply-len-requires
-put_reply-len-requires c = (c.requires.0, signature_short c.args.answers _ _ _ c.signed_for.ensures _ c.in-Yes.is c.requires.1)
+put_reply-len-requires c = (c.requires.0, signature_short c.args.asked.answers _ _ _ c.signed_for.ensures _ c.in-Yes.is c.requires.1)
 
 pub returns-in-Missing : goal.returns-in-Missing
 unfolding signing_data
@@ -27,9 +27,9 @@ returns-in-No c =
       closing,
       c.in-No.is,
       c.signed_for.ensures,
-      c.in-Value.is,
+      c.in-Ok-number.is,
       c.number.ensures,
-      c.in-Whole.is,
+      c.in-Ok.is,
       c.string.ensures,
     ) depth 16
 

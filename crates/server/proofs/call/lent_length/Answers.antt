@@ -5,8 +5,5 @@ use Rattle.server.proofs.call.lent_length.Goals as goal
 pub returns-in-Missing : goal.returns-in-Missing
 returns-in-Missing c = search lending depth 12
 
-pub returns-in-Nothing : goal.returns-in-Nothing
-returns-in-Nothing c = search lending depth 12
-
 pub returns-in-Given : goal.returns-in-Given
 returns-in-Given c = search lending depth 12

@@ -1,18 +1,12 @@
--- The short numbers are those of the blobs, and entries whose numbers rise have no number in common, so entries that are all unlike those behind them are distinct. Assumes nothing.
+-- The short numbers are those of the blobs, and the fact of their rising is that of the first n numbers, so entries that are all unlike those behind them are distinct. Assumes nothing.
 use native.Mathlib.Omega.{arith}
-use mathlib.Core.Path.{refl}
+use mathlib.Core.Path.{sym}
+use lib.Seq.{length-take-le}
 use Rattle.table.proofs.EntryLaws.{count_within}
 use Rattle.soundness.proofs.apart.is_distinct.Goals as goal
 
-pub is_rising-requires : goal.is_rising-requires
-is_rising-requires c =
-    let few = count_within c.args.numbers.now in
-    omega arith
-
-pub put_shorts-requires : goal.put_shorts-requires
-put_shorts-requires c =
-    let (housed, sized) = c.requires in
+pub slice_bounds-is_rising-end : goal.slice_bounds-is_rising-end
+slice_bounds-is_rising-end c =
     let n = c.count-n.ensures in
-    let long = housed.long_numbers in
-    let few = count_within c.args.numbers.now in
-    (omega arith, refl, housed.long_blobs, housed.long_fields, housed.long_comments, rw n housed.room, sized)
+    let few = count_within c.args.t.numbers.now in
+    sym (length-take-le _ c.args.t.numbers.now (omega arith))

@@ -1,57 +1,22 @@
 -- The definition makes the same tests, column by column. Assumes nothing.
-use borrow.Author.Rules.{rules}
+use native.Mathlib.Omega.{arith}
+use mathlib.Core.Path.{◌≡◌, ◌∙◌}
+use lib.ListN.{drop}
+use Rattle.table.specs.Bytes.{all_zero}
 use Rattle.table.specs.Soundness.{zero_behind}
-use Rattle.soundness.proofs.SoundnessLaws.{columns, four_passed}
+use Rattle.soundness.proofs.SoundnessLaws.{zeros_behind, column_behind}
 use Rattle.soundness.proofs.unused.is_unused_zero.Goals as goal
 
-pub returns-then-not-are_numbers_zero : goal.returns-then-not-are_numbers_zero
-unfolding zero_behind
-returns-then-not-are_numbers_zero c = search columns depth 16
-
-pub returns-then-not-are_numbers_zero-2 : goal.returns-then-not-are_numbers_zero-2
-unfolding zero_behind
-returns-then-not-are_numbers_zero-2 c = search columns depth 16
-
-pub returns-then-not-are_lengths_zero : goal.returns-then-not-are_lengths_zero
-unfolding zero_behind
-returns-then-not-are_lengths_zero c = search columns depth 16
-
-pub returns-then-not-are_lengths_zero-2 : goal.returns-then-not-are_lengths_zero-2
-unfolding zero_behind
-returns-then-not-are_lengths_zero-2 c = search columns depth 16
-
-pub returns-then-not-are_lengths_zero-3 : goal.returns-then-not-are_lengths_zero-3
-returns-then-not-are_lengths_zero-3 c = four_passed _ _ _ (search columns) (search columns) (search columns) (search columns) (search columns depth 16)
-
-pub returns-then-not-are_seconds_zero : goal.returns-then-not-are_seconds_zero
-returns-then-not-are_seconds_zero c = four_passed _ _ _ (search columns) (search columns) (search columns) (search columns) (search columns depth 16)
-
-pub slice_bounds-is_zero-count : goal.slice_bounds-is_zero-count
-unfolding zero_behind
-slice_bounds-is_zero-count c = search rules
-
-pub slice_bounds-is_zero-start : goal.slice_bounds-is_zero-start
-unfolding zero_behind
-slice_bounds-is_zero-start c = search rules
-
-pub slice_bounds-is_zero-end : goal.slice_bounds-is_zero-end
-unfolding zero_behind
-slice_bounds-is_zero-end c = search rules
-
-pub returns-then-not-is_zero : goal.returns-then-not-is_zero
-returns-then-not-is_zero c = four_passed _ _ _ (search columns) (search columns) (search columns) (search columns) (search columns depth 16)
-
-pub slice_bounds-is_zero-count-2 : goal.slice_bounds-is_zero-count-2
-unfolding zero_behind
-slice_bounds-is_zero-count-2 c = search rules
-
-pub slice_bounds-is_zero-start-2 : goal.slice_bounds-is_zero-start-2
-unfolding zero_behind
-slice_bounds-is_zero-start-2 c = search rules
-
-pub slice_bounds-is_zero-end-2 : goal.slice_bounds-is_zero-end-2
-unfolding zero_behind
-slice_bounds-is_zero-end-2 c = search rules
-
 pub returns : goal.returns
-returns c = four_passed _ _ _ (search columns) (search columns) (search columns) (search columns) (search columns depth 16)
+unfolding zero_behind
+returns c =
+    let t = c.args.t in
+    let numbers : c.are_all.result ≡ all_zero (drop c.args.n t.numbers.now) = c.are_all.ensures ∙ column_behind c.args.n t.numbers.now in
+    let readings : c.are_all-2.result ≡ all_zero (drop c.args.n t.readings.now) = c.are_all-2.ensures ∙ column_behind c.args.n t.readings.now in
+    let blobs : c.are_all-3.result ≡ all_zero (drop c.args.n t.blob_lens.now) = c.are_all-3.ensures ∙ column_behind c.args.n t.blob_lens.now in
+    let fields : c.are_all-4.result ≡ all_zero (drop c.args.n t.fields_lens.now) = c.are_all-4.ensures ∙ column_behind c.args.n t.fields_lens.now in
+    let comments : c.are_all-5.result ≡ all_zero (drop c.args.n t.comment_lens.now) = c.are_all-5.ensures ∙ column_behind c.args.n t.comment_lens.now in
+    let seconds : c.are_all-6.result ≡ all_zero (drop c.args.n t.seconds.now) = c.are_all-6.ensures ∙ column_behind c.args.n t.seconds.now in
+    let limited : c.is_zero.result ≡ all_zero (drop c.args.n t.limited.now) = c.is_zero.ensures ∙ zeros_behind c.args.n t.limited.now in
+    let confirm : c.is_zero-2.result ≡ all_zero (drop c.args.n t.confirm.now) = c.is_zero-2.ensures ∙ zeros_behind c.args.n t.confirm.now in
+    grind arith

@@ -10,7 +10,7 @@ pub loop-i-preserved : goal.loop-i-preserved
 loop-i-preserved c =
     let l = c.loop-i in
     let a = c.args in
-    (rw (c.greater-most.ensures, c.greater.ensures) (l.invariant.0 ∙ greatest-step a.a.now a.b.now l.i l.most (omega arith) (omega arith)), omega arith)
+    (rw (c.max-most.ensures, c.max.ensures) (l.invariant.0 ∙ greatest-step a.a.now a.b.now l.i l.most (omega arith) (omega arith)), omega arith)
 
 pub returns : goal.returns
 returns c =

@@ -10,7 +10,7 @@ pub loop-i-preserved : goal.loop-i-preserved
 loop-i-preserved c =
     let l = c.loop-i in
     let a = c.args in
-    (omega arith, rw c.both-equal.ensures (l.invariant.1 ∙ equal_step a.a.now a.b.now l.i l.equal (omega arith) (omega arith)))
+    (omega arith, (l.invariant.1 ∙ equal_step a.a.now a.b.now l.i l.equal (omega arith) (omega arith)))
 
 pub returns : goal.returns
 returns c =

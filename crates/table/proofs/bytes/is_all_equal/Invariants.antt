@@ -1,5 +1,5 @@
 -- What is known of the bytes before place i, and the rest, say what the whole does. Assumes nothing.
-use Prim.Native.Nat.{◌≤◌, ◌-◌}
+use Prim.Native.Nat.{◌≤◌}
 use mathlib.Core.Path.{◌≡◌}
 use lib.ListN.{length}
 use Rattle.wire.specs.Read.{same}
@@ -8,6 +8,3 @@ use Rattle.table.proofs.bytes.is_all_equal.Given as goal
 
 abbrev pub invariant-loop-i : goal.invariant-loop-i
 invariant-loop-i l = (l.i ≤ length l.a) × (same l.a l.b ≡ same_along l.equal l.i l.a l.b)
-
-abbrev pub decreases-loop-i : goal.decreases-loop-i
-decreases-loop-i l = length l.a - l.i

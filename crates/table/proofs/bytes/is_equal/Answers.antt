@@ -1,6 +1,6 @@
 -- Parts of one length whose last bytes differ are not the same; else all bytes are compared. Assumes nothing.
 use native.Mathlib.Omega.{arith}
-use Rattle.wire.proofs.Reading.{same-long}
+use Rattle.table.proofs.ByteLaws.{same-long}
 use Rattle.table.proofs.ByteLaws.{differ_at, none_same}
 use Rattle.table.proofs.bytes.is_equal.Goals as goal
 

@@ -9,7 +9,7 @@ use lib.Dec.{eqb}
 use lib.ListN.{length, take, get_or}
 use lib.Seq.{length-take-le, get_or-take}
 use Rattle.wire.specs.Read.{same}
-use Rattle.wire.proofs.Reading.{same-long}
+use Rattle.table.proofs.ByteLaws.{same-long}
 use Rattle.table.proofs.ByteLaws.{same_along, equal_step, equal_end}
 use Rattle.table.proofs.locks.is_passphrase.Goals as goal
 

@@ -7,15 +7,12 @@ use Rattle.rule.specs.Gateway.{NewKey}
 use Rattle.rule.specs.Soundness.{fit}
 use Rattle.rule.specs.Rule.{brought}
 use Rattle.table.specs.declared.Columns.{Columns}
-use Rattle.table.specs.Entries.{columns}
 use Rattle.turnover.proofs.AddSteps.{fits-as, lengths_new, new_short, with_parts, with_place, unfit_ends, last_ends, full_ends, check_asked, check_denied, key-stored}
 use Rattle.turnover.proofs.add.store_key.Goals.{After-fits, Start}
 use Rattle.turnover.proofs.add.store_key.Goals as goal
 
 abbrev given : Start → Columns
-given start =
-    let a = start.args in
-    columns a.numbers.now a.readings.now a.blob_lens.now a.fields_lens.now a.comment_lens.now a.seconds.now a.limited.now a.confirm.now
+given start = start.args.t.now
 
 abbrev key : Start → NewKey
 key start = brought start.args.payload.now start.args.carried start.args.blob.now
@@ -67,8 +64,8 @@ place_for-requires c =
     let fits = sym (c.if-not-fits.false) ∙ fits_told (goal.at.place_for-requires c).After-fits in
     (with_parts (given (goal.at.place_for-requires c).Start) c.args.store.now c.args.kept c.requires.1, new_short (key (goal.at.place_for-requires c).Start) _ (sized-told (goal.at.place_for-requires c).After-fits) fits, omega arith)
 
-pub failure-requires-in-Nothing : goal.failure-requires-in-Nothing
-failure-requires-in-Nothing c =
+pub failure-requires-in-None : goal.failure-requires-in-None
+failure-requires-in-None c =
     let long = c.requires.0 in
     omega (arith, long)
 
@@ -81,39 +78,39 @@ pub put-after-requires : goal.put-after-requires
 put-after-requires c =
     let a = c.args in
     let fits = sym (c.if-not-fits.false) ∙ fits_told (goal.at.put-after-requires c).After-fits in
-    with_place (given (goal.at.put-after-requires c).Start) a.store.now a.kept c.requires.1 _ (key (goal.at.put-after-requires c).Start) _ _ (sized-told (goal.at.put-after-requires c).After-fits) c.in-At.is c.place_for.ensures fits c.if-kept-eq-LAST_NUMBER.false
+    with_place (given (goal.at.put-after-requires c).Start) a.store.now a.kept c.requires.1 _ (key (goal.at.put-after-requires c).Start) _ _ (sized-told (goal.at.put-after-requires c).After-fits) c.in-Some.is c.place_for.ensures fits c.if-kept-eq-LAST_NUMBER.false
 
 pub success-requires : goal.success-requires
 success-requires c =
     let long = c.requires.0 in
     omega (arith, long)
 
-pub returns-in-Nothing : goal.returns-in-Nothing
-returns-in-Nothing c =
+pub returns-in-None : goal.returns-in-None
+returns-in-None c =
     let a = c.args in
-    let fits = sym (c.if-not-fits.false) ∙ fits_told (goal.at.returns-in-Nothing c).After-fits in
-    full_ends (given (goal.at.returns-in-Nothing c).Start) a.store.now a.kept a.check a.reply.now a.payload.now a.carried a.blob.now _ _
-    fits c.if-kept-eq-LAST_NUMBER.false _ (sized-told (goal.at.returns-in-Nothing c).After-fits) _ c.place_for.ensures c.in-Nothing.is c.failure-in-Nothing.ensures
+    let fits = sym (c.if-not-fits.false) ∙ fits_told (goal.at.returns-in-None c).After-fits in
+    full_ends (given (goal.at.returns-in-None c).Start) a.store.now a.kept a.check a.reply.now a.payload.now a.carried a.blob.now _ _
+    fits c.if-kept-eq-LAST_NUMBER.false _ (sized-told (goal.at.returns-in-None c).After-fits) _ c.place_for.ensures c.in-None.is c.failure-in-None.ensures
 
 pub returns-in-Missing : goal.returns-in-Missing
 returns-in-Missing c =
     let a = c.args in
     let fits = sym (c.if-not-fits.false) ∙ fits_told (goal.at.returns-in-Missing c).After-fits in
     check_asked (given (goal.at.returns-in-Missing c).Start) a.store.now a.kept a.check a.reply.now a.payload.now a.carried a.blob.now _ _
-    fits c.if-kept-eq-LAST_NUMBER.false _ (sized-told (goal.at.returns-in-Missing c).After-fits) _ c.place_for.ensures _ c.in-At.is c.in-Missing.is refl refl
+    fits c.if-kept-eq-LAST_NUMBER.false _ (sized-told (goal.at.returns-in-Missing c).After-fits) _ c.place_for.ensures _ c.in-Some.is c.in-Missing.is refl refl
 
 pub returns-in-No : goal.returns-in-No
 returns-in-No c =
     let a = c.args in
     let fits = sym (c.if-not-fits.false) ∙ fits_told (goal.at.returns-in-No c).After-fits in
     check_denied (given (goal.at.returns-in-No c).Start) a.store.now a.kept a.check a.reply.now a.payload.now a.carried a.blob.now _ _
-    fits c.if-kept-eq-LAST_NUMBER.false _ (sized-told (goal.at.returns-in-No c).After-fits) _ c.place_for.ensures _ c.in-At.is c.in-No.is c.failure-in-No.ensures
+    fits c.if-kept-eq-LAST_NUMBER.false _ (sized-told (goal.at.returns-in-No c).After-fits) _ c.place_for.ensures _ c.in-Some.is c.in-No.is c.failure-in-No.ensures
 
 pub returns-in-Yes : goal.returns-in-Yes
 returns-in-Yes c =
     let a = c.args in
     let fits = sym (c.if-not-fits.false) ∙ fits_told (goal.at.returns-in-Yes c).After-fits in
-    let u = columns c.put-after.new.numbers c.put-after.new.readings c.put-after.new.blob_lens c.put-after.new.fields_lens c.put-after.new.comment_lens c.put-after.new.seconds c.put-after.new.limited c.put-after.new.confirm in
+    let u = c.put-after.new.t in
     key-stored (given (goal.at.returns-in-Yes c).Start) a.store.now a.kept a.check a.reply.now a.payload.now a.carried a.blob.now _ _
-    fits c.if-kept-eq-LAST_NUMBER.false _ (sized-told (goal.at.returns-in-Yes c).After-fits) _ c.place_for.ensures _ c.in-At.is c.in-Yes.is
+    fits c.if-kept-eq-LAST_NUMBER.false _ (sized-told (goal.at.returns-in-Yes c).After-fits) _ c.place_for.ensures _ c.in-Some.is c.in-Yes.is
     u c.put-after.new.store c.put-after.result c.put-after.ensures c.success.ensures

@@ -1,5 +1,5 @@
 -- The definition goes by the same number and the same tests. Assumes nothing.
-use mathlib.Core.Path.{sym, ◌∙◌}
+use mathlib.Core.Path.{sym}
 use native.Mathlib.Omega.{arith}
 use Rattle.wire.specs.Frames.{split_of}
 use Rattle.wire.proofs.Reading.{number_read}
@@ -8,12 +8,6 @@ use Rattle.wire.proofs.frame.read_frame.Goals as goal
 
 pub number-requires : goal.number-requires
 number-requires c = search all
-
-pub enum_known-n : goal.enum_known-n
-enum_known-n c = search all
-
-pub enum_told-1 : goal.enum_told-1
-enum_told-1 c = search all
 
 pub returns-in_default : goal.returns-in_default
 unfolding split_of
@@ -27,7 +21,7 @@ pub overflow_cast-to : goal.overflow_cast-to
 overflow_cast-to c = search all
 
 pub overflow_add-to : goal.overflow_add-to
-overflow_add-to c = let h = number_read _ _ _ _ (sym c.number.ensures ∙ c.in-Value.is) in omega arith
+overflow_add-to c = let h = number_read _ _ _ _ (sym c.in-Ok.ensures) in omega arith
 
 pub returns-then-s-to : goal.returns-then-s-to
 unfolding split_of

@@ -1,24 +1,23 @@
--- Each way out returns what the definition says of the state that was matched and the tests that were passed. Assumes nothing.
+-- Each way out returns what the definition says of the state that was taken and the tests that were passed. Assumes nothing.
 use borrow.Author.Tests.{ne_eqb, le-leb, lt-leb}
+use mathlib.Core.Logic.{⊎_elim}
 use Rattle.wire.specs.Utf8.{step_of}
 use Rattle.wire.proofs.utf8.step.Goals as goal
 
-pub returns-in_default : goal.returns-in_default
+pub returns-in_err-t : goal.returns-in_err-t
 unfolding step_of
-returns-in_default c = rw c.in_default.is
+returns-in_err-t c = rw (c.in_err-t.was, c.from_residual.ensures)
 
-pub returns-then-left-eq0 : goal.returns-then-left-eq0
+pub returns-then-t-eq0 : goal.returns-then-t-eq0
 unfolding step_of
-returns-then-left-eq0 c = rw (c.in-Tails.is, c.if-left-eq0.true) c.lead.ensures
+returns-then-t-eq0 c = rw (c.in_ok-t.was, c.if-t-eq0.true) c.lead.ensures
 
-pub returns-then-b-low : goal.returns-then-b-low
+pub returns-then-b-t : goal.returns-then-b-t
 unfolding step_of
-returns-then-b-low c = rw (c.in-Tails.is, ne_eqb _ _ c.if-left-eq0.false, lt-leb _ _ c.if-b-low.true)
-
-pub returns-then-high-b : goal.returns-then-high-b
-unfolding step_of
-returns-then-high-b c = rw (c.in-Tails.is, ne_eqb _ _ c.if-left-eq0.false, le-leb _ _ c.if-b-low.false, lt-leb _ _ c.if-high-b.true)
+returns-then-b-t c =
+    rw (c.in_ok-t.was, ne_eqb _ _ c.if-t-eq0.false)
+    (⊎_elim (λ h. rw (lt-leb _ _ h)) (λ h. rw (le-leb _ _ h.0, lt-leb _ _ h.1)) c.then-b-t.either)
 
 pub returns : goal.returns
 unfolding step_of
-returns c = rw (c.in-Tails.is, ne_eqb _ _ c.if-left-eq0.false, le-leb _ _ c.if-b-low.false, le-leb _ _ c.if-high-b.false) c.tails.ensures
+returns c = rw (c.in_ok-t.was, ne_eqb _ _ c.if-t-eq0.false, le-leb _ _ c.if-b-t.false, le-leb _ _ c.if-t-b.false) c.wants.ensures

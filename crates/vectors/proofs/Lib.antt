@@ -1,2 +1,0 @@
--- The laws that the proofs of functions cite.
-pub mod Rooms
