@@ -117,6 +117,7 @@ pub fn next(
 }
 
 // Judges record by record. Each takes up a byte or more, so there are no more of them than bytes. A write can fail only where there are bytes.
+// The judges of the programs require nothing.
 pub fn records<J: FnMut(Section) -> Option<(bool, Cursor)>>(
     rt: &impl Print,
     s: &[u8],

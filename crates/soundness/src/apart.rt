@@ -124,6 +124,7 @@ impl Entries<'_> {
     }
 }
 
+// Are the entries apart? The test comes here last: columns and store have their sizes, and each entry stands by itself and within the store.
 pub fn is_distinct(t: Shown<'_>, store: &[u8]) -> bool
     requires { HousedIn (shown t) store.now × (length store.now ≡ store_size) }
     ensures { (s : State) → PartsOf (shown t.entry) s → result ≡ distinct (gateway_of s store.now).entries }

@@ -19,6 +19,7 @@ fn are_all<T: Copy + PartialEq>(column: &[T], one: T) -> bool
     all
 }
 
+// The test comes here once columns have their lengths; n is the count of the entries.
 pub fn is_unused_zero(t: Shown<'_>, n: usize) -> bool
     requires { (n ≤ entries_limit) × Long (shown t) }
     ensures { result ≡ zero_behind n (shown t.entry) }

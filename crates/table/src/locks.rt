@@ -13,7 +13,7 @@ pub fn is_locked(len: usize) -> bool
     0 < len
 }
 
-// Is this the passphrase that is kept?
+// Is this the passphrase that is kept? Its length is a sound state's, or tested.
 pub fn is_passphrase(bytes: &[u8], len: usize, p: &[u8]) -> bool
     requires { len ≤ length bytes.now }
     ensures { result ≡ same (take len bytes.now) p.now }
