@@ -55,7 +55,10 @@ pub(crate) fn read_length(input: &mut impl Read) -> Result<usize, Broken> {
     Ok(u32::from_be_bytes(read_bytes(input)?) as usize)
 }
 
+// One read takes the head whole; its numbers are read out of the bytes.
 pub(crate) fn read_head(input: &mut impl Read) -> Result<Head, Broken> {
+    let bytes: [u8; 40] = read_bytes(input)?;
+    let input = &mut &bytes[..];
     let count = read_number(input)?;
     let [gate, check, confirmation, signature] = read_bytes::<4>(input)?;
     let answers = FlatAnswers {

@@ -158,7 +158,7 @@ pub fn put(
     ensures { (b : List ℕ) → MayPut (held t.old b kept) store.old i (brought payload.now carried blob.now) → Means (held t.new b result) store.new (with_entry i (entry_of (gateway_of (held t.old b kept) store.old) payload.now carried blob.now) (gateway_of (held t.old b kept) store.old)) }
 {
     put_bytes(
-        t,
+        t.show(),
         store,
         i,
         blob,

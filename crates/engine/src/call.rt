@@ -49,7 +49,7 @@ fn respond(
             kept,
         },
         Row::List => Landed {
-            outcome: request_identities(t, store, reply),
+            outcome: request_identities(t.show(), store, reply),
             kept,
         },
         Row::Add(constrained) => add_key(t, kept, store, asked.payload, constrained, check, reply),
@@ -62,7 +62,7 @@ fn respond(
             kept,
         },
         Row::Sign => Landed {
-            outcome: try_sign(t, store, asked, reply),
+            outcome: try_sign(t.show(), store, asked, reply),
             kept,
         },
         Row::Lock => lock(passphrase, kept, asked.payload, reply),

@@ -5,7 +5,7 @@ ghost use Rattle.table.specs.Bytes.{Zeros};
 ghost use Rattle.table.specs.Changes.{resized, bytes_put, PutRoom};
 
 use crate::closing::move_bytes;
-use table::Columns;
+use table::Shown;
 use table::bytes::{copy_in, wipe};
 use table::entries::{size_at, start_of};
 use wire::limits;
@@ -39,22 +39,22 @@ fn fill(store: &mut [u8], at: usize, blob: &[u8], fields: &[u8], comment: &[u8])
 
 // The bytes of entry i are these; behind the last entry it has none before.
 pub fn put_bytes(
-    t: &Columns,
+    t: Shown<'_>,
     store: &mut [u8],
     i: usize,
     blob: &[u8],
     fields: &[u8],
     comment: &[u8],
 )
-    requires { PutRoom t.now.blob_lens t.now.fields_lens t.now.comment_lens store.old i (length blob.now + (length fields.now + length comment.now)) }
-    ensures { store.new ≡ bytes_put t.now.blob_lens t.now.fields_lens t.now.comment_lens i (blob.now ++ (fields.now ++ comment.now)) store.old }
+    requires { PutRoom t.blob_lens.now t.fields_lens.now t.comment_lens.now store.old i (length blob.now + (length fields.now + length comment.now)) }
+    ensures { store.new ≡ bytes_put t.entry.blob_lens.now t.entry.fields_lens.now t.entry.comment_lens.now i (blob.now ++ (fields.now ++ comment.now)) store.old }
 {
-    let at = start_of(&t.blob_lens, &t.fields_lens, &t.comment_lens, i);
-    let old = size_at(&t.blob_lens, &t.fields_lens, &t.comment_lens, i);
+    let at = start_of(t.blob_lens, t.fields_lens, t.comment_lens, i);
+    let old = size_at(t.blob_lens, t.fields_lens, t.comment_lens, i);
     let end = start_of(
-        &t.blob_lens,
-        &t.fields_lens,
-        &t.comment_lens,
+        t.blob_lens,
+        t.fields_lens,
+        t.comment_lens,
         limits::ENTRIES_LIMIT,
     );
     let new = blob.len() + (fields.len() + comment.len());

@@ -31,7 +31,7 @@ pub extern "C" fn key_agent_fresh() -> State
 pub extern "C" fn key_agent_is_sound(state: State, store: &[u8]) -> bool
     ensures { result ≡ sound_state state store.now }
 {
-    is_state_sound(state, store)
+    is_state_sound(&state, store)
 }
 
 #[unsafe(no_mangle)]

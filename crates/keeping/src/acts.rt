@@ -30,7 +30,7 @@ impl Agent {
     pub(crate) fn is_sound(&self) -> bool
         ensures { result ≡ true → Sound self.now.state self.now.store }
     {
-        is_state_sound(self.state, &self.store)
+        is_state_sound(&self.state, &self.store)
     }
 
     pub(crate) fn advance(&mut self, reading: u32)

@@ -46,7 +46,7 @@ impl Agent {
     pub(crate) fn is_damaged_sound(&self, part: u8, place: usize, value: u32) -> bool {
         let mut state = self.state;
         damage(&mut state, part, place, value);
-        is_state_sound(state, &self.store)
+        is_state_sound(&state, &self.store)
     }
 
     // A byte of the store is set, and set back.
@@ -64,6 +64,6 @@ impl Agent {
     // A store of zeros with another length, up to more bytes than a store has.
     pub(crate) fn is_length_sound(&self, length: usize) -> bool {
         let room = [0u8; 40960];
-        is_state_sound(self.state, cut(&room, 0, length))
+        is_state_sound(&self.state, cut(&room, 0, length))
     }
 }

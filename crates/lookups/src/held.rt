@@ -118,7 +118,7 @@ fn untold() -> HeldKey
 pub fn key_of(state: State, store: &[u8], number: u64) -> HeldKey
     ensures { result ≡ key_told state store.now number }
 {
-    if !is_state_sound(state, store) {
+    if !is_state_sound(&state, store) {
         return untold();
     }
     let numbers = &state.columns.numbers;

@@ -21,7 +21,7 @@ fn least_above(numbers: &[u64], after: u64) -> Option<u64>
 pub fn next_of(state: State, store: &[u8], after: u64) -> u64
     ensures { result ≡ next_told state store.now after }
 {
-    if !is_state_sound(state, store) {
+    if !is_state_sound(&state, store) {
         return 0;
     }
     let numbers = &state.columns.numbers;

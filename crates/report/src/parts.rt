@@ -7,10 +7,10 @@ use wire::write::put_bytes;
 
 // The first `length` bytes of a base, with `value` at `place`.
 #[derive(Clone, Copy)]
-struct Change {
-    length: usize,
-    place: usize,
-    value: u8,
+pub struct Change {
+    pub length: usize,
+    pub place: usize,
+    pub value: u8,
 }
 
 // A byte that is 0 or 1.

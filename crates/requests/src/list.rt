@@ -7,6 +7,7 @@ ghost use Rattle.rule.specs.Rule.{items, listed, listing};
 ghost use Rattle.rule.specs.Calls as rule;
 ghost use Rattle.rule.specs.Calls.{lent, follow};
 ghost use Rattle.table.specs.declared.State.{State};
+ghost use Rattle.table.specs.Entries.{shown};
 ghost use Rattle.table.specs.Meaning.{gateway_of};
 ghost use Rattle.table.specs.Soundness.{Sound};
 ghost use Rattle.table.specs.Shown.{SoundOf, PartsOf};
@@ -14,7 +15,7 @@ ghost use Rattle.requests.specs.Lists.{item_in};
 ghost use Rattle.requests.specs.Ends.{Ends};
 
 use crate::Outcome;
-use table::{Columns, entries};
+use table::{Shown, entries};
 use wire::msg;
 use wire::write::{put_byte, put_number, put_string};
 
@@ -39,11 +40,11 @@ fn put_item(
 }
 
 // All items, in list order.
-fn put_items(t: &Columns, store: &[u8], reply: &mut [u8], at: usize) -> usize
-    requires { SoundOf (PartsOf t.now) store.now × (at + items_room ≤ length reply.old) }
-    ensures { (result ≤ at + items_room) × ((s : State) → PartsOf t.now s → Sound s store.now → (result ≡ at + length (items (gateway_of s store.now).entries)) × (reply.new ≡ write reply.old at (items (gateway_of s store.now).entries))) }
+fn put_items(t: Shown<'_>, store: &[u8], reply: &mut [u8], at: usize) -> usize
+    requires { SoundOf (PartsOf (shown t)) store.now × (at + items_room ≤ length reply.old) }
+    ensures { (result ≤ at + items_room) × ((s : State) → PartsOf (shown t.entry) s → Sound s store.now → (result ≡ at + length (items (gateway_of s store.now).entries)) × (reply.new ≡ write reply.old at (items (gateway_of s store.now).entries))) }
 {
-    let count = entries::count(&t.numbers);
+    let count = entries::count(t.numbers);
     let mut place = at;
     let mut from = 0;
     for i in 0..count {
@@ -62,12 +63,12 @@ fn put_items(t: &Columns, store: &[u8], reply: &mut [u8], at: usize) -> usize
 }
 
 // The whole reply; its length.
-fn put_list(t: &Columns, store: &[u8], reply: &mut [u8]) -> usize
-    requires { SoundOf (PartsOf t.now) store.now × (reply_room ≤ length reply.old) }
-    ensures { (s : State) → PartsOf t.now s → Sound s store.now → (result ≡ length (listed (gateway_of s store.now).entries)) × (reply.new ≡ write reply.old 0 (listed (gateway_of s store.now).entries)) }
+fn put_list(t: Shown<'_>, store: &[u8], reply: &mut [u8]) -> usize
+    requires { SoundOf (PartsOf (shown t)) store.now × (reply_room ≤ length reply.old) }
+    ensures { (s : State) → PartsOf (shown t.entry) s → Sound s store.now → (result ≡ length (listed (gateway_of s store.now).entries)) × (reply.new ≡ write reply.old 0 (listed (gateway_of s store.now).entries)) }
 {
     let end = put_items(t, store, reply, 9);
-    let count = entries::count(&t.numbers);
+    let count = entries::count(t.numbers);
     let kind = put_number(reply, 0, (end - 4) as u32);
     let at = put_byte(reply, kind, msg::IDENTITIES_ANSWER);
     put_number(reply, at, count as u32);
@@ -75,9 +76,9 @@ fn put_list(t: &Columns, store: &[u8], reply: &mut [u8]) -> usize
 }
 
 // 11
-pub fn request_identities(t: &Columns, store: &[u8], reply: &mut [u8]) -> Outcome
-    requires { SoundOf (PartsOf t.now) store.now × (reply_room ≤ length reply.old) }
-    ensures { (s : State) → PartsOf t.now s → Sound s store.now → (a : rule.Answers) → Ends reply.old (record { outcome = result; state = s }) store.now reply.new (follow (lent a) (gateway_of s store.now) (listing (gateway_of s store.now))) }
+pub fn request_identities(t: Shown<'_>, store: &[u8], reply: &mut [u8]) -> Outcome
+    requires { SoundOf (PartsOf (shown t)) store.now × (reply_room ≤ length reply.old) }
+    ensures { (s : State) → PartsOf (shown t.entry) s → Sound s store.now → (a : rule.Answers) → Ends reply.old (record { outcome = result; state = s }) store.now reply.new (follow (lent a) (gateway_of s store.now) (listing (gateway_of s store.now))) }
 {
     let len = put_list(t, store, reply);
     Outcome::Reply { len }

@@ -9,6 +9,7 @@ ghost use Rattle.rule.specs.Gateway.{Entry as Key};
 ghost use Rattle.rule.specs.Rule.{hash_of, signature_reply, signing_data, confirming, signing};
 ghost use Rattle.rule.specs.Calls.{lent, for_number, lent_length, follow};
 ghost use Rattle.table.specs.declared.State.{State};
+ghost use Rattle.table.specs.Entries.{shown};
 ghost use Rattle.table.specs.Meaning.{is_set, gateway_of};
 ghost use Rattle.table.specs.Soundness.{Sound};
 ghost use Rattle.table.specs.Shown.{SoundOf, KeysOf};
@@ -18,7 +19,7 @@ ghost use Rattle.requests.specs.Ends.{Ends};
 use crate::replies::failure;
 use crate::{Asked, Confirmation, Outcome, Said, Signed};
 use rule::Hash;
-use table::{Columns, is_set};
+use table::{Shown, is_set};
 use wire::msg;
 use wire::read::{Cursor, Part, cut};
 use wire::write::{put_byte, put_number, put_string};
@@ -120,9 +121,9 @@ fn sign_with(number: u64, confirm: u8, asked: Asked<'_>, at: Cursor, reply: &mut
 }
 
 // 13
-pub fn try_sign(t: &Columns, store: &[u8], asked: Asked<'_>, reply: &mut [u8]) -> Outcome
-    requires { (reply_room ≤ length reply.old) × (lent_length (lent_of asked.answers asked.signature.now).signature ≤ signature_limit) × SoundOf (KeysOf t.now) store.now }
-    ensures { (s : State) → KeysOf t.now s → Sound s store.now → Ends reply.old (record { outcome = result; state = s }) store.now reply.new (follow (lent (lent_of asked.entry.answers asked.entry.signature.now)) (gateway_of s store.now) (signing (gateway_of s store.now) asked.entry.payload.now)) }
+pub fn try_sign(t: Shown<'_>, store: &[u8], asked: Asked<'_>, reply: &mut [u8]) -> Outcome
+    requires { (reply_room ≤ length reply.old) × (lent_length (lent_of asked.answers asked.signature.now).signature ≤ signature_limit) × SoundOf (KeysOf (shown t)) store.now }
+    ensures { (s : State) → KeysOf (shown t.entry) s → Sound s store.now → Ends reply.old (record { outcome = result; state = s }) store.now reply.new (follow (lent (lent_of asked.entry.answers asked.entry.signature.now)) (gateway_of s store.now) (signing (gateway_of s store.now) asked.entry.payload.now)) }
 {
     let start = Cursor { at: 1 };
     let Ok(Part { from, to, next }) = start.string(asked.payload) else {

@@ -157,8 +157,8 @@ pub fn is_sound(t: Shown<'_>, passphrase: &[u8], kept: Kept, store: &[u8]) -> bo
         && are_keys_sound(t, kept.clock, kept.next, store)
 }
 
-pub fn is_state_sound(state: State, store: &[u8]) -> bool
-    ensures { result ≡ sound_state state store.now }
+pub fn is_state_sound(state: &State, store: &[u8]) -> bool
+    ensures { result ≡ sound_state state.now store.now }
 {
     is_sound(state.columns.show(), &state.lock.bytes, state.kept(), store)
 }

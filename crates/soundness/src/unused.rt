@@ -24,12 +24,26 @@ pub fn is_unused_zero(t: Shown<'_>, n: usize) -> bool
     requires { (n ≤ entries_limit) × Long (shown t) }
     ensures { result ≡ zero_behind n (shown t.entry) }
 {
-    are_all(&t.numbers[n..], 0)
-        & are_all(&t.readings[n..], 0)
-        & are_all(&t.blob_lens[n..], 0)
-        & are_all(&t.fields_lens[n..], 0)
-        & are_all(&t.comment_lens[n..], 0)
-        & are_all(&t.seconds[n..], 0)
-        & is_zero(&t.limited[n..])
-        & is_zero(&t.confirm[n..])
+    if !are_all(&t.numbers[n..], 0) {
+        return false;
+    }
+    if !are_all(&t.readings[n..], 0) {
+        return false;
+    }
+    if !are_all(&t.blob_lens[n..], 0) {
+        return false;
+    }
+    if !are_all(&t.fields_lens[n..], 0) {
+        return false;
+    }
+    if !are_all(&t.comment_lens[n..], 0) {
+        return false;
+    }
+    if !are_all(&t.seconds[n..], 0) {
+        return false;
+    }
+    if !is_zero(&t.limited[n..]) {
+        return false;
+    }
+    is_zero(&t.confirm[n..])
 }

@@ -66,6 +66,17 @@ pub fn size_at(
     blob_lens[i] + (fields_lens[i] + comment_lens[i])
 }
 
+// Position i, if so many bytes fit beside the others'.
+fn fitting(i: usize, others: usize, size: usize) -> Option<usize>
+    requires { (others ≤ store_size) × (size ≤ store_size) }
+    ensures { result ≡ cond (leb (others + size) store_size) (Some i) None }
+{
+    if limits::STORE_SIZE < others + size {
+        return None;
+    }
+    Some(i)
+}
+
 impl Shown<'_> {
     // The figures at index i, in the number types that 01 keeps apart.
     pub fn figures_at(self, i: usize) -> Figures
@@ -104,52 +115,56 @@ impl Shown<'_> {
         }
         None
     }
-}
 
-// Position i, if so many bytes fit beside the others'.
-fn fitting(i: usize, others: usize, size: usize) -> Option<usize>
-    requires { (others ≤ store_size) × (size ≤ store_size) }
-    ensures { result ≡ cond (leb (others + size) store_size) (Some i) None }
-{
-    if limits::STORE_SIZE < others + size {
-        return None;
-    }
-    Some(i)
-}
-
-impl Columns {
     // The entry that has the blob.
-    pub fn find(&self, store: &[u8], blob: &[u8]) -> Option<usize>
-        requires { HousedIn self.now store.now }
-        ensures { (s : State) → PartsOf self.now s → result ≡ seek (holds blob.now) 0 (gateway_of s store.now).entries }
+    pub fn find(self, store: &[u8], blob: &[u8]) -> Option<usize>
+        requires { HousedIn (shown self) store.now }
+        ensures { (s : State) → PartsOf (shown self.entry) s → result ≡ seek (holds blob.now) 0 (gateway_of s store.now).entries }
     {
-        self.show().find_from(store, 0, 0, blob)
+        self.find_from(store, 0, 0, blob)
     }
 
     // The place for a key with this blob, whose blob, fields and comment are of this size: that of the entry that has the blob, else behind the last one; if
     // there is room.
-    pub fn place_for(&self, store: &[u8], blob: &[u8], size: usize) -> Option<usize>
-        requires { SoundOf (PartsOf self.now) store.now × (size ≤ store_size) × (length blob.now ≤ size) }
-        ensures { (s : State) (e : Key) → PartsOf self.now s → Sound s store.now → e.blob ≡ blob.now → lengths_of e ≡ size → result ≡ place_for e (gateway_of s store.now).entries }
+    pub fn place_for(self, store: &[u8], blob: &[u8], size: usize) -> Option<usize>
+        requires { SoundOf (PartsOf (shown self)) store.now × (size ≤ store_size) × (length blob.now ≤ size) }
+        ensures { (s : State) (e : Key) → PartsOf (shown self.entry) s → Sound s store.now → e.blob ≡ blob.now → lengths_of e ≡ size → result ≡ place_for e (gateway_of s store.now).entries }
     {
         let end = start_of(
-            &self.blob_lens,
-            &self.fields_lens,
-            &self.comment_lens,
+            self.blob_lens,
+            self.fields_lens,
+            self.comment_lens,
             limits::ENTRIES_LIMIT,
         );
         match self.find(store, blob) {
             Some(i) => {
-                let own = size_at(&self.blob_lens, &self.fields_lens, &self.comment_lens, i);
+                let own = size_at(self.blob_lens, self.fields_lens, self.comment_lens, i);
                 fitting(i, end - own, size)
             }
             None => {
-                let n = count(&self.numbers);
+                let n = count(self.numbers);
                 if n == limits::ENTRIES_LIMIT {
                     return None;
                 }
                 fitting(n, end, size)
             }
         }
+    }
+}
+
+// The two searches of a state's own columns.
+impl Columns {
+    pub fn find(&self, store: &[u8], blob: &[u8]) -> Option<usize>
+        requires { HousedIn self.now store.now }
+        ensures { (s : State) → PartsOf self.now s → result ≡ seek (holds blob.now) 0 (gateway_of s store.now).entries }
+    {
+        self.show().find(store, blob)
+    }
+
+    pub fn place_for(&self, store: &[u8], blob: &[u8], size: usize) -> Option<usize>
+        requires { SoundOf (PartsOf self.now) store.now × (size ≤ store_size) × (length blob.now ≤ size) }
+        ensures { (s : State) (e : Key) → PartsOf self.now s → Sound s store.now → e.blob ≡ blob.now → lengths_of e ≡ size → result ≡ place_for e (gateway_of s store.now).entries }
+    {
+        self.show().place_for(store, blob, size)
     }
 }

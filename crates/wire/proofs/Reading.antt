@@ -1,15 +1,18 @@
 -- Laws of the readers: when each case is the answer, and what it then says.
-use Prim.Native.Nat.{ℕ, ◌+◌, ◌-◌, ◌≤◌, ◌<◌}
+use Prim.Native.Nat.{ℕ, suc, ◌+◌, ◌-◌, ◌≤◌, ◌<◌}
 use mathlib.Core.Path.{◌≡◌, refl, sym, ap, ◌∙◌}
-use mathlib.Core.List.{List, []}
-use mathlib.Core.Bool.{true, false}
+use mathlib.Core.List.{List, [], ◌∷◌}
+use mathlib.Core.Bool.{Bool, true, false, ◌&&◌, and-false}
 use mathlib.Core.Logic.{◌⊎◌, inl, inr, ⊎_elim}
 use native.Mathlib.Nat.{lt_of_not-le}
 use native.Mathlib.Decide.{dec_le}
 use native.Mathlib.Omega.{arith}
-use borrow.Author.Tests.{le-leb, lt-leb, lt-ltb, le-ltb}
+use native.Mathlib.Numerals.{add-one}
+use borrow.Author.Tests.{le-leb, lt-leb, lt-ltb, le-ltb, eq-eqb, ne_eqb}
 use denote.Ref.{Bor}
-use lib.ListN.{length, get_or, take, drop, get_or-eq_default}
+use lib.Dec.{eqb}
+use lib.ListN.{length, get_or, take, drop, drop_of_length-le, get_or-eq_default}
+use lib.Seq.{drop-cons}
 use Rattle.std.proofs.lemmas.Slice.Eq.{bytes_eq-Decides}
 use Rattle.std.proofs.Common.{Result, Err}
 use Rattle.wire.specs.declared.read.Cursor.{Cursor}
@@ -181,6 +184,36 @@ module _ (v : List ℕ) where
   mpint-single h k = let e : get_or v 0 0 ≡ 0 = omega arith in rw (e, past v 1 (omega arith))
 
 -- ## Comparison
+
+pub same-long : (a b : List ℕ) → (length a ≡ length b → ⊥) → false ≡ same a b
+unfolding same
+same-long [] [] h = absurd (h refl)
+same-long [] (y ∷ ys) h = refl
+same-long (x ∷ xs) [] h = refl
+same-long (x ∷ xs) (y ∷ ys) h = rw (← same-long xs ys (λ e. h (ap suc e))) (sym (and-false (eqb x y)))
+
+-- what is left of two lists from i on is the same
+unfoldable pub same_from : ℕ → List ℕ → List ℕ → Bool
+same_from i a b = same (drop i a) (drop i b)
+
+pub same-all : (a b : List ℕ) → same_from 0 a b ≡ same a b
+unfolding same_from
+same-all a b = refl
+
+module _ (i : ℕ) (a b : List ℕ) (r : Bool) (e : same_from i a b ≡ r) where
+  same-cons : i < length a → i < length b → same_from i a b ≡ (eqb (get_or a i 0) (get_or b i 0) && same_from (suc i) a b)
+  unfolding same_from same
+  same-cons ha hb = rw (drop-cons a i 0 ha, drop-cons b i 0 hb)
+
+  pub same_step : i < length a → i < length b → get_or a i 0 ≡ get_or b i 0 → same_from (i + 1) a b ≡ r
+  same_step ha hb q = rw (← e, add-one, same-cons ha hb, eq-eqb _ _ q)
+
+  pub same_stop : i < length a → i < length b → (get_or a i 0 ≡ get_or b i 0 → ⊥) → false ≡ r
+  same_stop ha hb q = rw (← e, same-cons ha hb, ne_eqb _ _ q)
+
+  pub same_end : length a ≤ i → length b ≤ i → true ≡ r
+  unfolding same_from same
+  same_end ha hb = rw (← e, drop_of_length-le a ha, drop_of_length-le b hb)
 
 pub same_true : (a b : List ℕ) → same a b ≡ true → a ≡ b
 unfolding same

@@ -1,9 +1,10 @@
 -- The row is the rule's, and the function of each row ends as its plan does, of the state whose columns are lent. Assumes nothing.
 use native.Mathlib.Omega.{arith}
-use mathlib.Core.Path.{refl, ◌∙◌}
+use mathlib.Core.Path.{refl, sym, subst, ◌∙◌}
+use Rattle.table.specs.declared.Columns.{Columns}
 use Rattle.table.specs.declared.State.{State}
 use Rattle.table.specs.Meaning.{held}
-use Rattle.table.specs.Shown.{ShowsParts}
+use Rattle.table.specs.Shown.{SoundOf, ShowsParts, PartsOf, KeysOf}
 use Rattle.table.proofs.ReadLaws.{state_locked}
 use Rattle.requests.proofs.EndSteps.{answering, means_itself}
 use Rattle.server.proofs.RowSteps.{check_lent, served-row, served-asks}
@@ -21,7 +22,9 @@ its_own : {s : State} → ShowsParts s.columns.numbers s.columns.blob_lens s.col
 its_own = record { numbers_are = refl; blobs_are = refl; fields_are = refl; comments_are = refl }
 
 pub request_identities-requires : goal.request_identities-requires
-request_identities-requires c = (record { state = lent-state (goal.at.request_identities-requires c).Start; shows = its_own; sound = c.requires.2 }, c.requires.0)
+request_identities-requires c =
+    let lent : SoundOf (PartsOf c.args.t.now) c.args.store.now = record { state = lent-state (goal.at.request_identities-requires c).Start; shows = its_own; sound = c.requires.2 } in
+    (subst (λ (t : Columns). SoundOf (PartsOf t) c.args.store.now) (sym c.show.ensures) lent, c.requires.0)
 
 pub add_key-requires : goal.add_key-requires
 add_key-requires c = (omega (arith, c.requires.0), record { bytes = c.args.passphrase.now; sound = c.requires.2 })
@@ -35,7 +38,9 @@ remove_all_identities-requires c =
 
 pub try_sign-requires : goal.try_sign-requires
 try_sign-requires c =
-    (c.requires.0, c.requires.1, record { state = lent-state (goal.at.try_sign-requires c).Start; shows = record { parts = its_own; confirm_is = refl }; sound = c.requires.2 })
+    let lent : SoundOf (KeysOf c.args.t.now) c.args.store.now
+    = record { state = lent-state (goal.at.try_sign-requires c).Start; shows = record { parts = its_own; confirm_is = refl }; sound = c.requires.2 } in
+    (c.requires.0, c.requires.1, subst (λ (t : Columns). SoundOf (KeysOf t) c.args.store.now) (sym c.show-in-Sign.ensures) lent)
 
 pub lock-requires : goal.lock-requires
 lock-requires c =
@@ -62,7 +67,7 @@ pub returns-in-List : goal.returns-in-List
 returns-in-List c =
     let s = lent-state (goal.at.returns-in-List c).Start in
     served-row s _ _ _ _ _ _ _ _ _ _ (c.is_locked-locked.ensures ∙ state_locked s _ c.requires.2) c.row_in.ensures _ c.in-List.is
-    (c.request_identities.ensures s its_own c.requires.2 _)
+    (c.request_identities.ensures s (subst (λ (t : Columns). PartsOf t s) (sym c.show.ensures) its_own) c.requires.2 _)
 
 pub returns-in-Add : goal.returns-in-Add
 returns-in-Add c =
@@ -86,7 +91,7 @@ pub returns-in-Sign : goal.returns-in-Sign
 returns-in-Sign c =
     let s = lent-state (goal.at.returns-in-Sign c).Start in
     served-row s _ _ _ _ _ _ _ _ _ _ (c.is_locked-locked.ensures ∙ state_locked s _ c.requires.2) c.row_in.ensures _ c.in-Sign.is
-    (c.try_sign.ensures s (record { parts = its_own; confirm_is = refl }) c.requires.2)
+    (c.try_sign.ensures s (subst (λ (t : Columns). KeysOf t s) (sym c.show-in-Sign.ensures) (record { parts = its_own; confirm_is = refl })) c.requires.2)
 
 pub returns-in-Lock : goal.returns-in-Lock
 returns-in-Lock c =

@@ -12,35 +12,35 @@ pub start_of-at-requires : goal.start_of-at-requires
 start_of-at-requires c =
     let a = c.args in
     let p = c.requires in
-    let within = start-within a.t.now.blob_lens a.t.now.fields_lens a.t.now.comment_lens a.i p.inside in
+    let within = start-within a.t.blob_lens.now a.t.fields_lens.now a.t.comment_lens.now a.i p.inside in
     omega arith
 
 pub size_at-old-requires : goal.size_at-old-requires
 size_at-old-requires c =
     let a = c.args in
     let p = c.requires in
-    let within = start-within a.t.now.blob_lens a.t.now.fields_lens a.t.now.comment_lens a.i p.inside in
+    let within = start-within a.t.blob_lens.now a.t.fields_lens.now a.t.comment_lens.now a.i p.inside in
     omega arith
 
 pub overflow_add-new-2 : goal.overflow_add-new-2
 overflow_add-new-2 c =
     let a = c.args in
     let p = c.requires in
-    let within = start-within a.t.now.blob_lens a.t.now.fields_lens a.t.now.comment_lens a.i p.inside in
+    let within = start-within a.t.blob_lens.now a.t.fields_lens.now a.t.comment_lens.now a.i p.inside in
     omega arith
 
 pub resize-requires : goal.resize-requires
 resize-requires c =
     let a = c.args in
     let p = c.requires in
-    let within = start-within a.t.now.blob_lens a.t.now.fields_lens a.t.now.comment_lens a.i p.inside in
+    let within = start-within a.t.blob_lens.now a.t.fields_lens.now a.t.comment_lens.now a.i p.inside in
     (omega arith, omega arith, omega arith, rw c.start_of-end.ensures p.end)
 
 pub fill-requires : goal.fill-requires
 fill-requires c =
     let a = c.args in
     let p = c.requires in
-    let within = start-within a.t.now.blob_lens a.t.now.fields_lens a.t.now.comment_lens a.i p.inside in
+    let within = start-within a.t.blob_lens.now a.t.fields_lens.now a.t.comment_lens.now a.i p.inside in
     omega arith
 
 pub returns : goal.returns

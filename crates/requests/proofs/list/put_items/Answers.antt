@@ -13,7 +13,7 @@ use Rattle.requests.proofs.list.put_items.Goals as goal
 
 -- a turn is on an entry whose bytes lie in the store
 here : (c : In-loop-i)
-    → Entered c.args.t.now.numbers c.args.t.now.blob_lens c.args.t.now.fields_lens c.args.t.now.comment_lens c.args.store.now c.loop-i.i c.loop-i.from
+    → Entered c.args.t.numbers.now c.args.t.blob_lens.now c.args.t.fields_lens.now c.args.t.comment_lens.now c.args.store.now c.loop-i.i c.loop-i.from
 here c =
     let n = c.count-count.ensures in
     let more = c.loop-i-test.true in
@@ -22,7 +22,7 @@ here c =
 pub loop-i-init : goal.loop-i-init
 loop-i-init c =
     let n = c.count-count.ensures in
-    let within = count_within c.args.t.now.numbers in
+    let within = count_within c.args.t.numbers.now in
     let long = (list_fits c.requires.0).housed.long_numbers in
     ((omega arith, omega arith), sym (start_none _ _ _), λ s shows S. none_written _ _ _)
 
@@ -71,6 +71,6 @@ returns c =
     let ended = c.loop-i-test.false in
     let below = c.loop-i.invariant.0.0 in
     let inv = c.loop-i.invariant.2 in
-    let all : (s : State) → ShowsParts c.args.t.now.numbers c.args.t.now.blob_lens c.args.t.now.fields_lens c.args.t.now.comment_lens s → Sound s c.args.store.now → _
+    let all : (s : State) → ShowsParts c.args.t.numbers.now c.args.t.blob_lens.now c.args.t.fields_lens.now c.args.t.comment_lens.now s → Sound s c.args.store.now → _
     = λ s shows S. let many = shown_count s c.args.store.now shows in all-written _ (sound-meaning _ _ S) _ _ _ _ _ (inv s shows S) c.requires.1 (omega arith) (omega arith) in
     ((all w.state w.shows w.sound).2, λ s shows S. ((all s shows S).0, (all s shows S).1))

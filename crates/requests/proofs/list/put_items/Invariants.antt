@@ -11,5 +11,5 @@ use Rattle.requests.proofs.ListSteps.{ItemsWritten}
 use Rattle.requests.proofs.list.put_items.Given as goal
 
 abbrev pub invariant-loop-i : goal.invariant-loop-i
-invariant-loop-i l = ((l.i ≤ l.count) × (l.count ≤ entries_limit)) × (l.from ≡ start_in l.t.blob_lens l.t.fields_lens l.t.comment_lens l.i)
-    × ((s : State) → ShowsParts l.t.numbers l.t.blob_lens l.t.fields_lens l.t.comment_lens s → Sound s l.store → ItemsWritten (gateway_of s l.store).entries l.at l.initial.reply l.i l.place l.reply)
+invariant-loop-i l = ((l.i ≤ l.count) × (l.count ≤ entries_limit)) × (l.from ≡ start_in l.t.blob_lens.now l.t.fields_lens.now l.t.comment_lens.now l.i)
+    × ((s : State) → ShowsParts l.t.numbers.now l.t.blob_lens.now l.t.fields_lens.now l.t.comment_lens.now s → Sound s l.store → ItemsWritten (gateway_of s l.store).entries l.at l.initial.reply l.i l.place l.reply)

@@ -16,7 +16,7 @@ overflow_sub-end c =
 pub overflow_cast-count : goal.overflow_cast-count
 overflow_cast-count c =
     let n = c.count-count.ensures in
-    let within = count_within c.args.t.now.numbers in
+    let within = count_within c.args.t.numbers.now in
     let long = (list_fits c.requires.0).housed.long_numbers in
     record { fits = omega arith }
 

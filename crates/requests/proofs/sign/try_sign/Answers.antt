@@ -7,7 +7,7 @@ use Rattle.requests.proofs.sign.try_sign.Goals.{In-Some}
 use Rattle.requests.proofs.sign.try_sign.Goals as goal
 
 -- number and flag at the position that was c are there
-inside : (c : In-Some) → Inside c.args.t.now.numbers c.args.t.now.confirm c.in-Some.i
+inside : (c : In-Some) → Inside c.args.t.numbers.now c.args.t.confirm.now c.in-Some.i
 inside c =
     let keys = c.requires.2 in
     keys_inside _ _ _ _ _ _ keys _ (place-within keys.state _ _ _ _ c.in-Some.is (c.find.ensures keys.state keys.shows.parts))

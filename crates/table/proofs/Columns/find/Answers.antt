@@ -1,14 +1,12 @@
--- From the first entry on, whose bytes begin at 0. Assumes nothing.
-use native.Mathlib.Omega.{arith}
+-- The search of what is shown, which are these columns. Assumes nothing.
 use mathlib.Core.Path.{sym, subst}
 use Rattle.table.specs.declared.Columns.{Columns}
 use Rattle.table.specs.Soundness.{HousedIn}
 use Rattle.table.specs.Shown.{PartsOf}
-use Rattle.table.proofs.EntryLaws.{start_none}
 use Rattle.table.proofs.Columns.find.Goals as goal
 
-pub find_from-requires : goal.find_from-requires
-find_from-requires c = (subst (λ (t : Columns). HousedIn t c.args.store.now) (sym c.show.ensures) c.requires, omega arith, sym (start_none _ _ _))
+pub find-requires : goal.find-requires
+find-requires c = subst (λ (t : Columns). HousedIn t c.args.store.now) (sym c.show.ensures) c.requires
 
 pub returns : goal.returns
-returns c s shows = c.find_from.ensures s (subst (λ (t : Columns). PartsOf t s) (sym c.show.ensures) shows)
+returns c s shows = c.find.ensures s (subst (λ (t : Columns). PartsOf t s) (sym c.show.ensures) shows)
